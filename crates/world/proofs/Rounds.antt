@@ -1,10 +1,12 @@
 -- A device that is served round by round, each in a phase of its own.
-use Rattle.std.proofs.Common.{◌≡◌, ℕ, suc, ◌+◌, Bool, true, false, List, [], ◌∷◌, ◌++◌, length, map, Option, Some, None, Result, Ok, Err, refl, sym, ap, ◌∙◌, subst, inl, inr, arith}
+use Rattle.std.proofs.Common.{◌≡◌, ℕ, suc, ◌+◌, Bool, true, false, List, [], ◌∷◌, ◌++◌, append_assoc, append-nil, length, map, Option, Some, None, Result, Ok, Err, refl, sym, ap, ◌∙◌, subst, inl, inr, arith}
 use Rattle.std.specs.List.{sum_by}
 use Rattle.std.proofs.lemmas.List.Sums.{sum_by-cons}
 use Rattle.foundation.specs.declared.NoMemory.{NoMemory}
+use Rattle.guest_mem.specs.Stores.{Store}
+use Rattle.ring_core.specs.Writes.{Write}
 use Rattle.device_model.specs.World.{PlainWorld}
-use Rattle.device_model.specs.Transitions.{Transition, event_of}
+use Rattle.device_model.specs.Transitions.{Transition, event_of, action_of}
 use Rattle.device_model.specs.After.{after}
 use Rattle.device_model.specs.Happens.{Happens, Occurrence, Reached, world_of}
 use Rattle.device_model.specs.Turns.{count_changes}
@@ -14,17 +16,18 @@ use Rattle.device_model.specs.Live.{Turn, with_memory, live_world, occurrence_at
 use Rattle.device_model.proofs.Choosing.{next_or_quiet_of}
 use Rattle.device_model.proofs.Runs.{settles_of_to_rest}
 use Rattle.device_steps.specs.Settling.{order_for, ServesBy, MayWantFirst}
-use Rattle.device_steps.specs.Apart.{PlainDevice, standing}
+use Rattle.device_steps.specs.Apart.{PlainDevice, standing, Stored}
 use Rattle.device_steps.specs.Sound.{IsReached, IsSteady}
-use Rattle.world.specs.LiveWorld.{PlainLive, IsSteadyIn}
-use Rattle.device_steps.specs.Serving.{ServesInPhase}
-use Rattle.world.specs.LiveServing.{ServesLiveBy, HasNone, HasNext, Looks, event_at, GoesOnServedLive}
+use Rattle.world.specs.LiveWorld.{PlainLive, IsSteadyIn, writes_along}
+use Rattle.device_steps.specs.Serving.{ServesInPhase, writes_by}
+use Rattle.world.specs.LiveServing.{ServesLiveBy, HasNone, HasNext, Looks, event_at, GoesOnServedLive, StoresServed}
 use Rattle.device_steps.specs.Inner.Cursors.{Denies, NoneBefore, TurnsNextIn}
 use Rattle.world.specs.Inner.Rounds.{TurnsRound, LeavesBy, SettledLive, SettlesNext}
 use Rattle.device_steps.specs.declared.cursor.Cursor.{Cursor}
 use Rattle.device_steps.specs.declared.cursor.Progress.{Progress}
 use Rattle.world.proofs.AnyChain.{next_live}
 use Rattle.device_steps.proofs.EachTurn.{device_of}
+use Rattle.device_steps.proofs.InMemory.{none_known, on_known, both_known}
 use Rattle.world.proofs.Lively.{AnyStand, AllLiveRuns, any_steady, seen_long}
 use Rattle.world.proofs.Promising.{AllArePromised, AllGoOn}
 use Rattle.device_steps.proofs.Keeping.{room_of}
@@ -35,18 +38,22 @@ use Rattle.world.proofs.Reaching.{rooms_along, whole_by_serving, fits_by}
 sum_is : (n later count : ℕ) → count ≡ 1 + later → (n + 1) + later ≡ n + count
 sum_is n later count e = omega (arith, e)
 
-module _ (asked : ℕ → Bool) (shared : Bool) (size : ℕ) (P : ℕ → PlainDevice → Type 0)
-    (step : (n k : ℕ) (found left : List ℕ) (v u : PlainDevice) → length found ≡ size → length left ≡ size → P n v
-    → ServesBy asked (standing shared found v) k (standing shared left u) → P (n + k) u) where
+module _ {X : Type 0} (asked : ℕ → Bool) (shared : Bool) (size : ℕ) (stored : X → X → List Write → Type 0)
+    (P : X → ℕ → PlainDevice → Type 0)
+    (step : (j l : X) (n k : ℕ) (found left : List ℕ) (v u : PlainDevice) → length found ≡ size → length left ≡ size → P j n v
+    → (serves : ServesBy asked (standing shared found v) k (standing shared left u))
+    → stored j l (writes_by serves.transitions) → P l (n + k) u) where
   -- what each part of a phase keeps, the phase keeps
-  pub phase_keeps : {X : Type 0} (may_be : X → List ℕ → Type 0) (x : X) (d : PlainDevice) (count : ℕ) (y : X) (d' : PlainDevice)
+  pub phase_keeps : (may_be : X → List ℕ → Type 0) (x : X) (d : PlainDevice) (count : ℕ) (y : X) (d' : PlainDevice)
       → ((m : List ℕ) → may_be x m → length m ≡ size) → ((m : List ℕ) → may_be y m → length m ≡ size)
-      → ((m : List ℕ) × may_be y m) → ServesInPhase shared may_be asked x d count y d' → (n : ℕ) → P n d → P (n + count) d'
+      → ((m : List ℕ) × may_be y m) → ServesInPhase shared may_be stored asked x d count y d' → (n : ℕ) → P x n d
+      → P y (n + count) d'
   phase_keeps may_be x d count y d' sized sized' some (inl p) n h =
       let (found, was, rest) = p.1 some.0 some.1 in
       let (left, is, did) = rest in
       let long : length left ≡ size = sym (seen_long shared left some.0 is) ∙ sized' some.0 some.1 in
-      subst (λ k. P (n + k) d') (sym p.0) (step n 1 found left d d' (sized found was) long h did.serves)
+      subst (λ k. P y (n + k) d') (sym p.0)
+      (step x y n 1 found left d d' (sized found was) long h did.serves did.stores)
   phase_keeps may_be x d count y d' sized sized' some (inr p) n h =
       let (found, was, rest) = p.follows some.0 some.1 in
       let (left, is, did) = rest in
@@ -55,9 +62,9 @@ module _ (asked : ℕ → Bool) (shared : Bool) (size : ℕ) (P : ℕ → PlainD
       let (first, stood, then) = p.takes found was in
       let (between, so, took) = then in
       let size_between : length between ≡ size = sym (seen_long shared between found so) ∙ size_found in
-      let one = step n 1 first between d p.taken (sized first stood) size_between h took.serves in
-      let all = step (n + 1) p.later found left p.taken d' size_found long one did.serves in
-      subst (λ k. P k d') (sum_is n p.later count p.counted) all
+      let one = step x p.read n 1 first between d p.taken (sized first stood) size_between h took.serves took.stores in
+      let all = step p.read y (n + 1) p.later found left p.taken d' size_found long one did.serves did.stores in
+      subst (λ k. P y k d') (sum_is n p.later count p.counted) all
 
 -- Steadiness
 
@@ -75,31 +82,33 @@ steady_more any asked shared size k found left v u lf ll h serves =
     λ m lm. any_steady any shared left m u (lm ∙ sym ll) steady
 
 -- a phase leaves the device steady, whatever stands in memory
-pub steady_phase : AnyStand → (asked : ℕ → Bool) (shared : Bool) (size : ℕ) {X : Type 0} (may_be : X → List ℕ → Type 0) (x : X)
-    (d : PlainDevice) (count : ℕ) (y : X) (d' : PlainDevice) → ((m : List ℕ) → may_be x m → length m ≡ size)
+pub steady_phase : AnyStand → (asked : ℕ → Bool) (shared : Bool) (size : ℕ) {X : Type 0} (may_be : X → List ℕ → Type 0)
+    (stored : X → X → List Write → Type 0) (x : X) (d : PlainDevice) (count : ℕ) (y : X) (d' : PlainDevice) → ((m : List ℕ) → may_be x m → length m ≡ size)
     → ((m : List ℕ) → may_be y m → length m ≡ size) → ((m : List ℕ) × may_be y m)
-    → ServesInPhase shared may_be asked x d count y d' → IsSteadyIn shared size d → IsSteadyIn shared size d'
-steady_phase any asked shared size may_be x d count y d' sized sized' some served h =
-    phase_keeps asked shared size (λ n v. IsSteadyIn shared size v)
-    (λ n k found left v u lf ll s serves. steady_more any asked shared size k found left v u lf ll s serves) may_be x d count y
-    d' sized sized' some served 0 h
+    → ServesInPhase shared may_be stored asked x d count y d' → IsSteadyIn shared size d → IsSteadyIn shared size d'
+steady_phase any asked shared size may_be stored x d count y d' sized sized' some served h =
+    phase_keeps asked shared size stored (λ j n v. IsSteadyIn shared size v)
+    (λ j l n k found left v u lf ll s serves made. steady_more any asked shared size k found left v u lf ll s serves) may_be x d
+    count y d' sized sized' some served 0 h
 
 -- Settling
 
--- so many events were done, each next, and this is the device then with its memory
-record SettledAt (asked : ℕ → Bool) (w : PlainWorld) (count : ℕ) (x : PlainWorld) : Type 0 where
+-- so many events were done, each next, which made these writes, and this is the device then with its memory
+record SettledAt (asked : ℕ → Bool) (w : PlainWorld) (count : ℕ) (ws : List Write) (x : PlainWorld) : Type 0 where
   turns : List Turn
   settles : LiveSettlesOf asked w turns
   is : live_world w turns ≡ x
   counted : length turns ≡ count
+  wrote : writes_along (map occurrence_at turns) ≡ ws
 
 one_more : (n k : ℕ) → n ≡ k → suc n ≡ k + 1
 one_more n k e = omega (arith, e)
 
-settle_one : (asked : ℕ → Bool) (w : PlainWorld) (n : ℕ) (x : PlainWorld) (found : List ℕ) (t : Transition)
-    → SettledAt asked w n x → length found ≡ length x.memory → Happens t (with_memory found x)
-    → IsNextOf asked (with_memory found x) (event_of t) → SettledAt asked w (n + 1) (after t (with_memory found x))
-settle_one asked w n x found t s long happens next =
+settle_one : (asked : ℕ → Bool) (w : PlainWorld) (n : ℕ) (ws : List Write) (x : PlainWorld) (found : List ℕ) (t : Transition)
+    → SettledAt asked w n ws x → length found ≡ length x.memory → Happens t (with_memory found x)
+    → IsNextOf asked (with_memory found x) (event_of t)
+    → SettledAt asked w (n + 1) (ws ++ (action_of t).writes) (after t (with_memory found x))
+settle_one asked w n ws x found t s long happens next =
     let back = sym s.is in
     record {
       turns = record { found = found; transition = t } ∷ s.turns;
@@ -112,36 +121,49 @@ settle_one asked w n x found t s long happens next =
       );
       is = ap (λ (z : PlainWorld). after t (with_memory found z)) s.is;
       counted = one_more (length s.turns) n s.counted;
+      wrote = ap (λ (us : List Write). us ++ (action_of t).writes) s.wrote;
     }
 
 add_one : (n k : ℕ) → (n + suc k) + 1 ≡ n + suc (suc k)
 add_one n k = omega arith
 
 -- the events that were done on what was found
-settle_all : (asked : ℕ → Bool) (w : PlainWorld) (n : ℕ) (x : PlainWorld) (found : List ℕ) (t : Transition)
-    (past : List Transition) → SettledAt asked w n x → length found ≡ length x.memory
+settle_all : (asked : ℕ → Bool) (w : PlainWorld) (n : ℕ) (ws : List Write) (x : PlainWorld) (found : List ℕ) (t : Transition)
+    (past : List Transition) → SettledAt asked w n ws x → length found ≡ length x.memory
     → SettlesOf asked (with_memory found x) (t ∷ past)
-    → SettledAt asked w (n + suc (length past)) (world_of (with_memory found x) (t ∷ past))
-settle_all asked w n x found t [] s long h = settle_one asked w n x found t s long h.1 h.2
-settle_all asked w n x found t (p ∷ past) s long h =
+    → SettledAt asked w (n + suc (length past)) (ws ++ writes_by (t ∷ past)) (world_of (with_memory found x) (t ∷ past))
+settle_all asked w n ws x found t [] s long h = settle_one asked w n ws x found t s long h.1 h.2
+settle_all asked w n ws x found t (p ∷ past) s long h =
     let y = world_of (with_memory found x) (p ∷ past) in
-    let before = settle_all asked w n x found p past s long h.0 in
-    subst (λ k. SettledAt asked w k (after t y)) (add_one n (length past))
-    (settle_one asked w (n + suc (length past)) y y.memory t before refl h.1 h.2)
+    let us = writes_by (p ∷ past) in
+    let before = settle_all asked w n ws x found p past s long h.0 in
+    subst (λ vs. SettledAt asked w (n + suc (suc (length past))) vs (after t y)) (append_assoc ws us (action_of t).writes)
+    (subst (λ k. SettledAt asked w k ((ws ++ us) ++ (action_of t).writes) (after t y)) (add_one n (length past))
+    (settle_one asked w (n + suc (length past)) (ws ++ us) y y.memory t before refl h.1 h.2))
 
-settle_by : (asked : ℕ → Bool) (shared : Bool) (size : ℕ) (w : PlainWorld) (n k : ℕ) (found left : List ℕ) (v u : PlainDevice)
-    → length found ≡ size → length left ≡ size → SettledLive asked shared size w n v → (ts : List Transition)
+settle_by : (P Q R : List Write → Type 0) (both : (us ws : List Write) → P us → Q ws → R (us ++ ws)) (asked : ℕ → Bool)
+    (shared : Bool) (size : ℕ) (w : PlainWorld) (n k : ℕ) (found left : List ℕ) (v u : PlainDevice)
+    → length found ≡ size → length left ≡ size → SettledLive asked P shared size w n v → (ts : List Transition)
     → SettlesOf asked (standing shared found v) ts → standing shared left u ≡ world_of (standing shared found v) ts
-    → length ts ≡ k → SettledLive asked shared size w (n + k) u
-settle_by asked shared size w n k found left v u lf ll s [] h is many =
+    → length ts ≡ k → Q (writes_by ts) → SettledLive asked R shared size w (n + k) u
+settle_by P Q R both asked shared size w n k found left v u lf ll s [] h is many made =
     let same : u ≡ v = ap device_of is in
     let none : n ≡ n + k = omega (arith, many) in
-    subst (λ z. SettledLive asked shared size w (n + k) z) (sym same)
-    (subst (λ j. SettledLive asked shared size w j v) none s)
-settle_by asked shared size w n k found left v u lf ll s (t ∷ past) h is many =
-    let at : SettledAt asked w n (standing shared s.stood v) =
-    record { turns = s.turns; settles = s.settles; is = s.is; counted = s.counted } in
-    let all = settle_all asked w n (standing shared s.stood v) found t past at (lf ∙ sym s.long) h in
+    let us = writes_along (map occurrence_at s.turns) in
+    record {
+      turns = s.turns;
+      settles = s.settles;
+      stood = s.stood;
+      long = s.long;
+      is = s.is ∙ ap (λ (z : PlainDevice). standing shared s.stood z) (sym same);
+      counted = s.counted ∙ none;
+      stores = subst R (append-nil us) (both us [] s.stores made);
+    }
+settle_by P Q R both asked shared size w n k found left v u lf ll s (t ∷ past) h is many made =
+    let us = writes_along (map occurrence_at s.turns) in
+    let at : SettledAt asked w n us (standing shared s.stood v) =
+    record { turns = s.turns; settles = s.settles; is = s.is; counted = s.counted; wrote = refl } in
+    let all = settle_all asked w n us (standing shared s.stood v) found t past at (lf ∙ sym s.long) h in
     record {
       turns = all.turns;
       settles = all.settles;
@@ -149,44 +171,73 @@ settle_by asked shared size w n k found left v u lf ll s (t ∷ past) h is many 
       long = ll;
       is = all.is ∙ sym is;
       counted = all.counted ∙ ap (λ j. n + j) many;
+      stores = subst R (sym all.wrote) (both us (writes_by (t ∷ past)) s.stores made);
     }
 
 -- a phase goes on
-pub settle_phase : (asked : ℕ → Bool) (shared : Bool) (size : ℕ) {X : Type 0} (may_be : X → List ℕ → Type 0) (x : X)
-    (d : PlainDevice) (count : ℕ) (y : X) (d' : PlainDevice) → ((m : List ℕ) → may_be x m → length m ≡ size)
-    → ((m : List ℕ) → may_be y m → length m ≡ size) → ((m : List ℕ) × may_be y m)
-    → ServesInPhase shared may_be asked x d count y d' → (w : PlainWorld) (n : ℕ) → SettledLive asked shared size w n d
-    → SettledLive asked shared size w (n + count) d'
-settle_phase asked shared size may_be x d count y d' sized sized' some served w n s =
-    phase_keeps asked shared size (λ j v. SettledLive asked shared size w j v)
-    (λ j k found left v u lf ll h serves.
-    settle_by asked shared size w j k found left v u lf ll h serves.transitions serves.settles serves.is serves.counted)
-    may_be x d count y d' sized sized' some served n s
+pub settle_phase : {X S : Type 0} (known : X → S) (storing : S → List Store → S)
+    (both : (s : S) (a b : List Store) → storing (storing s a) b ≡ storing s (a ++ b)) (asked : ℕ → Bool) (shared : Bool)
+    (size : ℕ) (may_be : X → List ℕ → Type 0) (first x : X) (d : PlainDevice) (count : ℕ) (y : X) (d' : PlainDevice)
+    → ((m : List ℕ) → may_be x m → length m ≡ size) → ((m : List ℕ) → may_be y m → length m ≡ size)
+    → ((m : List ℕ) × may_be y m) → ServesInPhase shared may_be (Stored known storing) asked x d count y d'
+    → (w : PlainWorld) (n : ℕ) → SettledLive asked (Stored known storing first x) shared size w n d
+    → SettledLive asked (Stored known storing first y) shared size w (n + count) d'
+settle_phase known storing both asked shared size may_be first x d count y d' sized sized' some served w n s =
+    phase_keeps asked shared size (Stored known storing)
+    (λ j k v. SettledLive asked (Stored known storing first j) shared size w k v)
+    (λ j l i k found left v u lf ll h serves made.
+    settle_by (Stored known storing first j) (Stored known storing j l) (Stored known storing first l)
+    (λ us ws p q. both_known known storing both first j l us ws p q) asked shared size w i k found left v u lf ll h
+    serves.transitions serves.settles serves.is serves.counted made) may_be x d count y d' sized sized' some served n s
 
 -- nothing was done yet
-pub settled_none : (asked : ℕ → Bool) (shared : Bool) (size : ℕ) (a : List ℕ) (d : PlainDevice) → length a ≡ size
-    → SettledLive asked shared size (standing shared a d) 0 d
-settled_none asked shared size a d long =
-    record { turns = []; settles = tt; stood = a; long = long; is = refl; counted = refl }
+pub settled_none : (asked : ℕ → Bool) (stored : List Write → Type 0) (shared : Bool) (size : ℕ) (a : List ℕ) (d : PlainDevice)
+    → stored [] → length a ≡ size → SettledLive asked stored shared size (standing shared a d) 0 d
+settled_none asked stored shared size a d nothing long =
+    record { turns = []; settles = tt; stood = a; long = long; is = refl; counted = refl; stores = nothing }
+
+-- what follows of what was stored
+settled_maps : (asked : ℕ → Bool) (P Q : List Write → Type 0) (shared : Bool) (size : ℕ) (w : PlainWorld) (n : ℕ)
+    (d d' : PlainDevice) → d' ≡ d → ((ws : List Write) → P ws → Q ws) → SettledLive asked P shared size w n d
+    → SettledLive asked Q shared size w n d'
+settled_maps asked P Q shared size w n d d' same follows s =
+    record {
+      turns = s.turns;
+      settles = s.settles;
+      stood = s.stood;
+      long = s.long;
+      is = s.is ∙ ap (λ (z : PlainDevice). standing shared s.stood z) (sym same);
+      counted = s.counted;
+      stores = follows (writes_along (map occurrence_at s.turns)) s.stores;
+    }
+
+-- where a look stored nothing, the same was stored
+pub settled_look : {X S : Type 0} (known : X → S) (storing : S → List Store → S) (none : (s : S) → storing s [] ≡ s)
+    (asked : ℕ → Bool) (shared : Bool) (size : ℕ) (w : PlainWorld) (n : ℕ) (d d' : PlainDevice) (x z y : X) → d' ≡ d
+    → Stored known storing z y [] → SettledLive asked (Stored known storing x z) shared size w n d
+    → SettledLive asked (Stored known storing x y) shared size w n d'
+settled_look known storing none asked shared size w n d d' x z y same still s =
+    settled_maps asked (Stored known storing x z) (Stored known storing x y) shared size w n d d' same
+    (λ ws h. still ∙ none (known z) ∙ h) s
 
 -- Rounds
 
-pub rounds_none : {X : Type 0} (shared : Bool) (begins : X → X → Type 0) (may_be : X → List ℕ → Type 0) (asked : ℕ → Bool)
-    (x : PlainLive X) → ServesLiveBy shared begins may_be asked x 0 x
-rounds_none shared begins may_be asked x = record { counts = []; rounds = refl; counted = refl }
+pub rounds_none : {X : Type 0} (shared : Bool) (begins : X → X → Type 0) (may_be : X → List ℕ → Type 0)
+    (stored : X → X → List Write → Type 0) (asked : ℕ → Bool) (x : PlainLive X) → ServesLiveBy shared begins may_be stored asked x 0 x
+rounds_none shared begins may_be stored asked x = record { counts = []; rounds = refl; counted = refl }
 
 counts_more : (k n : ℕ) (counts : List ℕ) → sum_by (λ (j : ℕ). j) counts ≡ n
     → sum_by (λ (j : ℕ). j) (k ∷ counts) ≡ n + k
 counts_more k n counts e = omega (arith, sum_by-cons (λ (j : ℕ). j) k counts, e)
 
-pub rounds_next : {X : Type 0} (shared : Bool) (begins : X → X → Type 0) (may_be : X → List ℕ → Type 0) (asked : ℕ → Bool)
-    (x z : PlainLive X) (n k : ℕ) (begun : X) (y : PlainLive X) → ServesLiveBy shared begins may_be asked x n z
-    → begins z.memory begun → ServesInPhase shared may_be asked begun z.device k y.memory y.device
-    → ServesLiveBy shared begins may_be asked x (n + k) y
-rounds_next shared begins may_be asked x z n k begun y h b served =
+pub rounds_next : {X : Type 0} (shared : Bool) (begins : X → X → Type 0) (may_be : X → List ℕ → Type 0)
+    (stored : X → X → List Write → Type 0) (asked : ℕ → Bool) (x z : PlainLive X) (n k : ℕ) (begun : X) (y : PlainLive X) → ServesLiveBy shared begins may_be stored asked x n z
+    → begins z.memory begun → stored z.memory begun [] → ServesInPhase shared may_be stored asked begun z.device k y.memory y.device
+    → ServesLiveBy shared begins may_be stored asked x (n + k) y
+rounds_next shared begins may_be stored asked x z n k begun y h b none served =
     record {
       counts = k ∷ h.counts;
-      rounds = (z, begun, h.rounds, b, served);
+      rounds = (z, begun, h.rounds, b, none, served);
       counted = counts_more k n h.counts h.counted;
     }
 
@@ -208,17 +259,17 @@ leaves_by asked false w r h = none_at asked w r h
 
 -- so of a look
 
-pub looks_next : {X : Type 0} (shared : Bool) (begins : X → X → Type 0) (may_be : X → List ℕ → Type 0) (asked : ℕ → Bool)
-    (b : Bool) (x y : PlainLive X) → b ≡ true → Looks shared begins may_be (LeavesBy asked b) x y
-    → Looks shared begins may_be (HasNext asked) x y
-looks_next shared begins may_be asked true x y on h = h
-looks_next shared begins may_be asked false x y on h = absurd (cc)
+pub looks_next : {X : Type 0} (shared : Bool) (begins : X → X → Type 0) (may_be : X → List ℕ → Type 0)
+    (stored : X → X → List Write → Type 0) (asked : ℕ → Bool) (b : Bool) (x y : PlainLive X) → b ≡ true → Looks shared begins may_be stored (LeavesBy asked b) x y
+    → Looks shared begins may_be stored (HasNext asked) x y
+looks_next shared begins may_be stored asked true x y on h = h
+looks_next shared begins may_be stored asked false x y on h = absurd (cc)
 
-pub looks_none : {X : Type 0} (shared : Bool) (begins : X → X → Type 0) (may_be : X → List ℕ → Type 0) (asked : ℕ → Bool)
-    (b : Bool) (x y : PlainLive X) → b ≡ false → Looks shared begins may_be (LeavesBy asked b) x y
-    → Looks shared begins may_be (HasNone asked) x y
-looks_none shared begins may_be asked true x y off h = absurd (cc)
-looks_none shared begins may_be asked false x y off h = h
+pub looks_none : {X : Type 0} (shared : Bool) (begins : X → X → Type 0) (may_be : X → List ℕ → Type 0)
+    (stored : X → X → List Write → Type 0) (asked : ℕ → Bool) (b : Bool) (x y : PlainLive X) → b ≡ false → Looks shared begins may_be stored (LeavesBy asked b) x y
+    → Looks shared begins may_be stored (HasNone asked) x y
+looks_none shared begins may_be stored asked true x y off h = absurd (cc)
+looks_none shared begins may_be stored asked false x y off h = h
 
 -- A round
 
@@ -230,51 +281,70 @@ before_same {X} shared m c x y same h =
 
 -- it leaves the device steady
 pub steady_round : AnyStand → (asked : ℕ → Bool) (shared : Bool) (size : ℕ) {X : Type 0} (may_be : X → List ℕ → Type 0)
-    (most : ℕ) (x : X) (d : PlainDevice) (r : Result (Option Progress) NoMemory) (y : X) (d' : PlainDevice)
+    (stored : X → X → List Write → Type 0) (most : ℕ) (x : X) (d : PlainDevice) (r : Result (Option Progress) NoMemory) (y : X) (d' : PlainDevice)
     → ((m : List ℕ) → may_be x m → length m ≡ size) → ((m : List ℕ) → may_be y m → length m ≡ size)
-    → ((m : List ℕ) × may_be y m) → TurnsNextIn shared may_be asked most x d r y d' → IsSteadyIn shared size d
+    → ((m : List ℕ) × may_be y m) → TurnsNextIn shared may_be stored asked most x d r y d' → IsSteadyIn shared size d
     → IsSteadyIn shared size d'
-steady_round any asked shared size may_be most x d (Ok (Some s)) y d' sized sized' some t h =
-    steady_phase any asked shared size may_be x d s.steps y d' sized sized' some t.serves h
-steady_round any asked shared size may_be most x d (Ok None) y d' sized sized' some t h =
+steady_round any asked shared size may_be stored most x d (Ok (Some s)) y d' sized sized' some t h =
+    steady_phase any asked shared size may_be stored x d s.steps y d' sized sized' some t.serves h
+steady_round any asked shared size may_be stored most x d (Ok None) y d' sized sized' some t h =
     subst (IsSteadyIn shared size) (sym t.0) h
-steady_round any asked shared size may_be most x d (Err e) y d' sized sized' some t h =
+steady_round any asked shared size may_be stored most x d (Err e) y d' sized sized' some t h =
     subst (IsSteadyIn shared size) (sym t.0) h
 
 -- it goes on
-pub settle_round : (asked : ℕ → Bool) (shared : Bool) (size : ℕ) {X : Type 0} (may_be : X → List ℕ → Type 0)
-    (most : ℕ) (x : X) (d : PlainDevice) (r : Result (Option Progress) NoMemory) (y : X) (d' : PlainDevice)
-    → ((m : List ℕ) → may_be x m → length m ≡ size) → ((m : List ℕ) → may_be y m → length m ≡ size)
-    → ((m : List ℕ) × may_be y m) → TurnsNextIn shared may_be asked most x d r y d' → SettlesNext asked shared size d r d'
-settle_round asked shared size may_be most x d (Ok (Some s)) y d' sized sized' some t =
-    λ w n h. settle_phase asked shared size may_be x d s.steps y d' sized sized' some t.serves w n h
-settle_round asked shared size may_be most x d (Ok None) y d' sized sized' some t = tt
-settle_round asked shared size may_be most x d (Err e) y d' sized sized' some t = tt
+pub settle_round : {X S : Type 0} (known : X → S) (storing : S → List Store → S)
+    (both : (s : S) (a b : List Store) → storing (storing s a) b ≡ storing s (a ++ b)) (asked : ℕ → Bool) (shared : Bool)
+    (size : ℕ) (may_be : X → List ℕ → Type 0) (most : ℕ) (x : X) (d : PlainDevice) (begun : X)
+    (r : Result (Option Progress) NoMemory) (y : X) (d' : PlainDevice) → known begun ≡ known x
+    → ((m : List ℕ) → may_be begun m → length m ≡ size) → ((m : List ℕ) → may_be y m → length m ≡ size)
+    → ((m : List ℕ) × may_be y m) → TurnsNextIn shared may_be (Stored known storing) asked most begun d r y d'
+    → SettlesNext (Stored known storing) asked shared size (record { memory = x; device = d }) r
+    (record { memory = y; device = d' })
+settle_round known storing both asked shared size may_be most x d begun (Ok (Some s)) y d' same sized sized' some t =
+    λ first w n h.
+    settle_phase known storing both asked shared size may_be first begun d s.steps y d' sized sized' some t.serves w n
+    (settled_maps asked (Stored known storing first x) (Stored known storing first begun) shared size w n d d refl
+    (λ ws made. same ∙ made) h)
+settle_round known storing both asked shared size may_be most x d begun (Ok None) y d' same sized sized' some t = tt
+settle_round known storing both asked shared size may_be most x d begun (Err e) y d' same sized sized' some t = tt
 
 -- it is a round, in a phase that began with it
-pub turns_round : {X : Type 0} (shared : Bool) (begins : X → X → Type 0) (may_be : X → List ℕ → Type 0) (asked : ℕ → Bool)
+pub turns_round : {X S : Type 0} (known : X → S) (storing : S → List Store → S) (none : (s : S) → storing s [] ≡ s)
+    (shared : Bool) (begins : X → X → Type 0) (may_be : X → List ℕ → Type 0) (asked : ℕ → Bool)
     (most : ℕ) (x : X) (d : PlainDevice) (begun : X) (r : Result (Option Progress) NoMemory) (y : X) (d' : PlainDevice)
-    → begins x begun → ((m : List ℕ) → may_be begun m → IsReached (standing shared m d))
-    → TurnsNextIn shared may_be asked most begun d r y d'
-    → TurnsRound shared begins may_be asked most (record { memory = x; device = d }) r (record { memory = y; device = d' })
-turns_round shared begins may_be asked most x d begun (Ok (Some s)) y d' b reached t =
-    record { some = t.some; few = t.few; begun = begun; begins_so = b; serves = t.serves; before = t.before }
-turns_round shared begins may_be asked most x d begun (Ok None) y d' b reached t =
+    → begins x begun → known begun ≡ known x → ((m : List ℕ) → may_be begun m → IsReached (standing shared m d))
+    → TurnsNextIn shared may_be (Stored known storing) asked most begun d r y d'
+    → TurnsRound shared begins may_be (Stored known storing) asked most (record { memory = x; device = d }) r
+    (record { memory = y; device = d' })
+turns_round known storing none shared begins may_be asked most x d begun (Ok (Some s)) y d' b k reached t =
+    record {
+      some = t.some;
+      few = t.few;
+      begun = begun;
+      begins_so = b;
+      none = none_known known storing none x begun k;
+      serves = t.serves;
+      before = t.before;
+    }
+turns_round known storing none shared begins may_be asked most x d begun (Ok None) y d' b k reached t =
     record {
       begun = begun;
       begins_so = b;
       same = t.0;
       stays = λ m may. (t.1 m may).0;
+      stores = on_known known storing x begun k y [] t.2;
       finds = λ m may.
           let f = t.1 m may in
           subst (λ k. HasNone asked (standing shared m k)) (sym t.0) (none_at asked (standing shared m d) (reached m f.0) f.1);
     }
-turns_round shared begins may_be asked most x d begun (Err e) y d' b reached t =
+turns_round known storing none shared begins may_be asked most x d begun (Err e) y d' b k reached t =
     record {
       begun = begun;
       begins_so = b;
       same = t.0;
       stays = λ m may. (t.1 m may).0;
+      stores = on_known known storing x begun k y [] t.2;
       finds = λ m may.
           subst (λ k. MayWantFirst (standing shared m k) (order_for asked (standing shared m k))) (sym t.0) (t.1 m may).1;
     }
@@ -302,12 +372,12 @@ told_at : (turns : List Turn) → map (λ (o : Occurrence). o.event) (map occurr
 told_at [] = refl
 told_at (t ∷ past) = ap (λ es. event_at t ∷ es) (told_at past)
 
-pub goes_on_served : AllArePromised → AllGoOn → AllLiveRuns → AllLiveServed → AllLiveChange → AllLiveShort
-    → (asked : ℕ → Bool) (shared : Bool) (size : ℕ) (d : PlainDevice) (n : ℕ) (d' : PlainDevice)
+pub stores_served : AllArePromised → AllGoOn → AllLiveRuns → AllLiveServed → AllLiveChange → AllLiveShort
+    → (stored : List Write → Type 0) (asked : ℕ → Bool) (shared : Bool) (size : ℕ) (d : PlainDevice) (n : ℕ) (d' : PlainDevice)
     → ((a : List ℕ) → length a ≡ size → IsReached (standing shared a d))
-    → ((a : List ℕ) → length a ≡ size → SettledLive asked shared size (standing shared a d) n d')
-    → GoesOnServedLive asked shared size d n d'
-goes_on_served promised go live served change short asked shared size d n d' reached settled =
+    → ((a : List ℕ) → length a ≡ size → SettledLive asked stored shared size (standing shared a d) n d')
+    → StoresServed stored asked shared size d n d'
+stores_served promised go live served change short stored asked shared size d n d' reached settled =
     λ a b la lb.
     let w = standing shared a d in
     let w' = standing shared b d' in
@@ -320,20 +390,31 @@ goes_on_served promised go live served change short asked shared size d n d' rea
     let runs : LiveRuns w os w' = subst (λ z. LiveRuns w os z) is_b (served asked w s.turns b s.settles long) in
     let full = live w os w' runs in
     let reaches : (old : PlainWorld) (past : List Occurrence) → Reached old past w → Reached old (full.0 ++ past) w' =
-    λ old past h. go old past full.0 w w' h full.2 in
-    record {
-      turns = s.turns;
-      settles = s.settles;
-      is = sym is_b;
-      counted = s.counted;
-      short = short asked r.old r.trace w s.turns r.reached s.settles;
-      goes_on = record {
-        more = os;
-        told = told_at s.turns;
-        counted = change asked w s.turns s.settles ∙ s.counted;
-        full = full.0;
-        refilled = full.1;
-        reaches = reaches;
-        kept = λ old past h. promised old (full.0 ++ past) w' (reaches old past h);
-      };
-    }
+    λ old past h. go old past full.0 w w' h full.2 in (
+      record {
+        turns = s.turns;
+        settles = s.settles;
+        is = sym is_b;
+        counted = s.counted;
+        short = short asked r.old r.trace w s.turns r.reached s.settles;
+        goes_on = record {
+          more = os;
+          told = told_at s.turns;
+          counted = change asked w s.turns s.settles ∙ s.counted;
+          full = full.0;
+          refilled = full.1;
+          reaches = reaches;
+          kept = λ old past h. promised old (full.0 ++ past) w' (reaches old past h);
+        };
+      },
+      s.stores,
+    )
+
+pub goes_on_served : AllArePromised → AllGoOn → AllLiveRuns → AllLiveServed → AllLiveChange → AllLiveShort
+    → (stored : List Write → Type 0) (asked : ℕ → Bool) (shared : Bool) (size : ℕ) (d : PlainDevice) (n : ℕ) (d' : PlainDevice)
+    → ((a : List ℕ) → length a ≡ size → IsReached (standing shared a d))
+    → ((a : List ℕ) → length a ≡ size → SettledLive asked stored shared size (standing shared a d) n d')
+    → GoesOnServedLive asked shared size d n d'
+goes_on_served promised go live served change short stored asked shared size d n d' reached settled =
+    λ a b la lb.
+    (stores_served promised go live served change short stored asked shared size d n d' reached settled a b la lb).0

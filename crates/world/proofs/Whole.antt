@@ -1,5 +1,6 @@
 -- A device in live memory that asks each of its queues.
 use Rattle.std.proofs.Common.{ℕ, ◌≤◌, Bool, List, length, ◌∙◌, subst, arith}
+use Rattle.ring_core.specs.Writes.{Write}
 use Rattle.device_model.specs.World.{PlainWorld}
 use Rattle.device_model.specs.Order.{NoneApplies}
 use Rattle.device_steps.specs.Apart.{PlainDevice, standing}
@@ -24,14 +25,16 @@ nothing_at w few h =
       rests_whole w same h.1,
     )
 
-pub looks_nothing : {X : Type 0} (shared : Bool) (begins : X → X → Type 0) (may_be : X → List ℕ → Type 0) (x y : PlainLive X)
-    → length y.device.queues ≤ 18 → Looks shared begins may_be (HasNone (asks 4294967295)) x y
-    → Looks shared begins may_be HasNothing x y
-looks_nothing shared begins may_be x y few h =
+pub looks_nothing : {X : Type 0} (shared : Bool) (begins : X → X → Type 0) (may_be : X → List ℕ → Type 0)
+    (stored : X → X → List Write → Type 0) (x y : PlainLive X)
+    → length y.device.queues ≤ 18 → Looks shared begins may_be stored (HasNone (asks 4294967295)) x y
+    → Looks shared begins may_be stored HasNothing x y
+looks_nothing shared begins may_be stored x y few h =
     record {
       begun = h.begun;
       begins_so = h.begins_so;
       same = h.same;
       stays = h.stays;
+      stores = h.stores;
       finds = λ m may. nothing_at (standing shared m y.device) few (h.finds m may);
     }

@@ -2,6 +2,7 @@
 use Rattle.std.specs.Prelude.{ℕ, ◌≡◌, ◌≤◌, ◌<◌, ◌+◌, ◌⊎◌, ◌^◌, Bool, true, false, List, [], ◌∷◌, length, map, Result, Ok, Err}
 use Rattle.std.specs.List.{sum_by}
 use Rattle.foundation.specs.declared.NoMemory.{NoMemory}
+use Rattle.ring_core.specs.Writes.{Write}
 use Rattle.device_model.specs.World.{PlainWorld}
 use Rattle.device_model.specs.Events.{Event}
 use Rattle.device_model.specs.Transitions.{event_of}
@@ -10,33 +11,34 @@ use Rattle.device_model.specs.Live.{Turn, with_memory, live_world, transition_at
 use Rattle.device_steps.specs.Apart.{PlainDevice, standing}
 use Rattle.device_steps.specs.Settling.{order_for, MayWantFirst}
 use Rattle.device_steps.specs.Serving.{ServesInPhase}
-use Rattle.world.specs.LiveWorld.{PlainLive, GoesOnFrom}
+use Rattle.world.specs.LiveWorld.{PlainLive, GoesOnFrom, writes_along}
 use Rattle.world.specs.declared.served.Served.{Served}
 
 -- Phase by phase
 
--- so many events in each round, the newest first; each round in a phase that began with it
-abbrev pub ServesRounds : {X : Type 0} → Bool → (X → X → Type 0) → (X → List ℕ → Type 0) → (ℕ → Bool) → PlainLive X → List ℕ
-    → PlainLive X → Type 0
-ServesRounds {X} shared begins may_be asked x [] y = y ≡ x
-ServesRounds {X} shared begins may_be asked x (count ∷ past) y =
-    (z : PlainLive X) × (begun : X) × ServesRounds shared begins may_be asked x past z × begins z.memory begun
-    × ServesInPhase shared may_be asked begun z.device count y.memory y.device
+-- so many events in each round, the newest first; each round in a phase that began with it, before which nothing was stored
+abbrev pub ServesRounds : {X : Type 0} → Bool → (X → X → Type 0) → (X → List ℕ → Type 0) → (X → X → List Write → Type 0)
+    → (ℕ → Bool) → PlainLive X → List ℕ → PlainLive X → Type 0
+ServesRounds {X} shared begins may_be stored asked x [] y = y ≡ x
+ServesRounds {X} shared begins may_be stored asked x (count ∷ past) y =
+    (z : PlainLive X) × (begun : X) × ServesRounds shared begins may_be stored asked x past z × begins z.memory begun
+    × stored z.memory begun [] × ServesInPhase shared may_be stored asked begun z.device count y.memory y.device
 
 -- so many events in all
 pub record ServesLiveBy {X : Type 0} (shared : Bool) (begins : X → X → Type 0) (may_be : X → List ℕ → Type 0)
-    (asked : ℕ → Bool) (x : PlainLive X) (count : ℕ) (y : PlainLive X) : Type 0 where
+    (stored : X → X → List Write → Type 0) (asked : ℕ → Bool) (x : PlainLive X) (count : ℕ) (y : PlainLive X) : Type 0 where
   pub counts : List ℕ
-  pub rounds : ServesRounds shared begins may_be asked x counts y
+  pub rounds : ServesRounds shared begins may_be stored asked x counts y
   pub counted : sum_by (λ (n : ℕ). n) counts ≡ count
 
--- nothing was changed in a phase of its own, by which this holds whichever bytes may stand in memory
+-- nothing was changed or stored in a phase of its own, by which this holds whichever bytes may stand in memory
 pub record Looks {X : Type 0} (shared : Bool) (begins : X → X → Type 0) (may_be : X → List ℕ → Type 0)
-    (P : PlainWorld → Type 0) (x y : PlainLive X) : Type 0 where
+    (stored : X → X → List Write → Type 0) (P : PlainWorld → Type 0) (x y : PlainLive X) : Type 0 where
   pub begun : X
   pub begins_so : begins x.memory begun
   pub same : y.device ≡ x.device
   pub stays : (m : List ℕ) → may_be y.memory m → may_be begun m
+  pub stores : stored x.memory y.memory []
   pub finds : (m : List ℕ) → may_be y.memory m → P (standing shared m y.device)
 
 -- an event is next
@@ -53,27 +55,27 @@ WantsFirst asked w = MayWantFirst w (order_for asked w)
 
 -- served so far, at most so many events: either all were taken and an event is next, or nothing is left
 pub record ServesLive {X : Type 0} (shared : Bool) (begins : X → X → Type 0) (may_be : X → List ℕ → Type 0)
-    (asked : ℕ → Bool) (x : PlainLive X) (most : ℕ) (s : Served) (y : PlainLive X) : Type 0 where
+    (stored : X → X → List Write → Type 0) (asked : ℕ → Bool) (x : PlainLive X) (most : ℕ) (s : Served) (y : PlainLive X) : Type 0 where
   pub behind : PlainLive X
-  pub serves : ServesLiveBy shared begins may_be asked x s.steps behind
+  pub serves : ServesLiveBy shared begins may_be stored asked x s.steps behind
   pub few : s.steps ≤ most
-  pub left : s.more ≡ true → (s.steps ≡ most) × Looks shared begins may_be (HasNext asked) behind y
-  pub none : s.more ≡ false → Looks shared begins may_be (HasNone asked) behind y
+  pub left : s.more ≡ true → (s.steps ≡ most) × Looks shared begins may_be stored (HasNext asked) behind y
+  pub none : s.more ≡ false → Looks shared begins may_be stored (HasNone asked) behind y
 
 -- served until memory was refused for what was first
 pub record ServesLiveUntilRefused {X : Type 0} (shared : Bool) (begins : X → X → Type 0) (may_be : X → List ℕ → Type 0)
-    (asked : ℕ → Bool) (x : PlainLive X) (most : ℕ) (y : PlainLive X) : Type 0 where
+    (stored : X → X → List Write → Type 0) (asked : ℕ → Bool) (x : PlainLive X) (most : ℕ) (y : PlainLive X) : Type 0 where
   pub behind : PlainLive X
   pub count : ℕ
-  pub serves : ServesLiveBy shared begins may_be asked x count behind
+  pub serves : ServesLiveBy shared begins may_be stored asked x count behind
   pub few : count < most
-  pub wants : Looks shared begins may_be (WantsFirst asked) behind y
+  pub wants : Looks shared begins may_be stored (WantsFirst asked) behind y
 
-abbrev pub ServesLiveOrWants : {X : Type 0} → Bool → (X → X → Type 0) → (X → List ℕ → Type 0) → (ℕ → Bool) → PlainLive X → ℕ
-    → Result Served NoMemory → PlainLive X → Type 0
-ServesLiveOrWants {X} shared begins may_be asked x most (Ok s) y = ServesLive shared begins may_be asked x most s y
-ServesLiveOrWants {X} shared begins may_be asked x most (Err fault) y =
-    ServesLiveUntilRefused shared begins may_be asked x most y
+abbrev pub ServesLiveOrWants : {X : Type 0} → Bool → (X → X → Type 0) → (X → List ℕ → Type 0) → (X → X → List Write → Type 0)
+    → (ℕ → Bool) → PlainLive X → ℕ → Result Served NoMemory → PlainLive X → Type 0
+ServesLiveOrWants {X} shared begins may_be stored asked x most (Ok s) y = ServesLive shared begins may_be stored asked x most s y
+ServesLiveOrWants {X} shared begins may_be stored asked x most (Err fault) y =
+    ServesLiveUntilRefused shared begins may_be stored asked x most y
 
 -- The promise
 
@@ -114,31 +116,52 @@ HasNothing w = IsQuiet w × IsAtRest w
 
 -- served until nothing is left to do
 pub record SettlesLive {X : Type 0} (shared : Bool) (begins : X → X → Type 0) (may_be : X → List ℕ → Type 0)
-    (x : PlainLive X) (count : ℕ) (y : PlainLive X) : Type 0 where
+    (stored : X → X → List Write → Type 0) (x : PlainLive X) (count : ℕ) (y : PlainLive X) : Type 0 where
   pub asked : ℕ → Bool
   pub each : AsksEach asked x.device
   pub behind : PlainLive X
-  pub serves : ServesLiveBy shared begins may_be asked x count behind
-  pub none : Looks shared begins may_be HasNothing behind y
+  pub serves : ServesLiveBy shared begins may_be stored asked x count behind
+  pub none : Looks shared begins may_be stored HasNothing behind y
 
 -- served until memory was refused for what was first, or all events that can be counted were taken
 pub record SettlesLiveInPart {X : Type 0} (shared : Bool) (begins : X → X → Type 0) (may_be : X → List ℕ → Type 0)
-    (x : PlainLive X) (y : PlainLive X) : Type 0 where
+    (stored : X → X → List Write → Type 0) (x : PlainLive X) (y : PlainLive X) : Type 0 where
   pub asked : ℕ → Bool
   pub each : AsksEach asked x.device
   pub behind : PlainLive X
   pub count : ℕ
-  pub serves : ServesLiveBy shared begins may_be asked x count behind
-  pub why : Looks shared begins may_be (WantsFirst asked) behind y
-      ⊎ ((count + 1 ≡ 2 ^ 64) × Looks shared begins may_be (HasNext asked) behind y)
+  pub serves : ServesLiveBy shared begins may_be stored asked x count behind
+  pub why : Looks shared begins may_be stored (WantsFirst asked) behind y
+      ⊎ ((count + 1 ≡ 2 ^ 64) × Looks shared begins may_be stored (HasNext asked) behind y)
 
-abbrev pub SettlesLiveOrWants : {X : Type 0} → Bool → (X → X → Type 0) → (X → List ℕ → Type 0) → PlainLive X
-    → Result ℕ NoMemory → PlainLive X → Type 0
-SettlesLiveOrWants {X} shared begins may_be x (Ok count) y = SettlesLive shared begins may_be x count y
-SettlesLiveOrWants {X} shared begins may_be x (Err fault) y = SettlesLiveInPart shared begins may_be x y
+abbrev pub SettlesLiveOrWants : {X : Type 0} → Bool → (X → X → Type 0) → (X → List ℕ → Type 0)
+    → (X → X → List Write → Type 0) → PlainLive X → Result ℕ NoMemory → PlainLive X → Type 0
+SettlesLiveOrWants {X} shared begins may_be stored x (Ok count) y = SettlesLive shared begins may_be stored x count y
+SettlesLiveOrWants {X} shared begins may_be stored x (Err fault) y = SettlesLiveInPart shared begins may_be stored x y
 
 abbrev pub SettlesPromised : Bool → ℕ → PlainDevice → Result ℕ NoMemory → PlainDevice → Type 0
 SettlesPromised shared size d (Ok count) d' =
     (asked : ℕ → Bool) × AsksEach asked d × GoesOnServedLive asked shared size d count d'
 SettlesPromised shared size d (Err fault) d' =
     (asked : ℕ → Bool) × AsksEach asked d × ((count : ℕ) × GoesOnServedLive asked shared size d count d')
+
+-- What it stores
+
+-- whatever bytes stand before and behind, the trace that is promised of so many events made the very writes that were stored
+abbrev pub StoresServed : (List Write → Type 0) → (ℕ → Bool) → Bool → ℕ → PlainDevice → ℕ → PlainDevice → Type 0
+StoresServed stored asked shared size d count d' =
+    (a b : List ℕ) → length a ≡ size → length b ≡ size
+    → (on : GoesOnServed asked shared d count d' a b) × stored (writes_along on.goes_on.more)
+
+-- as many as were counted; or some, until memory was refused
+abbrev pub ServeStores : (List Write → Type 0) → (ℕ → Bool) → Bool → ℕ → PlainDevice → Result Served NoMemory → PlainDevice
+    → Type 0
+ServeStores stored asked shared size d (Ok s) d' = StoresServed stored asked shared size d s.steps d'
+ServeStores stored asked shared size d (Err fault) d' = (count : ℕ) × StoresServed stored asked shared size d count d'
+
+-- of each queue, with no bound
+abbrev pub SettleStores : (List Write → Type 0) → Bool → ℕ → PlainDevice → Result ℕ NoMemory → PlainDevice → Type 0
+SettleStores stored shared size d (Ok count) d' =
+    (asked : ℕ → Bool) × AsksEach asked d × StoresServed stored asked shared size d count d'
+SettleStores stored shared size d (Err fault) d' =
+    (asked : ℕ → Bool) × AsksEach asked d × ((count : ℕ) × StoresServed stored asked shared size d count d')

@@ -1,12 +1,12 @@
 //! A device in live memory serves, and settles.
 
 ghost use Rattle.std.specs.Prelude.{◌≡◌, ◌≤◌, ℕ, List, length};
-ghost use Rattle.device_steps.specs.Apart.{standing};
+ghost use Rattle.device_steps.specs.Apart.{standing, Stored};
 ghost use Rattle.device_steps.specs.Sound.{IsReached};
 ghost use Rattle.device_steps.specs.Settling.{asks};
 ghost use Rattle.device_steps.specs.Inner.Cursors.{NoneBefore};
 ghost use Rattle.world.specs.Inner.Rounds.{TurnsRound, SettlesNext, LeavesBy};
-ghost use Rattle.world.specs.LiveServing.{Looks, ServesLiveOrWants, ServesPromised, SettlesLiveOrWants, SettlesPromised};
+ghost use Rattle.world.specs.LiveServing.{Looks, ServesLiveOrWants, ServesPromised, ServeStores, SettlesLiveOrWants, SettlesPromised, SettleStores};
 
 use crate::live_world::LiveWorld;
 use crate::served::Served;
@@ -39,13 +39,17 @@ impl<M: WritableMemory> LiveWorld<M> {
     ///
     /// `NoMemory` where the first event that applied was refused memory, or was a chain of a queue that has accepted
     /// 2^64 - 1. Everything served before stands, and nothing else changed. The promise is kept as by
-    /// [`run`](LiveWorld::run).
+    /// [`run`](LiveWorld::run). What was stored are the writes of the promised trace's actions, in their order, and
+    /// nothing else.
     #[inline(always)]
     pub fn serve(&mut self, queues: u32, most: u64) -> Result<Served, NoMemory>
         ensures size { M.extent self.new.memory ≡ M.extent self.old.memory }
-        ensures serves { ServesLiveOrWants M.shared M.begins M.may_be (asks queues) self.old most result self.new }
+        ensures serves { ServesLiveOrWants M.shared M.begins M.may_be (Stored M.stored M.storing) (asks queues) self.old most
+            result self.new }
         ensures promise { ServesPromised (asks queues) M.shared (M.extent self.old.memory) self.old.device result
             self.new.device }
+        ensures stores { ServeStores (Stored M.stored M.storing self.old.memory self.new.memory) (asks queues) M.shared
+            (M.extent self.old.memory) self.old.device result self.new.device }
     {
         every_run_goes_on();
         the_promise_is_kept();
@@ -79,12 +83,14 @@ impl<M: WritableMemory> LiveWorld<M> {
     /// A guest that goes on making chains available keeps it busy for as long as it likes. A host that must have its
     /// thread back calls `serve` with a bound.
     ///
-    /// `NoMemory` as of `serve`, or where 2^64 - 1 events were counted and another is next. The promise is kept as by
-    /// `serve`.
+    /// `NoMemory` as of `serve`, or where 2^64 - 1 events were counted and another is next. The promise is kept, and what
+    /// was stored is told, as by `serve`.
     pub fn settle(&mut self) -> Result<u64, NoMemory>
         ensures size { M.extent self.new.memory ≡ M.extent self.old.memory }
-        ensures serves { SettlesLiveOrWants M.shared M.begins M.may_be self.old result self.new }
+        ensures serves { SettlesLiveOrWants M.shared M.begins M.may_be (Stored M.stored M.storing) self.old result self.new }
         ensures promise { SettlesPromised M.shared (M.extent self.old.memory) self.old.device result self.new.device }
+        ensures stores { SettleStores (Stored M.stored M.storing self.old.memory self.new.memory) M.shared
+            (M.extent self.old.memory) self.old.device result self.new.device }
     {
         self.is_steady();
         let done = self.serve(u32::MAX, u64::MAX);
@@ -116,9 +122,10 @@ impl<M: WritableMemory> LiveWorld<M> {
         requires most { 1 ≤ most }
         requires before { (m : List ℕ) → NoneBefore cursor (standing M.shared m self.old.device) }
         ensures size { M.extent self.new.memory ≡ M.extent self.old.memory }
-        ensures turns { TurnsRound M.shared M.begins M.may_be (asks queues) most self.old result self.new }
-        ensures settles { SettlesNext (asks queues) M.shared (M.extent self.old.memory) self.old.device result
-            self.new.device }
+        ensures turns { TurnsRound M.shared M.begins M.may_be (Stored M.stored M.storing) (asks queues) most self.old result
+            self.new }
+        ensures settles { SettlesNext (Stored M.stored M.storing) (asks queues) M.shared (M.extent self.old.memory) self.old
+            result self.new }
     {
         all_are_sound();
         any_bytes_may_stand_there();
@@ -134,7 +141,7 @@ impl<M: WritableMemory> LiveWorld<M> {
     #[inline(never)]
     fn has_step(&mut self, queues: u32) -> bool
         ensures size { M.extent self.new.memory ≡ M.extent self.old.memory }
-        ensures looks { Looks M.shared M.begins M.may_be (LeavesBy (asks queues) result) self.old self.new }
+        ensures looks { Looks M.shared M.begins M.may_be (Stored M.stored M.storing) (LeavesBy (asks queues) result) self.old self.new }
     {
         self.memory.begin();
         let _begun = self.memory.size();

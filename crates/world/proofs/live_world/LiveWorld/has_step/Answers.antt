@@ -1,6 +1,7 @@
 use Rattle.std.proofs.Common.{◌∙◌, refl, sym, subst}
 use Rattle.device_steps.specs.Apart.{FitsIn, standing}
 use Rattle.device_steps.specs.Settling.{asks}
+use Rattle.device_steps.proofs.InMemory.{none_known}
 use Rattle.world.proofs.Lively.{fits_live, few_live}
 use Rattle.world.proofs.Rounds.{leaves_by}
 use Rattle.world.proofs.live_world.LiveWorld.has_step.Goals as goal
@@ -37,6 +38,8 @@ returns-clause-looks g c =
       begins_so = c.begin.ensures.begun;
       same = refl;
       stays = λ m may. (finds m may).0;
+      stores = none_known g.M.Memory.stored g.M.Memory.storing g.met.M.Memory.none c.self.inside.memory c.has_step-has.new.memory
+          (c.has_step-has.ensures.stores ∙ c.begin.ensures.stores);
       finds = λ m may.
           let f = finds m may in
           leaves_by (asks c.args.queues) c.has_step-has.result (standing shared m d)

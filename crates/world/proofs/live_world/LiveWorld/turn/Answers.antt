@@ -1,5 +1,5 @@
 use Rattle.std.proofs.Common.{◌≡◌, ◌∙◌, ℕ, List, length, sym, subst}
-use Rattle.device_steps.specs.Apart.{FitsIn}
+use Rattle.device_steps.specs.Apart.{FitsIn, Stored}
 use Rattle.device_steps.specs.Settling.{asks}
 use Rattle.world.proofs.Lively.{sound_live, fits_live, few_live}
 use Rattle.world.proofs.Rounds.{before_same, steady_round, settle_round, turns_round}
@@ -35,7 +35,8 @@ invariant_of-self g c =
     let same = c.turn-turned.ensures.size ∙ c.begin.ensures.size in
     λ m long.
     steady_round c.any_bytes_may_stand_there.ensures (asks c.args.queues) g.M.Memory.shared
-    (g.M.Memory.extent c.self.inside.memory) g.M.Memory.may_be c.args.most now c.self.inside.device c.turn-turned.result later
+    (g.M.Memory.extent c.self.inside.memory) g.M.Memory.may_be (Stored g.M.Memory.stored g.M.Memory.storing) c.args.most now
+    c.self.inside.device c.turn-turned.result later
     c.turn-turned.new.self (λ k may. g.met.M.Memory.sized now k may ∙ c.begin.ensures.size)
     (λ k may. g.met.M.Memory.sized later k may ∙ same) c.size-bytes.ensures.some c.turn-turned.ensures.turns c.self.invariant m
     (long ∙ same)
@@ -47,8 +48,8 @@ pub returns-clause-turns : goal.returns-clause-turns
 returns-clause-turns g c =
     let now = c.begin.new.self in
     rw (← c.self.view_is)
-    (turns_round g.M.Memory.shared g.M.Memory.begins g.M.Memory.may_be (asks c.args.queues) c.args.most c.self.inside.memory
-    c.self.inside.device now c.turn-turned.result c.turn-turned.new.memory c.turn-turned.new.self c.begin.ensures.begun
+    (turns_round g.M.Memory.stored g.M.Memory.storing g.met.M.Memory.none g.M.Memory.shared g.M.Memory.begins g.M.Memory.may_be (asks c.args.queues) c.args.most c.self.inside.memory
+    c.self.inside.device now c.turn-turned.result c.turn-turned.new.memory c.turn-turned.new.self c.begin.ensures.begun c.begin.ensures.stores
     (λ m may. (c.self.invariant m (g.met.M.Memory.sized now m may ∙ c.begin.ensures.size)).whole.reached)
     c.turn-turned.ensures.turns)
 
@@ -57,8 +58,9 @@ returns-clause-settles g c =
     let now = c.begin.new.self in
     let later = c.turn-turned.new.memory in
     rw (← c.self.view_is)
-    (settle_round (asks c.args.queues) g.M.Memory.shared (g.M.Memory.extent c.self.inside.memory) g.M.Memory.may_be c.args.most
-    now c.self.inside.device c.turn-turned.result later c.turn-turned.new.self
+    (settle_round g.M.Memory.stored g.M.Memory.storing g.met.M.Memory.both (asks c.args.queues) g.M.Memory.shared
+    (g.M.Memory.extent c.self.inside.memory) g.M.Memory.may_be c.args.most c.self.inside.memory c.self.inside.device now
+    c.turn-turned.result later c.turn-turned.new.self c.begin.ensures.stores
     (λ k may. g.met.M.Memory.sized now k may ∙ c.begin.ensures.size)
     (λ k may. g.met.M.Memory.sized later k may ∙ c.turn-turned.ensures.size ∙ c.begin.ensures.size) c.size-bytes.ensures.some
     c.turn-turned.ensures.turns)

@@ -1,5 +1,6 @@
-use Rattle.std.proofs.Common.{false, refl, sym, subst}
-use Rattle.device_steps.specs.Apart.{standing}
+use Rattle.std.proofs.Common.{List, ℕ, false, refl, sym, subst}
+use Rattle.guest_mem.specs.Stores.{all_stored}
+use Rattle.device_steps.specs.Apart.{standing, Stored}
 use Rattle.device_steps.specs.Sound.{IsWhole}
 use Rattle.device_steps.specs.Inner.Cursors.{NoneBefore}
 use Rattle.device_steps.specs.Settling.{asks}
@@ -30,12 +31,12 @@ turn-requires c =
 pub returns : goal.returns
 returns c =
     rw (← c.self.view_is)
-    (next_own (asks c.args.queues) c.args.most c.self.inside.memory c.self.inside.device c.turn.result c.turn.new.memory
+    (next_own (Stored (λ (m : List ℕ). m) all_stored) (asks c.args.queues) c.args.most c.self.inside.memory c.self.inside.device c.turn.result c.turn.new.memory
     c.turn.new.self c.turn.ensures.turns)
 
 pub invariant_of-self : goal.invariant_of-self
 invariant_of-self c =
     steady_by_next (asks c.args.queues) c.args.most (standing false c.self.inside.memory c.self.inside.device) c.turn.result
     (standing false c.turn.new.memory c.turn.new.self) c.turn.ensures.size c.self.invariant
-    (next_own (asks c.args.queues) c.args.most c.self.inside.memory c.self.inside.device c.turn.result c.turn.new.memory
+    (next_own (Stored (λ (m : List ℕ). m) all_stored) (asks c.args.queues) c.args.most c.self.inside.memory c.self.inside.device c.turn.result c.turn.new.memory
     c.turn.new.self c.turn.ensures.turns)
