@@ -21,7 +21,7 @@ use Rattle.live_mem.specs.declared.live.LiveMem.{LiveMem}
 use Rattle.device_steps.specs.Apart.{PlainDevice, Stored}
 use Rattle.device_steps.specs.Asking.{asking_at}
 use Rattle.world.specs.Asking.{AsksLive as AsksDriverLive, AsksPromised}
-use Rattle.world.specs.LiveServing.{ServesLiveOrWants, ServesPromised}
+use Rattle.world.specs.LiveServing.{ServesLiveOrWants, ServesPromised, ServeStores}
 use Rattle.device_steps.specs.Settling.{asks}
 use Rattle.world.specs.declared.served.Served.{Served as Portion}
 use Rattle.device_steps.specs.Opening.{IsOpeningApart}
@@ -96,11 +96,13 @@ AsksDriver queue notify d a d' = ⊥
 -- as `LiveWorld::serve`; of what was served before memory was refused nothing is told
 abbrev pub ServesApart : ℕ → ℕ → PlainLive (LiveMem HostBus) → Portion → Answer → Portion → PlainLive (LiveMem HostBus) → Type 0
 ServesApart queues most x old answer.Done new y =
-    ServesLiveOrWants true begins_live MayBeLive (asks queues) x most (Ok new) y
+    ServesLiveOrWants true begins_live MayBeLive stores_live (asks queues) x most (Ok new) y
     × ServesPromised (asks queues) true x.memory.size x.device (Ok new) y.device
+    × ServeStores (stores_live x.memory y.memory) (asks queues) true x.memory.size x.device (Ok new) y.device
 ServesApart queues most x old answer.NoMemory new y =
-    (e : NoMemory) × ServesLiveOrWants true begins_live MayBeLive (asks queues) x most (Err e) y
-    × ServesPromised (asks queues) true x.memory.size x.device (Err e) y.device × (new ≡ old)
+    (e : NoMemory) × ServesLiveOrWants true begins_live MayBeLive stores_live (asks queues) x most (Err e) y
+    × ServesPromised (asks queues) true x.memory.size x.device (Err e) y.device
+    × ServeStores (stores_live x.memory y.memory) (asks queues) true x.memory.size x.device (Err e) y.device × (new ≡ old)
 ServesApart queues most x old a new y = ⊥
 
 -- of those queues that are mapped
