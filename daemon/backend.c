@@ -4,6 +4,7 @@
 #include <string.h>
 
 #include "clock.h"
+#include "images.h"
 #include "rings.h"
 
 // The most steps of one call of the library's, where answers wait and where they don't: the ranges of so few are never more
@@ -53,6 +54,12 @@ void backend_unmap(struct backend *backend) {
   backend->mapped = false;
 }
 
+void backend_log(struct backend *backend, bool logs) {
+  const struct region *log = &backend->memory.log;
+  backend->logs = logs && log->at;
+  if (backend->device.live) device_log(&backend->device, backend->logs ? log->at : NULL, backend->logs ? (size_t)log->size : 0);
+}
+
 static bool make(struct backend *backend, char *why, size_t room) {
   struct vscsi_unit units[DEVICE_MOST_UNITS];
   struct ring rings[DEVICE_MOST_QUEUES];
@@ -65,13 +72,16 @@ static bool make(struct backend *backend, char *why, size_t room) {
   const struct vscsi_live_config config = {.size = sizeof config,
                                            .features = VSCSI_F_VERSION_1 | (backend->packed ? VSCSI_F_RING_PACKED : 0) |
                                                        (backend->event_index ? VSCSI_F_EVENT_IDX : 0) |
-                                                       (backend->indirect ? VSCSI_F_INDIRECT_DESC : 0),
+                                                       (backend->indirect ? VSCSI_F_INDIRECT_DESC : 0) |
+                                                       (backend->change ? VSCSI_F_CHANGE : 0),
                                            .ring_count = backend->count,
                                            .units = units,
                                            .unit_count = backend->disks->count};
   memset(backend->noted, 0, sizeof backend->noted);
   memset(backend->idle, 0, sizeof backend->idle);
-  return blocks_load(backend->disks, why, room) &&
+  // Another daemon may have the files still.
+  backend->starved = !images_hold(backend->disks, why, room);
+  return !backend->starved && blocks_load(backend->disks, why, room) &&
          device_create(&backend->device, config, rings, backend->disks->stores, &backend->starved, why, room);
 }
 
@@ -85,6 +95,7 @@ enum served backend_begin(struct backend *backend, char *why, size_t room) {
   backend->seen = backend->asked = 0;
   if (make(backend, why, room)) {
     backend_map(backend);
+    backend_log(backend, backend->logs);
     backend->pause = 0;
     return MORE;
   }
@@ -120,6 +131,7 @@ static enum ran run(struct backend *backend, uint32_t queues, uint64_t most) {
     backend->all_steps += steps;
     backend->took = backend->took || steps;
     if (backend->keeps && (steps || !served)) blocks_note(&backend->device, backend->disks, backend->noted);
+    if (backend->logs) rings_log(backend);
     if (!served) return REFUSED;
     if (more && (backend->steps >= most || is_over(backend))) return RUNS;
   }
@@ -264,7 +276,22 @@ enum served backend_serve(struct backend *backend, uint32_t queues, uint32_t *ow
 
 bool backend_is_busy(const struct backend *backend) { return backend->device.live && backend->phase != IDLE; }
 
+void backend_count(const struct backend *backend, size_t disk, struct vscsi_counts *counts) {
+  const struct disk *its = &backend->disks->disks[disk];
+  struct device device = backend->device;
+  struct vscsi_counts more = {0};
+  device_counts(&device, its->target, its->lun, &more);
+  counts->left += more.left;
+  counts->full += more.full;
+  counts->good += more.good;
+  counts->check_conditions += more.check_conditions;
+  counts->busy += more.busy;
+  counts->data_out += more.data_out;
+  counts->data_in += more.data_in;
+}
+
 void backend_end(struct backend *backend) {
+  for (size_t i = 0; backend->device.live && i < backend->disks->count; i++) backend_count(backend, i, &backend->disks->disks[i].counts);
   backend_unmap(backend);
   backend->phase = IDLE;
   backend->pause = 0;

@@ -27,6 +27,9 @@ enum { DESCRIPTOR = 16 };
 struct backend_queue {
   struct ring ring;              // by the guest's addresses; `first` is where it goes on behind all that was shown to the guest
   bool ready;                    // its areas are in the guest's memory
+  bool is_logged;                // writes to its device area are logged from `logged_at` on, too
+  uint64_t logged_at;            // by the guest's addresses
+  uint16_t logged;               // the used index up to which they were
   uint32_t fault;                // by which it is broken, or VSCSI_BROKEN_NOT
   uint8_t *desc_at, *device_at;  // where these areas stand here
   // Of a queue whose answers wait, what the device has in place of its used index, or of the descriptors of a packed ring.
@@ -49,10 +52,11 @@ struct backend {
   struct noted noted[DEVICE_MOST_UNITS];  // of each unit: what is noted in its disk's backlog
   struct backend_queue queues[MOST_QUEUES];
   unsigned count;
-  bool packed, event_index, indirect;
+  bool packed, event_index, indirect, change;
   bool keeps;   // disks are kept on files
   bool waits;   // answers wait: for files, or until it is known where packed rings stand
   bool mapped;  // the device has the guest's memory as it is
+  bool logs;    // each page that is written is marked in the log
   bool left;    // something was left of the queues
   enum phase phase;
   uint32_t kicked;  // queues whose driver notified, and that weren't looked at since
@@ -70,7 +74,7 @@ struct backend {
   unsigned turn, quiet;                   // which is next then, and how many in a row had nothing left
   unsigned pause;                         // milliseconds until what is refused memory is tried again, and the time of that
   uint64_t due;                           // of that, or of the next try of a file that can't be written
-  bool starved;                           // the device wasn't made for want of memory
+  bool starved;                           // the device wasn't made for want of memory, or of its files
   _Alignas(16) uint8_t idle[VSCSI_PAGE];  // where queues lie that the driver didn't set up
 };
 
@@ -78,8 +82,8 @@ struct backend {
 // LATER: another call is wanted at `due`. FAILED: `why` says what ended this.
 enum served { SERVED, MORE, BUSY, LATER, FAILED };
 
-// Makes the device for the queues that are ready, and returns MORE; or LATER, where memory is refused, and the first time says
-// why; or FAILED, and says why.
+// Makes the device for the queues that are ready, and returns MORE; or LATER, where memory or a file is refused, and the first
+// time says why; or FAILED, and says why.
 enum served backend_begin(struct backend *backend, char *why, size_t room);
 
 // Lets go of the device, and takes its disks back. Each ring goes on behind what was shown: requests whose answers weren't are
@@ -91,6 +95,9 @@ void backend_end(struct backend *backend);
 void backend_map(struct backend *backend);
 void backend_unmap(struct backend *backend);
 
+// Has each page that is written marked in the log of `memory` from now on, or none. Called again where that log is another one.
+void backend_log(struct backend *backend, bool logs);
+
 // Returns whether the device has begun requests, or has answers that wait, so that letting go of it would have some run once
 // more.
 bool backend_is_busy(const struct backend *backend);
@@ -99,6 +106,9 @@ bool backend_is_busy(const struct backend *backend);
 // since the first call. For a second files that can't be written are tried again, and for five seconds all else goes on. Then
 // the device ends, as backend_end says.
 enum served backend_stop(struct backend *backend, uint64_t passed, uint32_t *owed, char *why, size_t room);
+
+// Adds what a disk did for this device to what it had counted before.
+void backend_count(const struct backend *backend, size_t disk, struct vscsi_counts *counts);
 
 // Returns whether a driver made something available on one of these queues, which has no device yet.
 bool backend_has(const struct backend *backend, uint32_t queues);

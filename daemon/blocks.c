@@ -141,6 +141,9 @@ static void note_disk(struct device *device, struct disk *disk, struct noted *no
   bool unmaps = (counts.data_out - before.data_out) % DEVICE_BLOCK;
   if (!told || all) note(&disk->backlog, (struct vscsi_range){0, disk->blocks});
   for (size_t r = 0; told && !all && r < count; r++) {
+    // The disk may have lost some.
+    if (ranges[r].first >= disk->blocks) continue;
+    if (ranges[r].count > disk->blocks - ranges[r].first) ranges[r].count = disk->blocks - ranges[r].first;
     note(&disk->backlog, ranges[r]);
     if (unmaps) note_unmapped(&disk->backlog, ranges[r]);
   }

@@ -109,7 +109,9 @@ bool disks_add(struct disks *disks, const char *words, char *why, size_t room) {
   for (const struct disk *it = disks->disks; place; place--)
     if (it[place - 1].target < disk.target || (it[place - 1].target == disk.target && it[place - 1].lun < disk.lun)) break;
   memmove(disks->disks + place + 1, disks->disks + place, (disks->count - place) * sizeof disk);
+  memmove(disks->stores + place + 1, disks->stores + place, (disks->count - place) * sizeof *disks->stores);
   disks->disks[place] = disk;
+  disks->stores[place] = (struct vscsi_disk){0};
   disks->count++;
   return true;
 }
@@ -120,13 +122,31 @@ bool disks_are_whole(const struct disks *disks) {
   return disks->count;
 }
 
+bool disks_find(const struct disks *disks, const char *words, size_t *which) {
+  uint64_t target, lun;
+  if (!number(&words, 255, ':', &target) || !number(&words, 16383, '=', &lun)) return false;
+  for (*which = 0; *which < disks->count; ++*which)
+    if (disks->disks[*which].target == target && disks->disks[*which].lun == lun) return true;
+  return false;
+}
+
+static void close_disk(struct disks *disks, size_t which) {
+  if (disks->disks[which].file >= 0) close(disks->disks[which].file);
+  free(disks->disks[which].backlog.ranges);
+  store_drop(&disks->stores[which]);
+  free(disks->disks[which].path);
+}
+
+void disks_remove(struct disks *disks, size_t which) {
+  close_disk(disks, which);
+  size_t behind = --disks->count - which;
+  memmove(disks->disks + which, disks->disks + which + 1, behind * sizeof *disks->disks);
+  memmove(disks->stores + which, disks->stores + which + 1, behind * sizeof *disks->stores);
+  disks->stores[disks->count] = (struct vscsi_disk){0};
+}
+
 void disks_close(struct disks *disks) {
-  for (size_t i = 0; i < disks->count; i++) {
-    if (disks->disks[i].file >= 0) close(disks->disks[i].file);
-    free(disks->disks[i].backlog.ranges);
-    store_drop(&disks->stores[i]);
-    free(disks->disks[i].path);
-  }
+  for (size_t i = 0; i < disks->count; i++) close_disk(disks, i);
   disks->count = 0;
 }
 

@@ -39,6 +39,7 @@ struct disk {
   unsigned pause;   // milliseconds between two tries then, and the time of the next one
   uint64_t due;
   uint64_t told;    // when it was last said that it can't be written, or 0
+  struct vscsi_counts counts;  // what it did for devices that ended
   struct backlog backlog;
 };
 
@@ -46,12 +47,18 @@ struct disks {
   struct disk disks[DEVICE_MOST_UNITS];
   struct vscsi_disk stores[DEVICE_MOST_UNITS];
   size_t count;
-  bool lost;  // a device couldn't give its disks back
+  bool lost;   // a device couldn't give its disks back
+  bool moves;  // images are locked and loaded only while a queue is started, since the guest may move to another host
+  bool held;   // they are
 };
 
 // Adds the disk of words T:L=SIZE[,file=PATH][,grow][,snapshot][,detect-zeroes=unmap] or T:L=file=PATH[,..], in its place of the order. A
 // comma of the path stands there twice. Opens nothing: images_open does that. Returns false, and says why, where the words name no disk.
 bool disks_add(struct disks *disks, const char *words, char *why, size_t room);
+
+// Finds the disk that words T:L=.. name, which disks_add took. Takes a disk out, and closes its image.
+bool disks_find(const struct disks *disks, const char *words, size_t *which);
+void disks_remove(struct disks *disks, size_t which);
 
 // Returns whether each target has a LUN 0, which the device asks for, and there is a disk.
 bool disks_are_whole(const struct disks *disks);

@@ -49,6 +49,12 @@ static bool lock(const struct disk *disk, char *why, size_t room) {
   return true;
 }
 
+static void unlock(const struct disk *disk) {
+  struct flock lock = {.l_type = F_UNLCK, .l_whence = SEEK_SET, .l_start = USED, .l_len = UNSHARED + PERMISSIONS - USED};
+  fcntl(disk->file, F_OFD_SETLK, &lock);
+  flock(disk->file, LOCK_UN);
+}
+
 // Finds how long a file or a block device is.
 static bool measure(struct disk *disk, char *why, size_t room) {
   struct stat stat;
@@ -74,18 +80,62 @@ static bool fits(struct disk *disk, char *why, size_t room) {
   return (!fstat(disk->file, &stat) && S_ISREG(stat.st_mode)) || refuse(disk, "shorter than the disk, and no file that grows", why, room);
 }
 
-static bool open_image(struct disk *disk, char *why, size_t room) {
+static bool open_image(struct disk *disk, bool is_locked_now, char *why, size_t room) {
   // O_NONBLOCK: a FIFO is refused, and isn't waited for.
   disk->file = open(disk->path, (disk->read_only ? O_RDONLY : O_RDWR) | O_NONBLOCK | O_NOCTTY | O_CLOEXEC);
   if (disk->file < 0 && errno == ENOENT && disk->blocks && !disk->read_only) return true;
   if (disk->file < 0) return refuse(disk, NULL, why, room);
-  return measure(disk, why, room) && lock(disk, why, room) && fits(disk, why, room);
+  return measure(disk, why, room) && (!is_locked_now || lock(disk, why, room)) && fits(disk, why, room);
 }
 
 bool images_open(struct disks *disks, char *why, size_t room) {
   for (size_t i = 0; i < disks->count; i++)
-    if (disks->disks[i].path && !open_image(&disks->disks[i], why, room)) return false;
+    if (disks->disks[i].path && !open_image(&disks->disks[i], !disks->moves, why, room)) return false;
   return true;
+}
+
+// Locks an image that another daemon may have had, and tests that it left it as long as it was.
+static bool hold(struct disk *disk, char *why, size_t room) {
+  if (!lock(disk, why, room) || !measure(disk, why, room)) return false;
+  return disk->length == disk->blocks * DEVICE_BLOCK || refuse(disk, "not as long as it was", why, room);
+}
+
+bool images_hold(struct disks *disks, char *why, size_t room) {
+  bool held = true;
+  if (!disks->moves || disks->held) return true;
+  for (size_t i = 0; held && i < disks->count; i++) held = hold(&disks->disks[i], why, room);
+  for (size_t i = 0; !held && i < disks->count; i++) unlock(&disks->disks[i]);
+  return disks->held = held;
+}
+
+bool image_take(const struct disks *disks, struct disk *disk, char *why, size_t room) {
+  int flags = fcntl(disk->file, F_GETFL), wanted = disk->read_only ? O_RDONLY : O_RDWR;
+  if ((flags & O_ACCMODE) != wanted && (flags & O_ACCMODE) != O_RDWR) return refuse(disk, "its descriptor isn't for writing", why, room);
+  if (!measure(disk, why, room) || (!disks->moves && !lock(disk, why, room)) || !fits(disk, why, room)) return false;
+  return disk->length == disk->blocks * DEVICE_BLOCK || image_resize(disk, disk->blocks, why, room);
+}
+
+bool image_resize(struct disk *disk, uint64_t blocks, char *why, size_t room) {
+  struct stat stat;
+  uint64_t bytes = blocks * DEVICE_BLOCK;
+  if (disk->file < 0 || disk->read_only) return true;
+  if (fstat(disk->file, &stat) || !measure(disk, why, room)) return refuse(disk, NULL, why, room);
+  if (S_ISREG(stat.st_mode)) return (!ftruncate(disk->file, (off_t)bytes) && !fdatasync(disk->file)) || refuse(disk, NULL, why, room);
+  if (bytes > disk->length) return refuse(disk, "the block device is shorter", why, room);
+  off_t from = (off_t)(disk->blocks * DEVICE_BLOCK);
+  bool zeroed = blocks <= disk->blocks || !fallocate(disk->file, FALLOC_FL_ZERO_RANGE | FALLOC_FL_KEEP_SIZE, from, (off_t)bytes - from);
+  return zeroed || refuse(disk, NULL, why, room);
+}
+
+void images_release(struct disks *disks) {
+  bool kept = true;
+  for (size_t i = 0; i < disks->count; i++) kept = kept && !disks->disks[i].backlog.count;
+  if (!disks->moves || !disks->held || !kept) return;
+  for (size_t i = 0; i < disks->count; i++) {
+    store_drop(&disks->stores[i]);
+    unlock(&disks->disks[i]);
+  }
+  disks->held = false;
 }
 
 // Waits until the entry of a new file stands in its folder.
@@ -97,12 +147,12 @@ static bool sync_folder(const char *path) {
 }
 
 // Makes an image that wasn't there. Nobody but its owner may read what a guest keeps there.
-static bool make(struct disk *disk, uid_t user, gid_t group, char *why, size_t room) {
+static bool make(struct disk *disk, bool is_locked_now, uid_t user, gid_t group, char *why, size_t room) {
   disk->file = open(disk->path, O_RDWR | O_CREAT | O_EXCL | O_CLOEXEC, 0600);
   if (disk->file < 0) return refuse(disk, NULL, why, room);
   disk->made = true;
   if (fchown(disk->file, user, group)) return refuse(disk, NULL, why, room);
-  return lock(disk, why, room);
+  return !is_locked_now || lock(disk, why, room);
 }
 
 bool images_make(struct disks *disks, uid_t user, gid_t group, char *why, size_t room) {
@@ -110,7 +160,7 @@ bool images_make(struct disks *disks, uid_t user, gid_t group, char *why, size_t
     struct disk *disk = &disks->disks[i];
     off_t wanted = (off_t)(disk->blocks * DEVICE_BLOCK);
     if (!disk->path || (disk->file >= 0 && disk->length == (uint64_t)wanted)) continue;
-    if (disk->file < 0 && !make(disk, user, group, why, room)) return false;
+    if (disk->file < 0 && !make(disk, !disks->moves, user, group, why, room)) return false;
     bool stands = !ftruncate(disk->file, wanted) && !fsync(disk->file) && (!disk->made || sync_folder(disk->path));
     if (!stands) return refuse(disk, NULL, why, room);
   }

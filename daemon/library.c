@@ -56,6 +56,8 @@ bool device_map(struct device *device, const struct vscsi_region *regions, size_
   return vscsi_map(&device->vscsi, regions, count) == VSCSI_DONE;
 }
 
+void device_log(struct device *device, uint8_t *bitmap, size_t bytes) { vscsi_log(&device->vscsi, bitmap, bytes); }
+
 bool device_serve(struct device *device, uint32_t queues, uint64_t most, uint64_t *steps, bool *more) {
   return vscsi_live_serve(&device->vscsi, queues, most, steps, more) == VSCSI_DONE;
 }
@@ -84,6 +86,14 @@ bool device_changed(struct device *device, uint8_t target, uint16_t lun, uint64_
 
 bool device_counts(struct device *device, uint8_t target, uint16_t lun, struct vscsi_counts *counts) {
   return vscsi_live_counts(&device->vscsi, target, lun, counts, sizeof *counts) == VSCSI_DONE;
+}
+
+bool device_reset(struct device *device, uint8_t target, uint16_t lun) {
+  return vscsi_live_reset(&device->vscsi, target, lun) == VSCSI_DONE;
+}
+
+bool device_resize(struct device *device, uint8_t target, uint16_t lun, uint64_t blocks) {
+  return vscsi_live_resize(&device->vscsi, target, lun, blocks) == VSCSI_DONE;
 }
 
 bool device_blocks(struct device *device, uint8_t target, uint16_t lun, uint64_t first, uint32_t count, void *into) {

@@ -47,6 +47,9 @@ bool device_end(struct device *device, struct vscsi_disk *stores, size_t count);
 // Has the device work in these regions of memory. Returns false where it can't: then it works where it did.
 bool device_map(struct device *device, const struct vscsi_region *regions, size_t count);
 
+// Has the device set the bit of each page that it writes, in this bitmap from now on, or in none where it is NULL.
+void device_log(struct device *device, uint8_t *bitmap, size_t bytes);
+
 // Serves what is available on these queues (bit 0 is queue 0), and what was begun before, by at most so many steps. `steps` is
 // how many these were, and `more` tells whether one is left. Returns false where memory was refused: what was served before
 // stands, and a later call goes on.
@@ -66,6 +69,10 @@ bool device_changed(struct device *device, uint8_t target, uint16_t lun, uint64_
 
 // Counts what a unit did.
 bool device_counts(struct device *device, uint8_t target, uint16_t lun, struct vscsi_counts *counts);
+
+// Has the operator reset a unit, or give it another capacity. Returns false where memory was refused.
+bool device_reset(struct device *device, uint8_t target, uint16_t lun);
+bool device_resize(struct device *device, uint8_t target, uint16_t lun, uint64_t blocks);
 
 // Copies blocks of a unit out. `into` has room for `count` blocks.
 bool device_blocks(struct device *device, uint8_t target, uint16_t lun, uint64_t first, uint32_t count, void *into);

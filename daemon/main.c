@@ -10,6 +10,7 @@
 #include <time.h>
 #include <unistd.h>
 
+#include "control.h"
 #include "images.h"
 #include "listener.h"
 #include "log.h"
@@ -19,13 +20,14 @@
 #include "signals.h"
 
 // PATIENCE: how long a front end may take for the rest of a message, in milliseconds, and for its first one where another wants its place.
-enum { EVENT_SIGNAL = 2000, EVENT_LISTENER = 2001, EVENTS = 32, REFUSED = 1, WRONG_WORDS = 2, WHY = 500, PATIENCE = 5000 };
+enum { EVENT_SIGNAL = 2000, EVENT_LISTENER = 2001, EVENT_CONTROL = 2002, EVENT_CLIENT = 2003, EVENTS = 32, REFUSED = 1, WRONG_WORDS = 2, WHY = 500, PATIENCE = 5000 };
 
 struct daemon {
   struct options options;
   struct disks disks;
   struct session session;
-  struct listener listener;
+  struct listener listener, operators;
+  struct control control;
   unsigned long sessions;
   bool connected;
   uint64_t owed_after;  // how many messages the session had read when it began to wait for one
@@ -87,6 +89,22 @@ static void take_front_end(struct daemon *daemon) {
   log_say(LOG_NOTE, NULL, "another front end came, and was refused");
 }
 
+// Takes a client of the control socket. Others wait until it is gone.
+static void take_client(struct daemon *daemon) {
+  if (daemon->control.client >= 0) return;
+  int fd = accept4(daemon->operators.fd, NULL, NULL, SOCK_CLOEXEC | SOCK_NONBLOCK);
+  if (fd < 0) return;
+  control_take(&daemon->control, fd);
+  epoll_ctl(daemon->epoll, EPOLL_CTL_DEL, daemon->operators.fd, NULL);
+  if (!watch(daemon->epoll, fd, EVENT_CLIENT)) control_end(&daemon->control);
+  if (daemon->control.client < 0) watch(daemon->epoll, daemon->operators.fd, EVENT_CONTROL);
+}
+
+static void serve_client(struct daemon *daemon) {
+  const struct controlled controlled = {&daemon->disks, daemon->connected ? &daemon->session : NULL, daemon->sessions};
+  if (!control_serve(&daemon->control, &controlled)) watch(daemon->epoll, daemon->operators.fd, EVENT_CONTROL);
+}
+
 // Returns how many milliseconds the front end has left for a message that it owes, or -1 where there is no such limit.
 static int patience(struct daemon *daemon) {
   struct session *session = &daemon->session;
@@ -106,18 +124,21 @@ static int patience(struct daemon *daemon) {
 
 // Does what a few events ask for. Returns false where the daemon is to end.
 static bool take_events(struct daemon *daemon, const struct epoll_event *events, int count) {
-  bool stands = true, comes = false;
+  bool stands = true, comes = false, asks = daemon->control.waits;
   for (int i = 0; i < count; i++) {
     uint32_t what = events[i].data.u32;
     enum signal_read came = what == EVENT_SIGNAL ? signals_read(daemon->signals) : SIGNAL_NONE;
     if (came == SIGNAL_END) return false;
     if (came == SIGNAL_LOG) log_reopen();
     else if (what == EVENT_LISTENER) comes = true;
+    else if (what == EVENT_CONTROL) take_client(daemon);
+    else if (what == EVENT_CLIENT) asks = true;
     else if (daemon->connected && what == EVENT_SOCKET) stands = session_read(&daemon->session) && stands;
     else if (daemon->connected && what < EVENT_SIGNAL) session_kicked(&daemon->session, what);
   }
   if (daemon->connected && stands && daemon->session.more) stands = session_serve(&daemon->session);
   if (daemon->connected && !stands) end_session(daemon, "the session is over");
+  if (asks && daemon->control.client >= 0) serve_client(daemon);
   if (comes) take_front_end(daemon);
   return true;
 }
@@ -147,9 +168,12 @@ static bool open_all(struct daemon *daemon, char *why, size_t room) {
   if (!sandbox_find(&owner, options->user, options->group, why, room)) return false;
   if (has_path ? !listener_can_bind(options->path, why, room) : !listener_take(&daemon->listener, options->fd, why, room)) return false;
   if (!images_open(&daemon->disks, why, room)) return false;
-  bool stands = images_make(&daemon->disks, owner.user, owner.group, why, room) && blocks_load(&daemon->disks, why, room) &&
+  bool stands = images_make(&daemon->disks, owner.user, owner.group, why, room) &&
+                (daemon->disks.moves || blocks_load(&daemon->disks, why, room)) &&
                 (!has_path || listener_bind(&daemon->listener, options->path, options->mode, owner.user, owner.group, why, room)) &&
-                sandbox_become(&owner, why, room) && (!options->limits || sandbox_limit(options->path, options->log, why, room));
+                (!options->control || listener_bind(&daemon->operators, options->control, 0600, owner.user, owner.group, why, room)) &&
+                sandbox_become(&owner, why, room) &&
+                (!options->limits || sandbox_limit(options->path, options->control, options->log, why, room));
   if (!stands) images_undo(&daemon->disks);
   return stands;
 }
@@ -177,7 +201,9 @@ static int run(struct daemon *daemon) {
   } else if (!watch(daemon->epoll, daemon->listener.fd, EVENT_LISTENER)) {
     return refuse(strerror(errno));
   }
+  if (daemon->operators.fd >= 0 && !watch(daemon->epoll, daemon->operators.fd, EVENT_CONTROL)) return refuse(strerror(errno));
   bool served = serve(daemon);
+  control_end(&daemon->control);
   if (daemon->connected) end_session(daemon, "the daemon ends");
   if (!blocks_finish(&daemon->disks, why, sizeof why)) return refuse(why);
   return served ? 0 : REFUSED;
@@ -193,7 +219,8 @@ static bool hold_standard(void) {
 int main(int count, char **words) {
   struct daemon *daemon = hold_standard() ? calloc(1, sizeof *daemon) : NULL;
   if (!daemon) return REFUSED;
-  *daemon = (struct daemon){.listener.fd = -1, .epoll = -1, .signals = -1};
+  *daemon = (struct daemon){.listener.fd = -1, .operators.fd = -1, .epoll = -1, .signals = -1};
+  control_begin(&daemon->control);
   enum wanted wanted = options_read(&daemon->options, &daemon->disks, count, words);
   int status = wanted == WANTED_WRONG ? WRONG_WORDS : 0;
   if (wanted == WANTED_RUN && !log_open(daemon->options.log, daemon->options.quiet)) {
@@ -201,7 +228,8 @@ int main(int count, char **words) {
     status = REFUSED;
   } else if (wanted == WANTED_RUN) {
     status = run(daemon);
-    if (!listener_close(&daemon->listener)) log_say(LOG_ERROR, NULL, "the socket's path stays: %s", strerror(errno));
+    bool gone = listener_close(&daemon->listener);
+    if (!listener_close(&daemon->operators) || !gone) log_say(LOG_ERROR, NULL, "the socket's path stays: %s", strerror(errno));
     log_close();
   }
   if (daemon->signals >= 0) close(daemon->signals);

@@ -106,9 +106,15 @@ bool memory_set(struct region *region, uint64_t size, uint64_t offset, int descr
   return true;
 }
 
+void memory_mark(const struct memory *memory, uint64_t guest, uint64_t count) {
+  uint64_t last = count ? (guest + count - 1) / PAGE : 0;
+  for (uint64_t page = guest / PAGE; count && page <= last && page / 8 < memory->log.size; page++)
+    __atomic_fetch_or(memory->log.at + page / 8, (uint8_t)(1 << page % 8), __ATOMIC_RELEASE);
+}
+
 bool memory_blank(const struct memory *memory, const void *at) {
-  for (size_t i = 0; i <= memory->count; i++) {
-    const struct region *region = i < memory->count ? &memory->regions[i] : &memory->places;
+  for (size_t i = 0; i < memory->count + 2; i++) {
+    const struct region *region = i < memory->count ? &memory->regions[i] : i == memory->count ? &memory->places : &memory->log;
     uintptr_t first = (uintptr_t)region->map;
     if ((uintptr_t)at < first || (uintptr_t)at - first >= region->mapped) continue;
     int flags = MAP_PRIVATE | MAP_ANONYMOUS | MAP_NORESERVE | MAP_FIXED;

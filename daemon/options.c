@@ -10,6 +10,7 @@
 #include <unistd.h>
 
 #include "backend.h"
+#include "control.h"
 #include "sandbox.h"
 
 #ifndef VSCSI_DAEMON_VERSION
@@ -17,6 +18,8 @@
 #define TEXT(number) TEXT_OF(number)
 #define VSCSI_DAEMON_VERSION TEXT(VSCSI_VERSION_MAJOR) "." TEXT(VSCSI_VERSION_MINOR) "." TEXT(VSCSI_VERSION_PATCH)
 #endif
+
+#define CAPABILITIES_OF "{\"type\": \"scsi\", \"features\": []}\n"
 
 static const char usage[] =
     "vscsi-vhost-user --socket PATH|--fd N --disk T:L=SIZE[,file=PATH][,grow][,snapshot][,detect-zeroes=unmap] ..\n"
@@ -33,6 +36,8 @@ static const char usage[] =
     "      detect-zeroes=unmap  zeros that the guest writes become holes of the file\n"
     "  --queues N           at most N request queues, 1 to 16\n"
     "  --poll               look at the rings of a busy guest all the time, which takes a processor\n"
+    "  --migratable         have the files only while a queue runs, so that the guest can move to another daemon\n"
+    "  --control PATH       listen there for vscsi-ctl\n"
     "  --user NAME          run as this user once all is open\n"
     "  --group NAME         run as this group\n"
     "  --seccomp on|off     limit what the process may do; on is the default\n"
@@ -40,7 +45,7 @@ static const char usage[] =
     "  --quiet              say errors alone\n"
     "  --help, --version, --print-capabilities\n";
 
-enum word { SOCKET = 256, FD, MODE, DISK, QUEUES, SHADOW, POLL, USER, GROUP, SECCOMP, LOG, QUIET, HELP, VERSION_WORD, CAPABILITIES };
+enum word { SOCKET = 256, FD, MODE, DISK, QUEUES, SHADOW, POLL, MIGRATABLE, CONTROL, USER, GROUP, SECCOMP, LOG, QUIET, HELP, VERSION_WORD, CAPABILITIES };
 
 static const struct option known[] = {{"socket", required_argument, NULL, SOCKET},
                                       {"socket-path", required_argument, NULL, SOCKET},
@@ -50,6 +55,8 @@ static const struct option known[] = {{"socket", required_argument, NULL, SOCKET
                                       {"queues", required_argument, NULL, QUEUES},
                                       {"shadow", no_argument, NULL, SHADOW},
                                       {"poll", no_argument, NULL, POLL},
+                                      {"migratable", no_argument, NULL, MIGRATABLE},
+                                      {"control", required_argument, NULL, CONTROL},
                                       {"user", required_argument, NULL, USER},
                                       {"group", required_argument, NULL, GROUP},
                                       {"seccomp", required_argument, NULL, SECCOMP},
@@ -78,6 +85,12 @@ static bool seccomp(struct options *options, const char *word) {
   return true;
 }
 
+static bool set_control(struct options *options, const char *path) {
+  if (!control_is_built()) return fputs("--control: this daemon is built without it\n", stderr), false;
+  options->control = path;
+  return true;
+}
+
 // Takes one word and what stands behind it.
 static bool take(struct options *options, struct disks *disks, int word, char *behind) {
   char why[500];
@@ -91,6 +104,8 @@ static bool take(struct options *options, struct disks *disks, int word, char *b
     case LOG: return options->log = behind, true;
     case SHADOW: return true;  // of older command lines: there are no modes any more
     case POLL: return options->polls = true;
+    case CONTROL: return set_control(options, behind);
+    case MIGRATABLE: return disks->moves = true;
     case QUIET: return options->quiet = true;
     case SECCOMP: return seccomp(options, behind);
     case QUEUES:
@@ -119,21 +134,28 @@ static bool is_whole(const struct options *options, const struct disks *disks) {
   if (!options->path == (options->fd < 0)) return fputs("say one of --socket PATH and --fd N\n", stderr), false;
   if (options->mode >= 0 && !options->path) return fputs("--mode is of the socket that --socket makes\n", stderr), false;
   if (!disks_are_whole(disks)) return fputs("there is no disk, or a target without LUN 0\n", stderr), false;
-  for (size_t i = 0; options->log && i < disks->count; i++) {
+  for (size_t i = 0; i < disks->count; i++) {
     const char *image = disks->disks[i].path;
-    if (image && is_same(image, options->log)) return fprintf(stderr, "--log %s: a disk is kept there\n", image), false;
+    bool is_kept = image && !disks->disks[i].read_only;
+    if (disks->moves && !is_kept) return fputs("--migratable: each disk has to be kept on a file\n", stderr), false;
+    if (image && options->log && is_same(image, options->log)) return fprintf(stderr, "--log %s: a disk is kept there\n", image), false;
   }
   return true;
 }
+
+const char *options_version(void) { return VSCSI_DAEMON_VERSION; }
 
 static bool print(const char *text) { return fputs(text, stdout) >= 0 && !fflush(stdout); }
 
 enum wanted options_read(struct options *options, struct disks *disks, int count, char **words) {
   int word;
   *options = (struct options){.fd = -1, .mode = -1, .queues = MOST_REQUEST_QUEUES, .limits = true};
+  // Other words are of no account then.
+  for (int i = 1; i < count; i++)
+    if (!strcmp(words[i], "--print-capabilities")) return print(CAPABILITIES_OF) ? WANTED_NOTHING : WANTED_WRONG;
   while ((word = getopt_long(count, words, "", known, NULL)) != -1) {
     if (word == HELP) return print(usage) ? WANTED_NOTHING : WANTED_WRONG;
-    if (word == CAPABILITIES) return print("{\"type\": \"scsi\", \"features\": []}\n") ? WANTED_NOTHING : WANTED_WRONG;
+    if (word == CAPABILITIES) return print(CAPABILITIES_OF) ? WANTED_NOTHING : WANTED_WRONG;
     if (word == VERSION_WORD) {
       const char *built = sandbox_has_seccomp() ? "with seccomp" : "without seccomp";
       return printf("vscsi-vhost-user %s\n%s\n", VSCSI_DAEMON_VERSION, built) > 0 && !fflush(stdout) ? WANTED_NOTHING : WANTED_WRONG;

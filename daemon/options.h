@@ -8,7 +8,7 @@ struct options {
   const char *path;  // of the socket, or NULL
   int fd;            // of a socket that was handed in, or below 0
   int mode;          // of the socket at `path`, or below 0: as the umask leaves it
-  const char *user, *group, *log;
+  const char *user, *group, *log, *control;
   unsigned queues;
   bool quiet, polls;
   bool limits;  // what the process may do
@@ -16,6 +16,9 @@ struct options {
 
 // What the command line wants: that the daemon runs; nothing more than what was printed; or it is wrong, and that was said.
 enum wanted { WANTED_RUN, WANTED_NOTHING, WANTED_WRONG };
+
+// Returns the daemon's version.
+const char *options_version(void);
 
 // Reads the command line. Prints on standard output what --help, --version and --print-capabilities ask for, and on standard error what
 // is wrong. Opens nothing.

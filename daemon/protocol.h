@@ -17,6 +17,8 @@ enum request {
   SET_OWNER = 3,
   RESET_OWNER = 4,
   SET_MEM_TABLE = 5,
+  SET_LOG_BASE = 6,
+  SET_LOG_FD = 7,
   SET_VRING_NUM = 8,
   SET_VRING_ADDR = 9,
   SET_VRING_BASE = 10,
@@ -40,8 +42,10 @@ enum request {
   GET_STATUS = 40
 };
 
+#define F_LOG_ALL (UINT64_C(1) << 26)
 #define F_PROTOCOL_FEATURES (UINT64_C(1) << 30)
 #define P_MQ (UINT64_C(1) << 0)
+#define P_LOG_SHMFD (UINT64_C(1) << 1)
 #define P_REPLY_ACK (UINT64_C(1) << 3)
 #define P_CONFIG (UINT64_C(1) << 9)
 #define P_INFLIGHT_SHMFD (UINT64_C(1) << 12)

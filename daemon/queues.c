@@ -7,7 +7,8 @@
 #include "rings.h"
 #include "session.h"
 
-enum { NO_DESCRIPTOR = 0x100 };
+// Flags of messages: that no descriptor comes with it, and that writes to the device area are logged.
+enum { NO_DESCRIPTOR = 0x100, IS_LOGGED = 1 };
 
 static void forget(int *fd) {
   if (*fd >= 0) close(*fd);
@@ -105,6 +106,7 @@ static bool start(struct session *session, unsigned q) {
   backend->packed = session->features & VSCSI_F_RING_PACKED;
   backend->event_index = session->features & VSCSI_F_EVENT_IDX;
   backend->indirect = session->features & VSCSI_F_INDIRECT_DESC;
+  backend->change = session->features & VSCSI_F_CHANGE;
   backend->waits = backend->keeps || backend->packed;
   backend->queues[q].fault = VSCSI_BROKEN_NOT;
   queue->told = false;
@@ -139,12 +141,16 @@ bool queue_set_addresses(struct session *session, const struct message *message)
   struct session_queue *queue = &session->queues[q];
   uint64_t desc = little_get(message->payload + 8, 8), device = little_get(message->payload + 16, 8),
            driver = little_get(message->payload + 24, 8);
-  // While it runs only a log of writes may change, and the daemon keeps none.
-  if (queue->started) return desc == queue->desc && driver == queue->driver && device == queue->device;
+  bool stays = desc == queue->desc && driver == queue->driver && device == queue->device;
+  // While it runs only its part in the log may change.
+  if (queue->started && !stays) return false;
   queue->desc = desc;
   queue->driver = driver;
   queue->device = device;
   queue->addressed = true;
+  bool is_logged = little_get(message->payload + 4, 4) & IS_LOGGED;
+  ring_set_log(&session->backend, (unsigned)q, is_logged, little_get(message->payload + 32, 8));
+  session_log(session);
   return true;
 }
 
@@ -158,7 +164,7 @@ bool queue_set_enable(struct session *session, const struct message *message) {
 
 // Returns whether a descriptor is an eventfd or another that has no file, or a pipe. A file may be one of the front end's own
 // file system, which has the daemon wait; and its own end of the connection would keep that open when the front end is gone.
-static bool is_event(int fd) {
+bool is_event(int fd) {
   struct stat stat;
   return !fstat(fd, &stat) && (!(stat.st_mode & S_IFMT) || S_ISFIFO(stat.st_mode));
 }
@@ -224,6 +230,7 @@ bool queue_get_base(struct session *session, const struct message *message) {
   ring_forget(backend, q);
   unwatch(session, queue);
   queue->started = queue->enabled = backend->queues[q].ready = false;
+  session_release(session);
   little_put(payload, q, 4);
   little_put(payload + 4, queue->base, 4);
   return protocol_reply(session->socket, message, payload, sizeof payload);

@@ -66,7 +66,7 @@ bool ring_set_base(struct backend *backend, unsigned q, uint32_t base) {
                                .used = base >> 16 & 0x7fff,
                                .available_wrapped = !(base >> 15 & 1),
                                .used_wrapped = !(base >> 31)};
-  queue->index = first->used;
+  queue->index = queue->logged = first->used;
   memset(queue->descriptors, 0, sizeof queue->descriptors);
   return !backend->packed || (first->available < queue->ring.size && first->used < queue->ring.size);
 }
@@ -176,6 +176,43 @@ void ring_forget(struct backend *backend, unsigned q) {
   if (place) put(&place->now, 0);
 }
 
+// Returns whether writes to a queue's device area are logged elsewhere than where it lies.
+static bool is_logged_elsewhere(const struct backend_queue *queue) {
+  return queue->is_logged && queue->logged_at != queue->ring.device;
+}
+
+// Logs a write of the daemon's to a queue's device area.
+static void log_device_area(const struct backend *backend, const struct backend_queue *queue, uint64_t from, uint64_t count) {
+  if (!backend->logs) return;
+  memory_mark(&backend->memory, queue->ring.device + from, count);
+  if (is_logged_elsewhere(queue)) memory_mark(&backend->memory, queue->logged_at + from, count);
+}
+
+// Returns how many chains the device gave back, modulo 65,536.
+static uint16_t used_of(const struct backend *backend, unsigned q) {
+  const struct backend_queue *queue = &backend->queues[q];
+  return ring_waits(backend, q) ? queue->index : load(queue->device_at + 2);
+}
+
+void rings_log(struct backend *backend) {
+  for (unsigned q = 0; !backend->packed && q < backend->count; q++) {
+    struct backend_queue *queue = &backend->queues[q];
+    if (!queue->ready || !is_logged_elsewhere(queue)) continue;
+    uint16_t now = used_of(backend, q);
+    if (queue->logged == now) continue;
+    for (; queue->logged != now; queue->logged++)
+      memory_mark(&backend->memory, queue->logged_at + 4 + 8 * (uint64_t)(queue->logged % queue->ring.size), 8);
+    if (!ring_waits(backend, q)) memory_mark(&backend->memory, queue->logged_at + 2, 2);
+  }
+}
+
+void ring_set_log(struct backend *backend, unsigned q, bool is_logged, uint64_t at) {
+  struct backend_queue *queue = &backend->queues[q];
+  queue->is_logged = is_logged;
+  queue->logged_at = at;
+  if (queue->ready) queue->logged = used_of(backend, q);
+}
+
 // Shows the used descriptors of a packed ring. Returns whether there were any.
 static bool show_packed(struct backend *backend, unsigned q) {
   struct backend_queue *queue = &backend->queues[q];
@@ -187,6 +224,7 @@ static bool show_packed(struct backend *backend, unsigned q) {
     if (place) put(&place->next, IS_NOTED | base_of(backend, &next));
     memcpy(slot_at(queue, first->used) + USED_AT, its + USED_AT, FLAGS_AT - USED_AT);
     store(slot_at(queue, first->used) + FLAGS_AT, load(its + FLAGS_AT));
+    if (backend->logs) memory_mark(&backend->memory, queue->ring.desc + (uint64_t)DESCRIPTOR * first->used, DESCRIPTOR);
     if (place) put(&place->now, IS_NOTED | base_of(backend, &next));
     *first = next;
   }
@@ -197,6 +235,7 @@ static bool show_split(struct backend *backend, unsigned q) {
   struct backend_queue *queue = &backend->queues[q];
   if (queue->index == queue->ring.first.used) return false;
   store(queue->device_at + 2, queue->index);
+  log_device_area(backend, queue, 2, 2);
   go_on(queue, queue->index);
   ring_note(backend, q);
   return true;
@@ -240,7 +279,8 @@ void ring_ask(struct backend *backend, unsigned q, bool notify) {
   uint16_t taken = q == EVENT_QUEUE ? load(memory_at(&backend->memory, queue->ring.driver + 2, 2))
                    : backend->waits ? queue->ring.first.available
                                     : load(queue->device_at + 2);
-  if (names) store(queue->device_at + 4 + 8 * (size_t)queue->ring.size, (uint16_t)(notify ? taken : taken + 0x8000));
-  else store(queue->device_at + (backend->packed ? 2 : 0), notify ? 0 : 1);
+  size_t at = names ? 4 + 8 * (size_t)queue->ring.size : backend->packed ? 2 : 0;
+  store(queue->device_at + at, (uint16_t)(!names ? !notify : notify ? taken : taken + 0x8000));
+  log_device_area(backend, queue, at, 2);
   __atomic_thread_fence(__ATOMIC_SEQ_CST);
 }

@@ -37,6 +37,12 @@ bool rings_next(struct backend *backend, uint64_t from, uint64_t end, struct vsc
 // driver that finds its function answered finds the requests answered too.
 uint32_t rings_show(struct backend *backend);
 
+// Has writes to a queue's device area logged as those from an address of the guest's on, besides where it lies, or not.
+void ring_set_log(struct backend *backend, unsigned q, bool is_logged, uint64_t at);
+
+// Logs what the device wrote to device areas that are logged elsewhere than where they lie. It logged all else itself.
+void rings_log(struct backend *backend);
+
 // Has each ring go on where the device does, but for those whose answers wait.
 void rings_end(struct backend *backend);
 

@@ -17,6 +17,7 @@
 
 #ifdef DAEMON_SECCOMP
 #include <seccomp.h>
+#include <linux/fs.h>
 #include <sys/mman.h>
 #endif
 
@@ -93,12 +94,13 @@ static bool allow_in(int rules, const char *path, __u64 access) {
   return allowed;
 }
 
-static bool limit_files(const char *socket, const char *log) {
+static bool limit_files(const char *socket, const char *control, const char *log) {
   const struct landlock_ruleset_attr handled = {.handled_access_fs = HANDLED};
   // A kernel without Landlock, or where it is switched off.
   if (syscall(SYS_landlock_create_ruleset, NULL, 0, LANDLOCK_CREATE_RULESET_VERSION) < 1) return true;
   int rules = (int)syscall(SYS_landlock_create_ruleset, &handled, sizeof handled, 0);
   files_are_limited = rules >= 0 && allow_in(rules, socket, LANDLOCK_ACCESS_FS_REMOVE_FILE) &&
+                      allow_in(rules, control, LANDLOCK_ACCESS_FS_REMOVE_FILE) &&
                       allow_in(rules, log, LANDLOCK_ACCESS_FS_WRITE_FILE | LANDLOCK_ACCESS_FS_MAKE_REG) &&
                       !syscall(SYS_landlock_restrict_self, rules, 0);
   int error = errno;
@@ -107,8 +109,9 @@ static bool limit_files(const char *socket, const char *log) {
   return files_are_limited;
 }
 #else
-static bool limit_files(const char *socket, const char *log) {
+static bool limit_files(const char *socket, const char *control, const char *log) {
   (void)socket;
+  (void)control;
   (void)log;
   return true;
 }
@@ -125,7 +128,7 @@ static const int calls[] = {
     SCMP_SYS(epoll_ctl), SCMP_SYS(epoll_wait), SCMP_SYS(epoll_pwait), SCMP_SYS(poll), SCMP_SYS(ppoll), SCMP_SYS(restart_syscall),
     SCMP_SYS(accept4), SCMP_SYS(recvmsg), SCMP_SYS(sendmsg), SCMP_SYS(sendto), SCMP_SYS(memfd_create), SCMP_SYS(ftruncate), SCMP_SYS(close), SCMP_SYS(read), SCMP_SYS(write), SCMP_SYS(writev),
     SCMP_SYS(pread64), SCMP_SYS(preadv2), SCMP_SYS(pwrite64), SCMP_SYS(lseek), SCMP_SYS(fcntl), SCMP_SYS(fstat), SCMP_SYS(fstatfs), SCMP_SYS(newfstatat),
-    SCMP_SYS(fallocate), SCMP_SYS(fdatasync), SCMP_SYS(rt_sigaction), SCMP_SYS(rt_sigprocmask), SCMP_SYS(rt_sigpending),
+    SCMP_SYS(fallocate), SCMP_SYS(fdatasync), SCMP_SYS(flock), SCMP_SYS(rt_sigaction), SCMP_SYS(rt_sigprocmask), SCMP_SYS(rt_sigpending),
     SCMP_SYS(rt_sigreturn), SCMP_SYS(getpid), SCMP_SYS(gettid), SCMP_SYS(exit), SCMP_SYS(exit_group)};
 
 // Allows one call where an argument has these bits, of those of a mask.
@@ -138,6 +141,7 @@ static int allow_some(scmp_filter_ctx filter, bool unlinks, bool opens) {
   const scmp_datum_t all = UINT32_MAX, flags = all & ~(scmp_datum_t)O_LARGEFILE;
   int failed = allow(filter, SCMP_SYS(mmap), 2, PROT_EXEC, 0);
   if (!failed) failed = allow(filter, SCMP_SYS(mprotect), 2, PROT_EXEC, 0);
+  if (!failed) failed = allow(filter, SCMP_SYS(ioctl), 1, all, BLKGETSIZE64);
   if (!failed) failed = allow(filter, SCMP_SYS(tgkill), 0, all, (scmp_datum_t)getpid());
   if (!failed && opens) failed = allow(filter, SCMP_SYS(openat), 2, flags, LOG_FLAGS);
   if (!failed && unlinks) failed = seccomp_rule_add(filter, SCMP_ACT_ALLOW, SCMP_SYS(unlinkat), 0);
@@ -165,12 +169,12 @@ static int limit_calls(bool unlinks, bool opens) {
 }
 #endif
 
-bool sandbox_limit(const char *socket, const char *log, char *why, size_t room) {
+bool sandbox_limit(const char *socket, const char *control, const char *log, char *why, size_t room) {
   const char *what = "files";
-  int failed = limit_files(socket, log) ? 0 : -errno;
+  int failed = limit_files(socket, control, log) ? 0 : -errno;
   if (!failed) {
     what = "system calls";
-    failed = limit_calls(socket, log);
+    failed = limit_calls(socket || control, log);
   }
   if (failed) snprintf(why, room, "%s can't be limited: %s; --seccomp off leaves that out", what, strerror(-failed));
   return !failed;

@@ -13,18 +13,20 @@
 #include "bytes.h"
 #include "clock.h"
 #include "guard.h"
+#include "images.h"
 #include "log.h"
 #include "rings.h"
 #include "space.h"
 
-#define OFFERED ((VSCSI_ACCEPTED_FEATURES & ~VSCSI_F_CHANGE) | F_PROTOCOL_FEATURES)
-// What QEMU has a driver agree to by itself: events of disks that come, go or change (VIRTIO 1.2, 5.6.3). The device tells none
-// of these.
-#define IGNORED (UINT64_C(1) << 1 | UINT64_C(1) << 2)
-#define OFFERED_PROTOCOL (P_MQ | P_REPLY_ACK | P_CONFIG | P_RESET_DEVICE | P_INFLIGHT_SHMFD | P_CONFIGURE_MEM_SLOTS | P_STATUS)
+#define OFFERED (VSCSI_ACCEPTED_FEATURES | F_PROTOCOL_FEATURES | F_LOG_ALL)
+// What QEMU may have a driver agree to by itself: events of disks that come or go (VIRTIO 1.2, 5.6.3). The device tells none of
+// these.
+#define IGNORED (UINT64_C(1) << 1)
+#define OFFERED_PROTOCOL \
+  (P_MQ | P_LOG_SHMFD | P_REPLY_ACK | P_CONFIG | P_RESET_DEVICE | P_INFLIGHT_SHMFD | P_CONFIGURE_MEM_SLOTS | P_STATUS)
 
 // How many messages of a session are taken before others of the daemon's descriptors are looked at.
-enum { MOST_MESSAGES = 64, WHY = 200, REGION_BYTES = 32, INFLIGHT_BYTES = 20, SPACE_HEAD = 12, MOST_SPACE = 256 };
+enum { MOST_MESSAGES = 64, WHY = 200, REGION_BYTES = 32, LOG_BYTES = 16, INFLIGHT_BYTES = 20, SPACE_HEAD = 12, MOST_SPACE = 256 };
 
 // Milliseconds: how often it is said that a file can't be written, and a ring is looked at that has no kick; how long a session
 // is served before others of the daemon's descriptors are looked at, but for one round; how long a session that ends has for a
@@ -44,6 +46,7 @@ bool session_begin(struct session *session, int socket, int epoll, struct disks 
                    bool quiet) {
   memset(session, 0, sizeof *session);
   session->socket = socket;
+  session->log_event = -1;
   session->epoll = epoll;
   session->request_queues = request_queues;
   session->quiet = quiet;
@@ -72,10 +75,11 @@ static bool reply_number(const struct session *session, const struct message *me
 static bool set_features(struct session *session, const struct message *message) {
   uint64_t features = little_get(message->payload, 8);
   if (message->size != 8 || features & ~(OFFERED | IGNORED)) return false;
-  // QEMU says them again when a log of writes begins or ends: the rings stand.
+  // A log of writes begins and ends while rings stand.
   for (unsigned q = 0; q < session->backend.count; q++)
-    if (session->queues[q].started && features != session->features) return false;
+    if (session->queues[q].started && (features ^ session->features) & ~F_LOG_ALL) return false;
   session->features = features;
+  session_log(session);
   return true;
 }
 
@@ -103,6 +107,7 @@ static bool set_memory(struct session *session, const struct message *message) {
     return false;
   }
   memory.places = backend->memory.places;
+  memory.log = backend->memory.log;
   backend_unmap(backend);
   memory_clear(&backend->memory);
   backend->memory = memory;
@@ -145,10 +150,42 @@ static bool give_places(struct session *session, const struct message *message) 
   return stands;
 }
 
+void session_log(struct session *session) {
+  bool logs = session->features & F_LOG_ALL;
+  for (unsigned q = 0; q < session->backend.count; q++) logs = logs || session->backend.queues[q].is_logged;
+  backend_log(&session->backend, logs);
+}
+
+// Takes the log, in place of the one before it, and says that it has it.
+static bool set_log(struct session *session, const struct message *message) {
+  struct region *log = &session->backend.memory.log;
+  bool taken = message->size == LOG_BYTES && message->fd_count == 1 &&
+               memory_set(log, little_get(message->payload, 8), little_get(message->payload + 8, 8), message->fds[0]);
+  if (!taken) return false;
+  session_log(session);
+  return reply_number(session, message, 0);
+}
+
+// Takes the descriptor by which the front end is told that the log has more.
+static bool set_log_event(struct session *session, struct message *message) {
+  if (message->fd_count != 1 || !is_event(message->fds[0])) return false;
+  if (session->log_event >= 0) close(session->log_event);
+  session->log_event = message_take(message, 0);
+  return true;
+}
+
+void session_release(const struct session *session) {
+  bool is_started = session->backend.device.live;
+  for (unsigned q = 0; q < session->backend.count; q++) is_started = is_started || session->queues[q].started;
+  if (!is_started) images_release(session->backend.disks);
+}
+
 static bool reset(struct session *session) {
   backend_end(&session->backend);
   for (unsigned q = 0; q < session->backend.count; q++) ring_forget(&session->backend, q);
   queues_reset(session);
+  session_log(session);
+  session_release(session);
   session->status = 0;
   return true;
 }
@@ -184,7 +221,8 @@ static bool get_config(const struct session *session, const struct message *mess
 // Whether the daemon knows this message, and whether it answers it itself: then there is no acknowledgement.
 static bool is_answered(uint32_t request) {
   return request == GET_FEATURES || request == GET_PROTOCOL_FEATURES || request == GET_QUEUE_NUM || request == GET_VRING_BASE ||
-         request == GET_CONFIG || request == GET_MAX_MEM_SLOTS || request == GET_STATUS || request == GET_INFLIGHT_FD;
+         request == GET_CONFIG || request == GET_MAX_MEM_SLOTS || request == GET_STATUS || request == GET_INFLIGHT_FD ||
+         request == SET_LOG_BASE;
 }
 
 static bool take(struct session *session, struct message *message) {
@@ -195,6 +233,8 @@ static bool take(struct session *session, struct message *message) {
     case RESET_OWNER:
     case RESET_DEVICE: return reset(session);
     case SET_MEM_TABLE: return set_memory(session, message);
+    case SET_LOG_BASE: return set_log(session, message);
+    case SET_LOG_FD: return set_log_event(session, message);
     case GET_MAX_MEM_SLOTS: return reply_number(session, message, MOST_REGIONS);
     case ADD_MEM_REG:
     case REM_MEM_REG: return change_memory(session, message);
@@ -424,6 +464,7 @@ static bool serve(struct session *session) {
     uint32_t owed = 0;
     backend->polls = session->polls && is_busy(session);
     served = backend_serve(backend, session->served, &owed);
+    if (backend->logs && backend->took) signal_fd(session->log_event);
     notify(session, owed);
     if (served == SERVED && session->polls && backend->took) served = MORE;
     if (served == MORE && !until) until = clock_now() + (session->polls ? POLL : LONGEST);
@@ -448,8 +489,12 @@ void session_end(struct session *session) {
   if (backend_is_busy(&session->backend)) leave(session);
   backend_end(&session->backend);
   queues_end(session);
+  session_release(session);
   memory_clear(&session->backend.memory);
   memory_set(&session->backend.memory.places, 0, 0, -1);
+  memory_set(&session->backend.memory.log, 0, 0, -1);
+  if (session->log_event >= 0) close(session->log_event);
+  session->log_event = -1;
   guard_begin(NULL);
   reader_end(&session->reader);
   if (session->is_waiting) message_close(&session->waiting);

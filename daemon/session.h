@@ -16,6 +16,7 @@ struct session_queue {
 
 struct session {
   int socket, epoll;
+  int log_event;  // by which the front end is told that the log has more, or below 0
   unsigned request_queues;
   struct reader reader;
   struct backend backend;
@@ -67,6 +68,15 @@ bool queue_set_kick(struct session *session, struct message *message);
 bool queue_set_call(struct session *session, struct message *message);
 bool queue_set_err(struct session *session, struct message *message);
 bool queue_get_base(struct session *session, const struct message *message);
+
+// Returns whether a descriptor is one by which events are told.
+bool is_event(int fd);
+
+// Lets go of the files of disks that move, where no queue is started.
+void session_release(const struct session *session);
+
+// Begins or ends to log what is written, as the front end said last.
+void session_log(struct session *session);
 
 // Looks for the areas of all started rings in the guest's memory, after it changed, and has the device work in it. Where one
 // isn't there the ring breaks, or, where `breaks` is false, none is served until it is there again.

@@ -277,7 +277,7 @@ void front_agree(struct front *front) {
     size_t length = front_reply(front, payload, sizeof payload);
     uint32_t request = (uint32_t)little_get(sent[i].bytes, 4);
     if (request == GET_FEATURES)
-      MUST(little_get(payload, 8) == ((VSCSI_ACCEPTED_FEATURES & ~VSCSI_F_CHANGE) | F_PROTOCOL_FEATURES));
+      MUST(little_get(payload, 8) == (VSCSI_ACCEPTED_FEATURES | F_PROTOCOL_FEATURES | F_LOG_ALL));
     else if (request == GET_QUEUE_NUM) MUST(little_get(payload, 8) == QUEUES);
     else if (request == GET_CONFIG)
       MUST(length == 48 && little_get(payload + 12, 4) == QUEUES - 2 && little_get(payload + 12 + 24, 4) == 32);

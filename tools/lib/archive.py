@@ -15,6 +15,9 @@ BUILT = ROOT / "out/gate"
 DOCUMENTS = "share/doc/vscsi"
 SUMS = f"{DOCUMENTS}/SHA256SUMS"
 
+# Programs that are built where their libraries are.
+CLIENTS = ("vscsi-ctl",)
+
 # The documents at the top of the repository that a user reads.
 PAGES = ("README.md", "CHANGELOG.md", "SECURITY.md", "CONTRIBUTING.md")
 
@@ -57,7 +60,8 @@ def put_documents(folder, facts):
     for page, section in manuals():
         (folder / f"share/man/man{section}").mkdir(parents=True, exist_ok=True)
         shutil.copy(page, folder / f"share/man/man{section}")
-    shutil.copytree(ROOT / "daemon/systemd", documents / "systemd")
+    for part in ("systemd", "vhost-user"):
+        shutil.copytree(ROOT / "daemon" / part, documents / part)
     (documents / "PROVED").write_text(proved(facts))
 
 
@@ -74,8 +78,9 @@ def stage(folder, facts):
     tool.install(BUILT, "", str(folder))
     (folder / "lib/pkgconfig/vscsi.pc").write_text(tool.package("${pcfiledir}/../.."))
     (folder / "bin").mkdir()
-    for program in ("vscsi", "vscsi-vhost-user"):
-        shutil.copy(BUILT / "static" / program, folder / "bin")
+    for program in ("vscsi", "vscsi-vhost-user", *CLIENTS):
+        if program not in CLIENTS or (BUILT / "static" / program).is_file():
+            shutil.copy(BUILT / "static" / program, folder / "bin")
     put_documents(folder, facts)
     put_sums(folder)
 

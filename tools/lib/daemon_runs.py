@@ -23,6 +23,7 @@ from pathlib import Path
 from front_end import QUEUE, FrontEnd
 
 DOCS = Path(__file__).resolve().parent.parent.parent / "docs"
+DESCRIPTION = DOCS.parent / "daemon/vhost-user/50-vscsi.json"
 MIB = 1 << 20
 GET_FEATURES, SET_OWNER, SET_VRING_CALL = 1, 3, 13
 # QEMU's bytes: a permission that is used is 100 and its bit, one that isn't shared 200 and its bit.
@@ -32,8 +33,8 @@ READS, WRITES, RESIZES = 0, 1, 3
 class Room:
     """Where a test runs: a folder of its own, the daemon, and what was built beside it."""
 
-    def __init__(self, folder, program, shim=None):
-        self.folder, self.program, self.shim = folder, program, shim
+    def __init__(self, folder, program, shim=None, client=None):
+        self.folder, self.program, self.shim, self.client = folder, program, shim, client
         self.socket = folder / "socket"
         # What the daemon does within a second has this long, since the machine may be busy; sanitizers look for leaks at the end.
         self.late = 2 if shim else 10
@@ -206,7 +207,15 @@ def test_words(room):
     usage = room.ends("--help", status=0)
     assert all(word in usage for word in ("--socket", "--disk", "--user", "--log", "snapshot", "grow"))
     assert re.fullmatch(r"vscsi-vhost-user \d+\.\d+\S*\nwith(out)? seccomp\n", room.ends("--version", status=0))
-    assert json.loads(room.ends("--print-capabilities", status=0)) == {"type": "scsi", "features": []}
+
+
+def test_conventions(room):
+    """What QEMU's conventions of back ends ask for: capabilities, whatever the other words are, and a file that describes the program."""
+    for words in ([], ["--disk", "wrong", "--fd"], ["x", "--x"]):
+        assert json.loads(room.ends(*words, "--print-capabilities", status=0)) == {"type": "scsi", "features": []}
+        assert json.loads(room.ends("--print-capabilities", *words, status=0)) == {"type": "scsi", "features": []}
+    described = json.loads(DESCRIPTION.read_text())
+    assert described["type"] == "scsi" and described["binary"] == "/usr/bin/vscsi-vhost-user" and described["description"]
 
 
 def test_documents(room):
@@ -893,6 +902,168 @@ def test_hardened(room):
     return None
 
 
+# The control socket, and guests that move.
+
+
+class Asking:
+    """A client of the control socket, line by line."""
+
+    def __init__(self, path):
+        self.connection = connected(path)
+        self.lines = self.connection.makefile("r")
+
+    def __enter__(self):
+        return self
+
+    def __exit__(self, *_):
+        self.lines.close()
+        self.connection.close()
+
+    def say(self, line, files=()):
+        """Sends a line, and gives what it returns, or the name of its error."""
+        socket.send_fds(self.connection, [line.encode() + b"\n"], list(files))
+        answer = json.loads(self.lines.readline())
+        return answer["error"]["name"] if "error" in answer else answer["return"]
+
+    def ask(self, command, files=(), **arguments):
+        return self.say(json.dumps({"execute": command, **({"arguments": arguments} if arguments else {})}), files)
+
+
+def test_control_words(room):
+    """The control socket is its owner's, refuses by name what it doesn't know, and goes with the daemon."""
+    path = room.folder / "control"
+    if not room.client:
+        room.ends("--socket", room.socket, "--disk", "0:0=1M", "--control", path, status=2, says="built without")
+        return "no libjansson-dev"
+    with room.runs("--disk", "0:0=1M", "--control", path):
+        assert stat.S_IMODE(path.stat().st_mode) == 0o600
+        with Asking(path) as asking:
+            wrong = ["", "{", "[]", "1", "{}", '{"execute":1}', '{"execute":"stats","more":1}', '{"execute":"stats","execute":"stats"}', "\x80", '{"execute":"reset"}']
+            assert [asking.say(line) for line in wrong] == ["BadRequest"] * len(wrong)
+            assert asking.ask("quit") == "NoCommand" and asking.ask("reset", disk="0:1") == "NoDisk" and asking.ask("reset", disk="0:0x") == "NoDisk"
+            assert [asking.ask("resize", disk="0:0", size=size) for size in (0, -512, 513, "1M", 1 << 60)] == ["BadSize"] * 5
+            assert asking.ask("reset", disk="0:0") == "NoDevice" and asking.ask("resize", disk="0:0", size=512) == "NoDevice"
+            assert asking.ask("stats")["disks"][0]["disk"] == "0:0"
+            # Two lines at once, and one in two parts.
+            asking.connection.sendall(b'{"execute":"stats"}\n{"execute":"no"}\n{"execute":')
+            assert "return" in asking.lines.readline() and "NoCommand" in asking.lines.readline()
+            asking.connection.sendall(b'"stats"}\n')
+            assert "return" in asking.lines.readline()
+            # Another client waits until this one is gone.
+            with Asking(path) as other:
+                other.connection.sendall(b'{"execute":"stats"}\n')
+                asking.connection.sendall(b"x" * 4096)
+                assert "BadRequest" in asking.lines.readline() and asking.lines.readline() == ""
+                assert "return" in other.lines.readline()
+        for words, status in ((["stats"], 0), (["reset", "0:0"], 1), (["resize", "0:0", "x"], 2), (["stats", "0:0"], 2), ([], 2)):
+            assert subprocess.run([room.client, path, *words], capture_output=True).returncode == status, words
+    assert not path.exists()
+    return None
+
+
+def test_control_disks(room):
+    """Disks come, go and get other sizes while there is no front end, also within the daemon's limits."""
+    if not room.client:
+        return "no libjansson-dev"
+    path, log = room.folder / "control", room.folder / "log"
+    one, two = room.file("one.img"), room.folder / "two,img"
+
+    def asks(*words, status=0):
+        run = subprocess.run([room.client, path, *words], capture_output=True, text=True)
+        assert run.returncode == status, (words, run.stdout, run.stderr)
+        return json.loads(run.stdout) if run.stdout else None
+
+    with room.runs("--disk", f"0:0=1M,file={one}", "--control", path, "--log", log):
+        asks("attach", "0:1=1M")
+        asks("attach", f"0:2=2M,file={str(two).replace(',', ',,')},grow")
+        asks("attach", f"1:0=file={room.file('three.img')},snapshot")
+        assert two.stat().st_size == 2 * MIB and stat.S_IMODE(two.stat().st_mode) == 0o600
+        assert [it["disk"] for it in asks("stats")["return"]["disks"]] == ["0:0", "0:1", "0:2", "1:0"]
+        for words in ("0:1=1M", "2:1=1M", "0:3=1X", f"0:3=1M,file={one}", f"0:3=3M,file={room.folder / 'three.img'}"):
+            assert asks("attach", words, status=1)["error"]["name"] == "BadDisk", words
+        assert asks("detach", "0:0", status=1)["error"]["name"] == "BadDisk" and asks("detach", "0:9", status=1)["error"]["name"] == "NoDisk"
+        with two.open("r+b") as file:
+            assert is_locked(file, 100 + WRITES)
+            asks("detach", "0:2")
+            assert not is_locked(file, 100 + WRITES)
+        asks("resize", "0:0", "3M")
+        assert one.stat().st_size == 3 * MIB and asks("stats")["return"]["disks"][0]["bytes"] == 3 * MIB
+        with Asking(path) as asking, one.open("rb") as file:
+            assert asking.ask("attach", disk="0:4=1M", files=[file.fileno()]) == "BadDisk"
+            assert asking.ask("attach", disk=f"0:4=file={one}") == "BadDisk"
+            assert asking.ask("attach", disk=f"0:4=file={one}", files=[file.fileno()]) == "BadDisk"
+        with connected(room.socket) as front:
+            assert is_served(front)
+            assert asks("attach", "0:4=1M", status=1)["error"]["name"] == "InUse" and asks("detach", "0:1", status=1)["error"]["name"] == "InUse"
+        wait_for(lambda: not asks("stats")["return"]["front-end"], "the end of the session")
+        asks("detach", "0:1")
+        with FrontEnd(connected(room.socket)) as front:
+            # Beyond what the disk had at first.
+            front.write(5000, b"a" * 512)
+            wait_for(lambda: front.answered() == 1, "a WRITE")
+            assert front.status(0) == 0
+    assert one.read_bytes()[5000 * 512 :][:512] == b"a" * 512
+    return None
+
+
+def test_control_live(room):
+    """What a guest did is counted, and its disk is resized and reset while it runs."""
+    if not room.client:
+        return "no libjansson-dev"
+    path, disk = room.folder / "control", room.file("disk.img")
+    with room.runs("--disk", f"0:0=1M,file={disk}", "--disk", "0:1=1M", "--control", path, "--quiet"), Asking(path) as asking:
+        with FrontEnd(connected(room.socket)) as front:
+            def writes(block, lun=0):
+                """Writes a block, and gives the status: behind a change of the disk the next command tells of that."""
+                before = front.answered()
+                front.write(block, b"a" * 512, lun)
+                wait_for(lambda: front.answered() == before + 1, "a WRITE")
+                return front.status(before)
+
+            assert writes(0) == 0 and writes(0, 1) == 0 and writes(3000) == 2
+            told = asking.ask("stats")
+            assert told["device"] and told["front-end"] and told["sessions"] == 1 and told["broken-queues"] == []
+            first = told["disks"][0]
+            assert (first["requests"], first["good"], first["check-condition"], first["data-out"]) == (2, 1, 1, 512) and first["error"] is None
+            assert asking.ask("resize", disk="0:0", size=2 * MIB) == {} and disk.stat().st_size == 2 * MIB
+            assert writes(3000) == 2 and writes(3000) == 0
+            assert asking.ask("resize", disk="0:1", size=2 * MIB) == {} and writes(3000, 1) == 2 and writes(3000, 1) == 0
+            assert asking.ask("resize", disk="0:0", size=MIB // 2) == {} and disk.stat().st_size == MIB // 2
+            assert [writes(block) for block in (1023, 1024, 1023)] == [2, 2, 0]
+            assert asking.ask("reset", disk="0:0") == {} and writes(0) == 2 and writes(0) == 0
+        wait_for(lambda: not asking.ask("stats")["front-end"], "the end of the session")
+        told = asking.ask("stats")
+        assert not told["device"] and told["disks"][0]["requests"] == 9 and told["disks"][1]["requests"] == 3
+    kept = disk.read_bytes()
+    assert len(kept) == MIB // 2 and kept[1023 * 512 :] == b"a" * 512
+
+
+def test_migratable(room):
+    """Of two daemons with one file each has it while its queue runs, and finds what the other one left."""
+    disk, others = room.file("disk.img"), room.folder / "others"
+    room.ends("--socket", room.socket, "--disk", "0:0=1M", "--migratable", status=2, says="--migratable")
+    room.ends("--socket", room.socket, "--disk", f"0:0=1M,file={disk},snapshot", "--migratable", status=2, says="--migratable")
+    words = ["--disk", f"0:0=1M,file={disk}", "--migratable"]
+    with room.runs(*words), room.runs(*words, path=others), disk.open("rb") as file:
+        assert not is_locked(file, 100 + WRITES)
+        with FrontEnd(connected(room.socket)) as front, FrontEnd(connected(others)) as other:
+            front.write(7, b"a" * 4096)
+            wait_for(lambda: front.answered() == 1, "a WRITE")
+            assert is_locked(file, 100 + WRITES)
+            other.write(8, b"b" * 512)
+            time.sleep(0.3)
+            assert other.answered() == 0 and other.asks()
+            assert front.stop() == 1 and disk.read_bytes()[7 * 512 :][:4096] == b"a" * 4096
+            wait_for(lambda: other.answered() == 1, "the other one's WRITE")
+            # The first one's blocks are no more those that it had.
+            assert other.stop() == 1 and not is_locked(file, 100 + WRITES)
+            front.start(1)
+            front.read(8, 1024)
+            wait_for(lambda: front.answered() == 2, "a READ")
+            assert front.data(1, 1024) == b"b" * 512 + b"a" * 512
+        wait_for(lambda: not is_locked(file, 100 + WRITES), "the end of the session")
+
+
 SHIM = r"""
 #define _GNU_SOURCE
 #include <errno.h>
@@ -943,7 +1114,7 @@ def make_shim(folder):
 TESTS = [it for name, it in list(globals().items()) if name.startswith("test_")]
 
 
-def run_all(folder, program, shim=None, wanted=()):
+def run_all(folder, program, shim=None, wanted=(), client=None):
     """Runs all tests, or those that are named, each in a folder of its own. Gives how many failed."""
     failed = 0
     for test in TESTS:
@@ -953,7 +1124,7 @@ def run_all(folder, program, shim=None, wanted=()):
         place = folder / test.__name__
         place.mkdir()
         try:
-            skipped = test(Room(place, program, shim))
+            skipped = test(Room(place, program, shim, client))
             print(f"{name}: {f'left out: {skipped}' if skipped else 'passed'}", flush=True)
         except (AssertionError, OSError, subprocess.TimeoutExpired) as fault:
             failed += 1

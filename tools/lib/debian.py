@@ -123,7 +123,10 @@ def put_development(root, _):
 
 def put_daemon(root, _):
     """Puts the daemon with its unit, its user and the folder of its words."""
-    put_program(root, "vscsi-vhost-user")
+    for program in ("vscsi-vhost-user", *archive.CLIENTS):
+        if (archive.BUILT / "dynamic" / program).is_file():
+            put_program(root, program)
+    put(root, "usr/share/qemu/vhost-user", ROOT / "daemon/vhost-user/50-vscsi.json")
     put(root, "lib/systemd/system", ROOT / "daemon/systemd/vscsi-vhost-user@.service")
     put(root, "usr/lib/sysusers.d", ROOT / "daemon/systemd/vscsi-vhost-user.conf")
     put(root, "usr/share/doc/vscsi-vhost-user", ROOT / "docs/DAEMON.md", ROOT / "docs/RELEASE.md")

@@ -7,6 +7,7 @@ import struct
 
 # Messages of vhost-user, and features.
 SET_FEATURES, SET_OWNER, SET_MEM_TABLE, SET_VRING_NUM, SET_VRING_ADDR, SET_VRING_BASE, SET_VRING_KICK = 2, 3, 5, 8, 9, 10, 12
+GET_VRING_BASE = 11
 GET_FEATURES = 1
 VERSION_1 = 1 << 32
 
@@ -27,10 +28,7 @@ class FrontEnd:
         self.say(SET_OWNER)
         self.say(SET_FEATURES, struct.pack("<Q", VERSION_1))
         self.say(SET_MEM_TABLE, struct.pack("<IIQQQQ", 1, 0, 0, MEMORY, 0, 0), [descriptor])
-        self.say(SET_VRING_NUM, struct.pack("<II", QUEUE, SIZE))
-        self.say(SET_VRING_BASE, struct.pack("<II", QUEUE, 0))
-        self.say(SET_VRING_ADDR, struct.pack("<IIQQQQ", QUEUE, 0, DESCRIPTORS, USED, AVAILABLE, 0))
-        self.say(SET_VRING_KICK, struct.pack("<Q", QUEUE), [self.kick])
+        self.start(0)
         os.close(descriptor)
 
     def __enter__(self):
@@ -45,18 +43,34 @@ class FrontEnd:
         """Sends a message."""
         socket.send_fds(self.connection, [struct.pack("<III", request, 1, len(payload)) + payload], list(descriptors))
 
+    def start(self, base):
+        """Has the queue begin at an index."""
+        self.say(SET_VRING_NUM, struct.pack("<II", QUEUE, SIZE))
+        self.say(SET_VRING_BASE, struct.pack("<II", QUEUE, base))
+        self.say(SET_VRING_ADDR, struct.pack("<IIQQQQ", QUEUE, 0, DESCRIPTORS, USED, AVAILABLE, 0))
+        self.say(SET_VRING_KICK, struct.pack("<Q", QUEUE), [self.kick])
+
+    def stop(self):
+        """Stops the queue, and gives the index where it goes on."""
+        self.say(GET_VRING_BASE, struct.pack("<II", QUEUE, 0))
+        return struct.unpack("<IIIII", self.connection.recv(20))[4]
+
     def asks(self):
         """Asks for the daemon's features, and waits for them."""
         self.say(GET_FEATURES)
         return struct.unpack("<IIIQ", self.connection.recv(20))[3]
 
-    def put(self, block, data=b"", lun=0):
-        """Makes a request of a disk of target 0 available, with these data, and kicks. A request takes three descriptors."""
+    def put(self, block, data=b"", lun=0, writable=0):
+        """Makes a request of a disk of target 0 available, with these data, or room for so many bytes, and kicks. A request takes three
+        descriptors.
+        """
         number, first = self.count, 3 * (self.count % (SIZE // 4))
         at, room = REQUESTS + 0x200 * number, DATA + 0x1000 * number
         self.memory[at : at + HEAD] = (bytes([1, 0, 0x40, lun]) + bytes(15) + block).ljust(HEAD, b"\0")
         self.memory[room : room + len(data)] = data
         parts = ((at, HEAD, 1, first + 1), (room, len(data), 1, first + 2), (at + 0x100, RESPONSE, 2, 0))
+        if writable:
+            parts = ((at, HEAD, 1, first + 1), (at + 0x100, RESPONSE, 3, first + 2), (room, writable, 2, 0))
         for place, part in enumerate(parts, first):
             self.memory[DESCRIPTORS + 16 * place : DESCRIPTORS + 16 * place + 16] = struct.pack("<QIHH", *part)
         entry = AVAILABLE + 4 + 2 * (number % SIZE)
@@ -68,6 +82,18 @@ class FrontEnd:
     def write(self, lba, data, lun=0):
         """Makes a WRITE available."""
         self.put(struct.pack(">BBIBHB", 0x2A, 0, lba, 0, len(data) // BLOCK, 0), data, lun)
+
+    def read(self, lba, length, lun=0):
+        """Makes a READ available."""
+        self.put(struct.pack(">BBIBHB", 0x28, 0, lba, 0, length // BLOCK, 0), lun=lun, writable=length)
+
+    def status(self, number):
+        """The status of a request that was answered."""
+        return self.memory[REQUESTS + 0x200 * number + 0x100 + 10]
+
+    def data(self, number, length):
+        """The data of a READ."""
+        return self.memory[DATA + 0x1000 * number : DATA + 0x1000 * number + length]
 
     def refused_unmap(self):
         """Makes an UNMAP available that has more descriptors than are taken, so that the library tells of any block."""

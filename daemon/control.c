@@ -1,0 +1,254 @@
+#include "control.h"
+
+#include <errno.h>
+#include <stdio.h>
+#include <stdlib.h>
+#include <string.h>
+#include <sys/socket.h>
+#include <unistd.h>
+
+#include "blocks.h"
+#include "clock.h"
+#include "images.h"
+#include "options.h"
+
+#ifdef DAEMON_CONTROL
+#include <jansson.h>
+
+// PATIENCE: milliseconds that a request waits for the end of a round.
+enum { WHY = 300, PATIENCE = 5000 };
+
+bool control_is_built(void) { return true; }
+
+// An answer that is an error: its name and what it says.
+static json_t *error(const char *name, const char *text) { return json_pack("{s:{s:s,s:s}}", "error", "name", name, "text", text); }
+
+static json_t *done(void) { return json_pack("{s:{}}", "return"); }
+
+// Finds the disk that words T:L name. Returns false where there is none.
+static bool find(const struct disks *disks, const char *words, size_t *which) {
+  unsigned target, lun;
+  int end = 0;
+  if (sscanf(words, "%u:%u%n", &target, &lun, &end) != 2 || words[end]) return false;
+  for (*which = 0; *which < disks->count; ++*which)
+    if (disks->disks[*which].target == target && disks->disks[*which].lun == lun) return true;
+  return false;
+}
+
+static struct backend *live(const struct controlled *controlled) {
+  struct session *session = controlled->session;
+  return session && session->backend.device.live ? &session->backend : NULL;
+}
+
+// Returns whether a request has to wait, since answers do.
+static bool must_wait(const struct controlled *controlled) {
+  const struct backend *backend = live(controlled);
+  return backend && backend->waits && backend_is_busy(backend);
+}
+
+static json_t *stats_of(const struct controlled *controlled, size_t which) {
+  const struct disk *disk = &controlled->disks->disks[which];
+  const struct backend *backend = live(controlled);
+  struct vscsi_counts counts = disk->counts;
+  char name[20];
+  if (backend) backend_count(backend, which, &counts);
+  snprintf(name, sizeof name, "%u:%u", disk->target, disk->lun);
+  return json_pack("{s:s,s:I,s:s?,s:s?,s:I,s:I,s:I,s:I,s:I,s:I,s:I}", "disk", name, "bytes", (json_int_t)(disk->blocks * DEVICE_BLOCK),
+                   "file", disk->path, "error", disk->error ? strerror(disk->error) : NULL, "requests", (json_int_t)counts.left,
+                   "task-set-full", (json_int_t)counts.full, "good", (json_int_t)counts.good, "check-condition",
+                   (json_int_t)counts.check_conditions, "busy", (json_int_t)counts.busy, "data-out", (json_int_t)counts.data_out,
+                   "data-in", (json_int_t)counts.data_in);
+}
+
+static json_t *stats(const struct controlled *controlled, json_t *arguments) {
+  json_t *disks = json_array(), *broken = json_array();
+  (void)arguments;
+  for (size_t i = 0; i < controlled->disks->count; i++) json_array_append_new(disks, stats_of(controlled, i));
+  for (unsigned q = 0; controlled->session && q < controlled->session->backend.count; q++)
+    if (controlled->session->backend.queues[q].fault) json_array_append_new(broken, json_integer(q));
+  return json_pack("{s:{s:s,s:I,s:b,s:b,s:o,s:o}}", "return", "version", options_version(), "sessions", (json_int_t)controlled->sessions,
+                   "front-end", controlled->session != NULL, "device", live(controlled) != NULL, "broken-queues", broken, "disks", disks);
+}
+
+// Returns the answer where a disk isn't there that arguments name, or NULL.
+static json_t *no_disk(const struct controlled *controlled, json_t *arguments, size_t *which) {
+  const char *words;
+  if (json_unpack(arguments, "{s:s}", "disk", &words)) return error("BadRequest", "its argument disk is T:L");
+  return find(controlled->disks, words, which) ? NULL : error("NoDisk", words);
+}
+
+static json_t *resize(const struct controlled *controlled, json_t *arguments) {
+  char why[WHY];
+  json_int_t bytes;
+  size_t which;
+  json_t *missing = no_disk(controlled, arguments, &which);
+  if (missing) return missing;
+  bool is_size = !json_unpack(arguments, "{s:I}", "size", &bytes) && bytes > 0 && bytes % DEVICE_BLOCK == 0 &&
+                 (uint64_t)bytes / DEVICE_BLOCK <= VSCSI_MOST_BLOCKS;
+  if (!is_size) return error("BadSize", "a size is 1 to 2^40 times 512 bytes");
+  struct disk *disk = &controlled->disks->disks[which];
+  struct backend *backend = live(controlled);
+  uint64_t blocks = (uint64_t)bytes / DEVICE_BLOCK;
+  bool is_kept = disk->file >= 0 && !disk->read_only, shrinks = blocks < disk->blocks;
+  if (controlled->disks->moves && !controlled->disks->held) return error("NoDevice", "another daemon may have the file");
+  if (!backend && !is_kept) return error("NoDevice", "what isn't kept on a file has another size only while a guest uses it");
+  if (must_wait(controlled) || disk->backlog.count) return error("Busy", "what the guest wrote isn't on the file yet");
+  // A file is longer before the disk is, and shorter behind it.
+  if (!shrinks && !image_resize(disk, blocks, why, sizeof why)) return error("File", why);
+  if (backend && !device_resize(&backend->device, disk->target, disk->lun, blocks)) {
+    image_resize(disk, disk->blocks, why, sizeof why);
+    return error("NoMemory", "memory was refused");
+  }
+  disk->blocks = blocks;
+  if (!backend) store_drop(&controlled->disks->stores[which]);
+  else controlled->session->more = true;
+  return shrinks && !image_resize(disk, blocks, why, sizeof why) ? error("File", why) : done();
+}
+
+static json_t *reset(const struct controlled *controlled, json_t *arguments) {
+  size_t which;
+  json_t *missing = no_disk(controlled, arguments, &which);
+  struct backend *backend = live(controlled);
+  if (missing) return missing;
+  if (!backend) return error("NoDevice", "no guest uses it");
+  const struct disk *disk = &controlled->disks->disks[which];
+  if (!device_reset(&backend->device, disk->target, disk->lun)) return error("NoMemory", "memory was refused");
+  controlled->session->more = true;
+  return done();
+}
+
+static json_t *attach(const struct controlled *controlled, json_t *arguments, int *file) {
+  char why[WHY];
+  const char *words;
+  struct disks *disks = controlled->disks;
+  size_t which;
+  if (json_unpack(arguments, "{s:s}", "disk", &words)) return error("BadRequest", "its argument disk is T:L=SIZE[,..]");
+  if (controlled->session) return error("InUse", "a front end is there");
+  if (!disks_add(disks, words, why, sizeof why)) return error("BadDisk", why);
+  disks_find(disks, words, &which);
+  struct disk *disk = &disks->disks[which];
+  bool taken = disks_are_whole(disks) || (snprintf(why, sizeof why, "its target has no LUN 0"), false);
+  if (taken && !disk->path != (*file < 0)) taken = (snprintf(why, sizeof why, "a file, and only that, comes with its descriptor"), false);
+  if (taken && disk->path) {
+    disk->file = *file;
+    *file = -1;
+    taken = image_take(disks, disk, why, sizeof why);
+  }
+  if (taken && (disks->moves || blocks_load(disks, why, sizeof why))) return done();
+  disks_remove(disks, which);
+  return error("BadDisk", why);
+}
+
+static json_t *detach(const struct controlled *controlled, json_t *arguments) {
+  struct disks *disks = controlled->disks;
+  size_t which;
+  json_t *missing = no_disk(controlled, arguments, &which);
+  if (missing) return missing;
+  if (controlled->session) return error("InUse", "a front end is there");
+  if (disks->disks[which].backlog.count) return error("Busy", "its file can't be written");
+  bool is_needed = !disks->disks[which].lun && which + 1 < disks->count && disks->disks[which + 1].target == disks->disks[which].target;
+  if (is_needed || disks->count == 1) return error("BadDisk", "each target has a LUN 0, and there is a disk");
+  disks_remove(disks, which);
+  return done();
+}
+
+// Does what a line says, or has it wait. Returns its answer, if there is one.
+static json_t *answer(struct control *control, const struct controlled *controlled, size_t length) {
+  json_error_t fault;
+  const char *command;
+  json_t *arguments = NULL, *came = NULL;
+  json_t *request = json_loadb(control->line, length, JSON_REJECT_DUPLICATES, &fault);
+  if (!request || json_unpack_ex(request, &fault, JSON_STRICT, "{s:s,s?o}", "execute", &command, "arguments", &arguments))
+    came = error("BadRequest", fault.text);
+  else if (!strcmp(command, "stats")) came = stats(controlled, arguments);
+  else if (!strcmp(command, "reset")) came = reset(controlled, arguments);
+  else if (!strcmp(command, "attach")) came = attach(controlled, arguments, &control->file);
+  else if (!strcmp(command, "detach")) came = detach(controlled, arguments);
+  else if (strcmp(command, "resize")) came = error("NoCommand", command);
+  else if (!(control->waits = must_wait(controlled) && clock_now() - control->since < PATIENCE)) came = resize(controlled, arguments);
+  json_decref(request);
+  return came;
+}
+
+// Sends an answer. Returns false where the client doesn't take it.
+static bool send_answer(const struct control *control, json_t *came) {
+  char *text = json_dumps(came, JSON_COMPACT);
+  size_t length = text ? strlen(text) : 0;
+  if (text) text[length++] = '\n';
+  bool sent = text && send(control->client, text, length, MSG_DONTWAIT | MSG_NOSIGNAL) == (ssize_t)length;
+  free(text);
+  json_decref(came);
+  return sent;
+}
+
+// Takes the descriptor that came with some bytes. Others are closed.
+static void take_file(struct control *control, struct msghdr *header) {
+  for (struct cmsghdr *it = CMSG_FIRSTHDR(header); it; it = CMSG_NXTHDR(header, it)) {
+    if (it->cmsg_level != SOL_SOCKET || it->cmsg_type != SCM_RIGHTS) continue;
+    if (control->file >= 0) close(control->file);
+    memcpy(&control->file, CMSG_DATA(it), sizeof control->file);
+  }
+}
+
+// Reads on. Returns false where the client is gone, or a line is too long.
+static bool receive(struct control *control) {
+  union {
+    struct cmsghdr header;
+    char room[CMSG_SPACE(sizeof(int))];
+  } rights;
+  struct iovec part = {.iov_base = control->line + control->have, .iov_len = MOST_LINE - control->have};
+  struct msghdr header = {.msg_iov = &part, .msg_iovlen = 1, .msg_control = &rights, .msg_controllen = sizeof rights};
+  ssize_t here = part.iov_len ? recvmsg(control->client, &header, MSG_DONTWAIT | MSG_CMSG_CLOEXEC) : 0;
+  if (here < 0) return errno == EAGAIN || errno == EINTR;
+  if (here > 0) take_file(control, &header);
+  control->have += (size_t)here;
+  return here > 0;
+}
+
+bool control_serve(struct control *control, const struct controlled *controlled) {
+  bool stands = control->waits || receive(control);
+  for (char *end; stands && (end = memchr(control->line, '\n', control->have));) {
+    size_t length = (size_t)(end - control->line);
+    if (!control->waits) control->since = clock_now();
+    json_t *came = answer(control, controlled, length);
+    if (control->waits) return true;
+    stands = send_answer(control, came);
+    control->have -= length + 1;
+    memmove(control->line, end + 1, control->have);
+    if (control->file >= 0) close(control->file);
+    control->file = -1;
+  }
+  if (stands && control->have == MOST_LINE) stands = send_answer(control, error("BadRequest", "a line is too long")) && false;
+  if (!stands) control_end(control);
+  return stands;
+}
+
+void control_begin(struct control *control) {
+  *control = (struct control){.client = -1, .file = -1};
+  // Before the daemon's limits: it reads random bytes from a file.
+  json_object_seed(0);
+}
+#else
+bool control_is_built(void) { return false; }
+
+bool control_serve(struct control *control, const struct controlled *controlled) {
+  (void)controlled;
+  control_end(control);
+  return false;
+}
+
+void control_begin(struct control *control) { *control = (struct control){.client = -1, .file = -1}; }
+#endif
+
+void control_take(struct control *control, int client) {
+  control->client = client;
+  control->have = 0;
+}
+
+void control_end(struct control *control) {
+  if (control->client >= 0) close(control->client);
+  if (control->file >= 0) close(control->file);
+  control->client = control->file = -1;
+  control->have = 0;
+  control->waits = false;
+}

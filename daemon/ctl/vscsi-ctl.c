@@ -1,0 +1,131 @@
+// Sends a daemon's control socket one request, and prints its answer.
+#include <errno.h>
+#include <fcntl.h>
+#include <jansson.h>
+#include <stdbool.h>
+#include <stdint.h>
+#include <stdio.h>
+#include <stdlib.h>
+#include <string.h>
+#include <sys/socket.h>
+#include <sys/un.h>
+#include <unistd.h>
+
+enum { MOST_ANSWER = 1 << 20, FAILED = 1, WRONG_WORDS = 2 };
+
+static const char usage[] =
+    "vscsi-ctl PATH REQUEST\n"
+    "Asks the daemon whose word was --control PATH.\n"
+    "\n"
+    "  stats                what it did\n"
+    "  resize T:L SIZE      gives a disk SIZE bytes, or K, M, G or T of them\n"
+    "  reset T:L            resets a disk, as an operator does\n"
+    "  attach T:L=SIZE[,..] adds a disk, by the words of --disk, while there is no front end\n"
+    "  detach T:L           takes a disk away, while there is no front end\n";
+
+static int refuse(const char *what) {
+  fprintf(stderr, "vscsi-ctl: %s: %s\n", what, strerror(errno));
+  return FAILED;
+}
+
+// Takes a size in bytes, or below 0 where it is none.
+static json_int_t size_of(const char *word) {
+  static const char units[] = "KMGT";
+  char *end;
+  errno = 0;
+  long long size = strtoll(word, &end, 10);
+  const char *unit = *end ? strchr(units, *end) : NULL;
+  unsigned shift = unit ? 10 * (unsigned)(unit - units + 1) : 0;
+  bool is_size = *word >= '0' && *word <= '9' && !errno && (!*end || (unit && !end[1])) && size <= INT64_MAX >> shift;
+  return is_size ? size << shift : -1;
+}
+
+// Opens the file that the words of a disk name. Returns -1 where they name none, or -2 where it can't be opened.
+static int open_file(const char *words) {
+  const char *at = strstr(words, "file=");
+  char path[4096];
+  size_t length = 0;
+  if (!at || (at > words && at[-1] != ',' && at[-1] != '=')) return -1;
+  for (at += strlen("file="); *at && length + 1 < sizeof path && !(*at == ',' && at[1] != ','); at++) {
+    if (*at == ',') at++;
+    path[length++] = *at;
+  }
+  path[length] = 0;
+  bool reads = strstr(words, ",snapshot"), makes = strstr(words, ",grow");
+  int fd = open(path, (reads ? O_RDONLY : O_RDWR) | (makes ? O_CREAT : 0) | O_NONBLOCK | O_NOCTTY | O_CLOEXEC, 0600);
+  return fd < 0 ? refuse(path), -2 : fd;
+}
+
+static int connect_to(const char *path) {
+  struct sockaddr_un address = {.sun_family = AF_UNIX};
+  int fd = socket(AF_UNIX, SOCK_STREAM | SOCK_CLOEXEC, 0);
+  if (strlen(path) >= sizeof address.sun_path) return errno = ENAMETOOLONG, -1;
+  strcpy(address.sun_path, path);
+  if (fd >= 0 && connect(fd, (struct sockaddr *)&address, sizeof address)) return close(fd), -1;
+  return fd;
+}
+
+// Sends a line, and a descriptor where it isn't below 0.
+static bool send_line(int to, const char *text, size_t length, int file) {
+  union {
+    struct cmsghdr header;
+    char room[CMSG_SPACE(sizeof(int))];
+  } rights = {.header = {.cmsg_len = CMSG_LEN(sizeof(int)), .cmsg_level = SOL_SOCKET, .cmsg_type = SCM_RIGHTS}};
+  struct iovec part = {.iov_base = (char *)(uintptr_t)text, .iov_len = length};
+  struct msghdr header = {.msg_iov = &part, .msg_iovlen = 1};
+  memcpy(CMSG_DATA(&rights.header), &file, sizeof file);
+  if (file >= 0) {
+    header.msg_control = &rights;
+    header.msg_controllen = sizeof rights;
+  }
+  return sendmsg(to, &header, MSG_NOSIGNAL) == (ssize_t)length;
+}
+
+// Reads a line. Returns its length, or 0.
+static size_t read_line(int from, char *into) {
+  size_t have = 0;
+  while (have < MOST_ANSWER) {
+    ssize_t here = read(from, into + have, MOST_ANSWER - have);
+    if (here <= 0 && !(here < 0 && errno == EINTR)) return 0;
+    if (here > 0) have += (size_t)here;
+    if (have && into[have - 1] == '\n') return have;
+  }
+  return 0;
+}
+
+static int ask(const char *path, json_t *request, int file) {
+  static char answer[MOST_ANSWER];
+  char *text = json_dumps(request, JSON_COMPACT);
+  int to = connect_to(path);
+  size_t length = text ? strlen(text) : 0;
+  if (to < 0 || !text) return refuse(path);
+  text[length++] = '\n';
+  length = send_line(to, text, length, file) ? read_line(to, answer) : 0;
+  close(to);
+  free(text);
+  json_t *came = length ? json_loadb(answer, length, 0, NULL) : NULL;
+  if (!came) return fprintf(stderr, "vscsi-ctl: %s: no answer\n", path), FAILED;
+  json_dumpf(came, stdout, JSON_INDENT(2));
+  int status = puts("") >= 0 && json_object_get(came, "return") ? 0 : FAILED;
+  json_decref(came);
+  return status;
+}
+
+int main(int count, char **words) {
+  json_t *request = NULL;
+  int file = -1;
+  if (count == 2 && !strcmp(words[1], "--help")) return fputs(usage, stdout) < 0;
+  const char *command = count > 2 ? words[2] : "", *disk = count > 3 ? words[3] : NULL;
+  bool has_size = count == 5 && size_of(words[4]) > 0;
+  bool is_disk = count == 4 && (!strcmp(command, "reset") || !strcmp(command, "attach") || !strcmp(command, "detach"));
+  if (count == 3 && !strcmp(command, "stats")) request = json_pack("{s:s}", "execute", command);
+  else if (has_size && !strcmp(command, "resize"))
+    request = json_pack("{s:s,s:{s:s,s:I}}", "execute", command, "arguments", "disk", disk, "size", size_of(words[4]));
+  else if (is_disk) request = json_pack("{s:s,s:{s:s}}", "execute", command, "arguments", "disk", disk);
+  if (!request) return fputs(usage, stderr), WRONG_WORDS;
+  if (!strcmp(command, "attach")) file = open_file(disk);
+  int status = file < -1 ? FAILED : ask(words[1], request, file);
+  json_decref(request);
+  if (file >= 0) close(file);
+  return status;
+}
