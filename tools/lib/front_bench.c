@@ -1,0 +1,192 @@
+// A vhost-user front end with the driver of one queue, which measures a back end:
+//
+//     front_bench SOCKET scsi|blk read|write BYTES DEPTH REQUESTS PROCESS
+//
+// In each round it makes so many requests available, notifies once, and waits, with no interrupt, until all are used. It looks at every
+// status, and prints nanoseconds a request, and those that the back end's process, if one is named, took of a processor.
+#define _GNU_SOURCE
+#include <dirent.h>
+#include <errno.h>
+#include <inttypes.h>
+#include <stdbool.h>
+#include <stdint.h>
+#include <stdio.h>
+#include <stdlib.h>
+#include <string.h>
+#include <sys/eventfd.h>
+#include <sys/mman.h>
+#include <sys/socket.h>
+#include <sys/un.h>
+#include <time.h>
+#include <unistd.h>
+
+enum { GET_FEATURES = 1, SET_FEATURES, SET_OWNER, SET_MEM_TABLE = 5, SET_NUM = 8, SET_ADDR, SET_BASE, SET_KICK = 12, SET_CALL,
+       GET_PROTOCOL = 15, SET_PROTOCOL, SET_ENABLE = 18 };
+enum { MEMORY = 64 << 20, SIZE = 128, DESCRIPTORS = 0x1000, AVAILABLE = 0x2000, USED = 0x3000, REQUESTS = 0x10000, DATA = 0x100000,
+       EACH = 0x10000, NEXT = 1, WRITE = 2, DISK = 32 << 20 };
+#define VERSION_1 (UINT64_C(1) << 32)
+#define PROTOCOL (UINT64_C(1) << 30)
+
+static unsigned char *memory;
+static int back, kick;
+static bool is_blk, is_write;
+
+static void fail(const char *what) {
+  fprintf(stderr, "front_bench: %s: %s\n", what, strerror(errno));
+  exit(1);
+}
+
+static void say(uint32_t request, const void *payload, uint32_t size, int fd) {
+  union {
+    struct cmsghdr header;
+    char room[CMSG_SPACE(sizeof(int))];
+  } rights = {.header = {.cmsg_len = CMSG_LEN(sizeof(int)), .cmsg_level = SOL_SOCKET, .cmsg_type = SCM_RIGHTS}};
+  unsigned char bytes[200];
+  struct iovec part = {bytes, 12 + size};
+  struct msghdr header = {.msg_iov = &part, .msg_iovlen = 1};
+  const uint32_t head[] = {request, 1, size};
+
+  memcpy(bytes, head, 12);
+  memcpy(bytes + 12, payload, size);
+  memcpy(CMSG_DATA(&rights.header), &fd, sizeof fd);
+  if (fd >= 0) header.msg_control = &rights, header.msg_controllen = sizeof rights;
+  if (sendmsg(back, &header, MSG_NOSIGNAL) != (ssize_t)part.iov_len) fail("a message");
+}
+
+static void say_number(uint32_t request, uint64_t number, int fd) { say(request, &number, 8, fd); }
+
+static uint64_t ask(uint32_t request) {
+  unsigned char bytes[20];
+  uint64_t number;
+
+  say(request, "", 0, -1);
+  if (recv(back, bytes, 20, MSG_WAITALL) != 20) fail("a reply");
+  memcpy(&number, bytes + 12, 8);
+  return number;
+}
+
+static void begin(const char *path, uint64_t queue) {
+  struct sockaddr_un address = {.sun_family = AF_UNIX};
+  int file = memfd_create("guest", MFD_CLOEXEC);
+  const uint64_t table[] = {1, 0, MEMORY, 0, 0}, areas[] = {queue, DESCRIPTORS, USED, AVAILABLE, 0};
+
+  if (ftruncate(file, MEMORY)) fail("memory");
+  memory = mmap(NULL, MEMORY, PROT_READ | PROT_WRITE, MAP_SHARED | MAP_POPULATE, file, 0);
+  strncpy(address.sun_path, path, sizeof address.sun_path - 1);
+  back = socket(AF_UNIX, SOCK_STREAM, 0);
+  if (memory == MAP_FAILED || connect(back, (struct sockaddr *)&address, sizeof address)) fail(path);
+  kick = eventfd(0, 0);
+  uint64_t features = ask(GET_FEATURES);
+  if (features & PROTOCOL) {
+    ask(GET_PROTOCOL);
+    say_number(SET_PROTOCOL, 0, -1);
+  }
+  say(SET_OWNER, "", 0, -1);
+  say_number(SET_FEATURES, features & (VERSION_1 | PROTOCOL), -1);
+  say(SET_MEM_TABLE, table, sizeof table, file);
+  say_number(SET_NUM, queue | (uint64_t)SIZE << 32, -1);
+  say_number(SET_BASE, queue, -1);
+  say(SET_ADDR, areas, sizeof areas, -1);
+  say_number(SET_CALL, queue, eventfd(0, EFD_NONBLOCK));
+  say_number(SET_KICK, queue, kick);
+  if (features & PROTOCOL) say_number(SET_ENABLE, queue | UINT64_C(1) << 32, -1);
+  *(uint16_t *)(memory + AVAILABLE) = 1;
+}
+
+static void put_part(unsigned slot, uint64_t addr, uint32_t length, unsigned flags) {
+  struct {
+    uint64_t addr;
+    uint32_t length;
+    uint16_t flags, next;
+  } part = {addr, length, (uint16_t)flags, (uint16_t)(slot + 1)};
+
+  memcpy(memory + DESCRIPTORS + 16 * slot, &part, 16);
+}
+
+// Writes request i, which is one of the same place and the same descriptors in each round, but for the block.
+static void put_request(unsigned i, uint64_t block, uint32_t bytes) {
+  uint64_t at = REQUESTS + 0x200 * i, answer = at + 0x100, data = DATA + (uint64_t)EACH * i;
+  unsigned slot = 3 * i, head = is_blk ? 16 : 51, response = is_blk ? 1 : 108;
+
+  if (is_blk) {
+    *(uint32_t *)(memory + at) = is_write;
+    *(uint64_t *)(memory + at + 8) = block;
+  } else {
+    const unsigned char command[] = {is_write ? 0x2a : 0x28, 0, (unsigned char)(block >> 24), (unsigned char)(block >> 16), (unsigned char)(block >> 8),
+                                     (unsigned char)block, 0, (unsigned char)(bytes / 512 >> 8), (unsigned char)(bytes / 512), 0};
+    memcpy(memory + at, (const unsigned char[]){1, 0, 0x40, 0}, 4);
+    memcpy(memory + at + 19, command, sizeof command);
+  }
+  memory[answer + (is_blk ? 0 : 11)] = 0xee;
+  put_part(slot, at, (uint32_t)head, NEXT);
+  bool data_first = is_blk || is_write;
+  put_part(slot + 1, data_first ? data : answer, data_first ? bytes : (uint32_t)response, NEXT | (data_first && is_write ? 0 : WRITE));
+  put_part(slot + 2, data_first ? answer : data, data_first ? (uint32_t)response : bytes, WRITE);
+}
+
+static void look(unsigned i) {
+  const unsigned char *answer = memory + REQUESTS + 0x200 * i + 0x100;
+
+  if (is_blk ? answer[0] : answer[10] || answer[11]) fail("a status");
+}
+
+static void run(uint64_t rounds, unsigned depth, uint32_t bytes) {
+  uint64_t seed = 88172645463325252u;
+  static uint16_t next;
+
+  for (uint64_t round = 0; round < rounds; round++) {
+    for (unsigned i = 0; i < depth; i++) {
+      seed ^= seed << 13, seed ^= seed >> 7, seed ^= seed << 17;
+      put_request(i, seed % (DISK / bytes) * (bytes / 512), bytes);
+      *(uint16_t *)(memory + AVAILABLE + 4 + 2 * ((next + i) % SIZE)) = (uint16_t)(3 * i);
+    }
+    next = (uint16_t)(next + depth);
+    __atomic_store_n((uint16_t *)(memory + AVAILABLE + 2), next, __ATOMIC_RELEASE);
+    __atomic_thread_fence(__ATOMIC_SEQ_CST);
+    if (!(*(volatile uint16_t *)(memory + USED) & 1)) eventfd_write(kick, 1);
+    while (__atomic_load_n((uint16_t *)(memory + USED + 2), __ATOMIC_ACQUIRE) != next) __builtin_ia32_pause();
+    for (unsigned i = 0; i < depth; i++) look(i);
+  }
+}
+
+static uint64_t now(void) {
+  struct timespec time;
+  clock_gettime(CLOCK_MONOTONIC, &time);
+  return (uint64_t)time.tv_sec * 1000000000 + (uint64_t)time.tv_nsec;
+}
+
+// Returns how many nanoseconds the threads of a process ran.
+static uint64_t ran(const char *process) {
+  char path[400];
+  uint64_t all = 0, its;
+
+  snprintf(path, sizeof path, "/proc/%s/task", process);
+  DIR *threads = opendir(path);
+  for (struct dirent *it; threads && (it = readdir(threads));) {
+    snprintf(path, sizeof path, "/proc/%s/task/%s/schedstat", process, it->d_name);
+    FILE *file = fopen(path, "r");
+    if (file && fscanf(file, "%" SCNu64, &its) == 1) all += its;
+    if (file) fclose(file);
+  }
+  if (threads) closedir(threads);
+  return all;
+}
+
+int main(int count, char **words) {
+  if (count < 7) return fputs("front_bench SOCKET scsi|blk read|write BYTES DEPTH REQUESTS [PROCESS]\n", stderr), 2;
+  is_blk = !strcmp(words[2], "blk");
+  is_write = !strcmp(words[3], "write");
+  uint32_t bytes = (uint32_t)atoi(words[4]);
+  unsigned depth = (unsigned)atoi(words[5]);
+  uint64_t requests = strtoull(words[6], NULL, 10), rounds = requests / depth;
+  const char *process = count > 7 ? words[7] : "none";
+
+  alarm(300);
+  begin(words[1], is_blk ? 0 : 2);
+  run(rounds / 10 + 1, depth, bytes);
+  uint64_t began = now(), before = ran(process);
+  run(rounds, depth, bytes);
+  uint64_t took = now() - began, processor = ran(process) - before;
+  printf("%.0f %.0f\n", (double)took / (double)(rounds * depth), (double)processor / (double)(rounds * depth));
+  return 0;
+}
