@@ -82,14 +82,29 @@ fn writes(memory: &mut LiveMem<RestlessBus>) -> bool {
     out == [9, 8, 7, 6]
 }
 
-/// Returns the number of the first phase that reads what it shouldn't, from 0; behind them that of the write.
+/// Returns true if a long read gives what was written, and what the phase read once stays as it was.
+fn reads_long(memory: &mut LiveMem<RestlessBus>) -> bool {
+    if memory.size() < 64 {
+        return false;
+    }
+    let mut long = [7; 24];
+    let mut again = [7; 24];
+    memory.begin();
+    memory.try_read(8, &mut long).is_ok()
+        && memory.try_read(8, &mut again).is_ok()
+        && long[12..16] == [10, 8, 7, 6]
+        && long == again
+}
+
+/// Returns the number of the first phase that reads what it shouldn't, from 0; behind them that of the write and of a
+/// long read.
 fn first_wrong(memory: &mut LiveMem<RestlessBus>) -> Option<usize> {
     for number in 0..PHASES.len() {
         if !reads(memory, &PHASES[number]) {
             return Some(number);
         }
     }
-    if writes(memory) {
+    if writes(memory) && reads_long(memory) {
         None
     } else {
         Some(PHASES.len())
