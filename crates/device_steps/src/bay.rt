@@ -23,7 +23,7 @@ impl Model for Bay {
 }
 
 impl Bay {
-    ghost use Rattle.std.specs.Prelude.{◌≡◌, ◌↔◌, ℕ, List, IsTrue, is_some};
+    ghost use Rattle.std.specs.Prelude.{◌≡◌, ◌+◌, ◌↔◌, ℕ, List, IsTrue, is_some};
     ghost use Rattle.device_model.specs.Parts as plain;
     ghost use Rattle.virtqueue.specs.Looking.{IsIdle};
     ghost use Rattle.phases.specs.Slots.{arrived_unit, is_direct};
@@ -65,7 +65,9 @@ impl Bay {
     /// that wrote nothing yet.
     pub(crate) fn has_chain_in<M: Memory>(&self, memory: &mut M) -> bool
         requires reading { M.is_open memory.old }
+        requires room { M.has_room memory.old 1 }
         requires fits { M.extent memory.old ≡ self.now.ring.memory }
+        ensures room { (n : ℕ) → M.has_room memory.old (n + 1) → M.has_room memory.new n }
         ensures chain { (m : List ℕ) → M.may_be memory.new m
             → (IsTrue result ↔ ((self.now.slot ≡ plain.Slot.Empty) × (IsIdle self.now.ring m → ⊥))) }
         ensures stays { (m : List ℕ) → M.may_be memory.new m → M.may_be memory.old m }

@@ -1,6 +1,6 @@
 //! Looks whether an event of the order applies, and changes nothing.
 
-ghost use Rattle.std.specs.Prelude.{◌≡◌, ◌<◌, ◌≤◌, ℕ, Bool, List, true, false, length};
+ghost use Rattle.std.specs.Prelude.{◌≡◌, ◌<◌, ◌≤◌, ◌+◌, ℕ, Bool, List, true, false, length};
 ghost use Rattle.device_model.specs.Order.{of_seat, IsQuietOf, NoneApplies};
 ghost use Rattle.device_model.specs.Events.{Event as AnEvent};
 ghost use Rattle.device_model.specs.Applies.{Applies};
@@ -19,6 +19,7 @@ impl Device {
     /// in a phase that wrote nothing yet, to say whether anything is left.
     pub fn has_step<M: Memory>(&self, memory: &mut M, queues: u32) -> bool
         requires reading { M.is_open memory.old }
+        requires room { M.has_room memory.old 20 }
         requires few { HasFew self.now }
         requires fits { FitsIn (M.extent memory.old) self.now }
         ensures denies { FindsIn M.shared (M.may_be memory.old) (M.may_be memory.new)
@@ -121,6 +122,7 @@ impl Device {
     /// Returns true if a queue that is asked has a chain for the device.
     fn has_chain<M: Memory>(&self, memory: &mut M, queues: u32) -> bool
         requires reading { M.is_open memory.old }
+        requires room { M.has_room memory.old 20 }
         requires few { HasFew self.now }
         requires fits { FitsIn (M.extent memory.old) self.now }
         ensures denies { FindsIn M.shared (M.may_be memory.old) (M.may_be memory.new)
@@ -149,12 +151,14 @@ impl Device {
     /// Returns true if this queue is asked and has a chain for the device.
     fn queue_goes_on<M: Memory>(&self, memory: &mut M, number: u16, queues: u32) -> bool
         requires reading { M.is_open memory.old }
+        requires room { M.has_room memory.old 1 }
         requires few { HasFew self.now }
         requires fits { FitsIn (M.extent memory.old) self.now }
         requires there { number < length self.now.queues }
         ensures denies { FindsIn M.shared (M.may_be memory.old) (M.may_be memory.new)
             (λ w. Denies (asks queues number ≡ true → Applies w (AnEvent.Fetch number) → ⊥) result) self.now }
         ensures stores { M.stored memory.new ≡ M.stored memory.old }
+        ensures room { (n : ℕ) → M.has_room memory.old (n + 1) → M.has_room memory.new n }
         ensures reading { M.is_open memory.new }
         ensures size { M.extent memory.new ≡ M.extent memory.old }
     {

@@ -1,7 +1,7 @@
 //! The order in which a device serves what is there: the first event of it that applies, one after another. It doesn't
 //! look again at what a step can't have woken.
 
-ghost use Rattle.std.specs.Prelude.{◌≡◌, ◌≤◌, ◌<◌, ℕ, Bool, List, [], IsTrue, true, false, length};
+ghost use Rattle.std.specs.Prelude.{◌≡◌, ◌≤◌, ◌<◌, ◌+◌, ℕ, Bool, List, [], IsTrue, Ok, None, true, false, length};
 ghost use Rattle.device_model.specs.Order.{of_seat};
 ghost use Rattle.device_model.specs.Parts.{Hand};
 ghost use Rattle.device_model.specs.Found.{HasHand};
@@ -40,6 +40,7 @@ impl Device {
         requires ready { IsReadyIn (M.is_open memory.old) M.shared (M.may_be memory.old) (M.extent memory.old) self.old }
         ensures turns { TurnsFirstIn M.shared (M.may_be memory.old) (M.may_be memory.new)
             (Stored M.stored M.storing memory.old memory.new) of_function self.old result self.new }
+        ensures room { (n : ℕ) → n ≤ 60 → M.has_room memory.old n → M.has_room memory.new n }
         ensures reading { M.is_open memory.new }
         ensures size { M.extent memory.new ≡ M.extent memory.old }
     {
@@ -62,6 +63,7 @@ impl Device {
         requires ready { IsReadyIn (M.is_open memory.old) M.shared (M.may_be memory.old) (M.extent memory.old) self.old }
         ensures turns { TurnsFirstIn M.shared (M.may_be memory.old) (M.may_be memory.new)
             (Stored M.stored M.storing memory.old memory.new) (of_seat number) self.old result self.new }
+        ensures room { (n : ℕ) → n ≤ 60 → M.has_room memory.old n → M.has_room memory.new n }
         ensures reading { M.is_open memory.new }
         ensures size { M.extent memory.new ≡ M.extent memory.old }
     {
@@ -94,7 +96,7 @@ impl Device {
     }
 
     /// Takes the first event of the order that applies, from a place on. A host calls it in a phase that wrote nothing yet,
-    /// with a place before which nothing applies. Returns from where on to look then; `None` where none applies. `NoMemory`
+    /// with room for 60 short reads, and a place before which nothing applies. Returns from where on to look then; `None` where none applies. `NoMemory`
     /// where the first that applies was refused memory. What was stored are the writes of what was done.
     #[inline(always)]
     pub fn turn<M: WritableMemory>(
@@ -105,6 +107,7 @@ impl Device {
         most: u64,
     ) -> Result<Option<Progress>, NoMemory>
         requires most { 1 ≤ most }
+        requires room { M.has_room memory.old 60 }
         requires ready { IsReadyIn (M.is_open memory.old) M.shared (M.may_be memory.old) (M.extent memory.old) self.old }
         requires before { AtEach M.shared (M.may_be memory.old) (NoneBefore cursor) self.old }
         ensures turns { TurnsNextIn M.shared M.may_be (Stored M.stored M.storing) (asks queues) most memory.old self.old
@@ -128,6 +131,7 @@ impl Device {
         most: u64,
     ) -> Result<Option<Progress>, NoMemory>
         requires most { 1 ≤ most }
+        requires room { M.has_room memory.old 60 }
         requires ready { IsReadyIn (M.is_open memory.old) M.shared (M.may_be memory.old) (M.extent memory.old) self.old }
         requires before { AtEach M.shared (M.may_be memory.old) (NoneBefore cursor) self.old }
         ensures turns { TurnsNextIn M.shared M.may_be (Stored M.stored M.storing) (asks queues) most memory.old self.old
@@ -150,6 +154,7 @@ impl Device {
         most: u64,
     ) -> Result<Option<Progress>, NoMemory>
         requires most { 1 ≤ most }
+        requires room { M.has_room memory.old 60 }
         requires ready { IsReadyIn (M.is_open memory.old) M.shared (M.may_be memory.old) (M.extent memory.old) self.old }
         ensures turns { TurnsNextIn M.shared M.may_be (Stored M.stored M.storing) (asks queues) most memory.old self.old
             result memory.new self.new }
@@ -179,6 +184,7 @@ impl Device {
         most: u64,
     ) -> Result<Option<Progress>, NoMemory>
         requires most { 1 ≤ most }
+        requires room { M.has_room memory.old 60 }
         requires ready { IsReadyIn (M.is_open memory.old) M.shared (M.may_be memory.old) (M.extent memory.old) self.old }
         requires start { AtEach M.shared (M.may_be memory.old) NoStart self.old }
         requires before { AtEach M.shared (M.may_be memory.old) (NoneBefore cursor) self.old }
@@ -207,6 +213,7 @@ impl Device {
         most: u64,
     ) -> Result<Option<Progress>, NoMemory>
         requires most { 1 ≤ most }
+        requires room { M.has_room memory.old 60 }
         requires ready { IsReadyIn (M.is_open memory.old) M.shared (M.may_be memory.old) (M.extent memory.old) self.old }
         requires start { AtEach M.shared (M.may_be memory.old) NoStart self.old }
         requires direct { AtEach M.shared (M.may_be memory.old) NoDirect self.old }
@@ -236,6 +243,7 @@ impl Device {
         most: u64,
     ) -> Result<Option<Progress>, NoMemory>
         requires most { 1 ≤ most }
+        requires room { M.has_room memory.old 60 }
         requires ready { IsReadyIn (M.is_open memory.old) M.shared (M.may_be memory.old) (M.extent memory.old) self.old }
         requires start { AtEach M.shared (M.may_be memory.old) NoStart self.old }
         requires direct { AtEach M.shared (M.may_be memory.old) NoDirect self.old }
@@ -263,6 +271,7 @@ impl Device {
         most: u64,
     ) -> Result<Option<Progress>, NoMemory>
         requires most { 1 ≤ most }
+        requires room { M.has_room memory.old 60 }
         requires ready { IsReadyIn (M.is_open memory.old) M.shared (M.may_be memory.old) (M.extent memory.old) self.old }
         requires before { AtEach M.shared (M.may_be memory.old) NoneBeforeFetch self.old }
         ensures turns { TurnsNextIn M.shared M.may_be (Stored M.stored M.storing) (asks queues) most memory.old self.old
@@ -288,7 +297,9 @@ impl Device {
     #[inline(always)]
     fn first_fetch<M: WritableMemory>(&self, memory: &mut M) -> usize
         requires reading { M.is_open memory.old }
+        requires room { M.has_room memory.old 2 }
         requires fits { FitsIn (M.extent memory.old) self.now }
+        ensures room { (n : ℕ) → M.has_room memory.old (n + 2) → M.has_room memory.new n }
         ensures below { FindsIn M.shared (M.may_be memory.old) (M.may_be memory.new) (NoFetchBelow asks_all result) self.now }
         ensures stores { M.stored memory.new ≡ M.stored memory.old }
         ensures reading { M.is_open memory.new }
@@ -315,12 +326,14 @@ impl Device {
         most: u64,
     ) -> Result<Option<Progress>, NoMemory>
         requires most { 1 ≤ most }
+        requires room { M.has_room memory.old 6 }
         requires ready { IsReadyIn (M.is_open memory.old) M.shared (M.may_be memory.old) (M.extent memory.old) self.old }
         requires before { AtEach M.shared (M.may_be memory.old) NoneBeforeFetch self.old }
         requires below { AtEach M.shared (M.may_be memory.old) (NoFetchBelow (asks queues) number) self.old }
         requires there { number < length self.old.queues }
         ensures turns { FetchesOn M.shared M.may_be (Stored M.stored M.storing) (asks queues) most number memory.old
             self.old result memory.new self.new }
+        ensures room { (n : ℕ) → result ≡ Ok None → M.has_room memory.old (n + 3) → M.has_room memory.new n }
         ensures reading { M.is_open memory.new }
         ensures size { M.extent memory.new ≡ M.extent memory.old }
     {
@@ -346,6 +359,7 @@ impl Device {
         most: u64,
     ) -> Result<Option<Progress>, NoMemory>
         requires most { 1 ≤ most }
+        requires room { M.has_room memory.old 5 }
         requires ready { IsReadyIn (M.is_open memory.old) M.shared (M.may_be memory.old) (M.extent memory.old) self.old }
         requires before { AtEach M.shared (M.may_be memory.old) NoneBeforeFetch self.old }
         requires below { AtEach M.shared (M.may_be memory.old) (NoFetchBelow (asks queues) number) self.old }
@@ -353,6 +367,7 @@ impl Device {
         requires asked { asks queues number ≡ true }
         ensures turns { FetchesOn M.shared M.may_be (Stored M.stored M.storing) (asks queues) most number memory.old
             self.old result memory.new self.new }
+        ensures room { (n : ℕ) → result ≡ Ok None → M.has_room memory.old (n + 2) → M.has_room memory.new n }
         ensures reading { M.is_open memory.new }
         ensures size { M.extent memory.new ≡ M.extent memory.old }
     {
@@ -394,6 +409,7 @@ impl Device {
         most: u64,
     ) -> Result<Option<Progress>, NoMemory>
         requires most { AT_ONCE ≤ most }
+        requires room { M.has_room memory.old 4 }
         requires ready { IsReadyIn (M.is_open memory.old) M.shared (M.may_be memory.old) (M.extent memory.old) self.old }
         requires before { AtEach M.shared (M.may_be memory.old) NoneBeforeFetch self.old }
         requires below { AtEach M.shared (M.may_be memory.old) (NoFetchBelow (asks queues) number) self.old }
@@ -401,6 +417,7 @@ impl Device {
         requires at_once { AtEach M.shared (M.may_be memory.old) (MayServe number) self.old }
         ensures turns { FetchesOn M.shared M.may_be (Stored M.stored M.storing) (asks queues) most number memory.old
             self.old result memory.new self.new }
+        ensures room { (n : ℕ) → result ≡ Ok None → M.has_room memory.old (n + 1) → M.has_room memory.new n }
         ensures reading { M.is_open memory.new }
         ensures size { M.extent memory.new ≡ M.extent memory.old }
     {

@@ -1,6 +1,6 @@
 //! Each event's step on the parts of the device.
 
-ghost use Rattle.std.specs.Prelude.{◌≡◌, ◌≤◌, ◌+◌, ◌↔◌, ℕ, List, Bool, false, IsTrue, length};
+ghost use Rattle.std.specs.Prelude.{◌≡◌, ◌≤◌, ◌+◌, ◌↔◌, ℕ, List, Bool, false, IsTrue, Ok, length};
 ghost use Rattle.guest_mem.specs.Memory.{LiesIn};
 ghost use Rattle.device_model.specs.World.{owner};
 ghost use Rattle.device_model.specs.Events.{Event as AnEvent, plain_event};
@@ -68,11 +68,13 @@ pub fn poke_in<M: WritableMemory>(memory: &mut M, addr: u64, bytes: &[u8]) -> bo
 
 impl Device {
     /// Returns true if a queue has nothing to take from any memory, by which little more than its index is looked at. Called
-    /// in a phase that wrote nothing yet.
+    /// in a phase that wrote nothing yet, and takes one short read.
     #[inline(always)]
     pub(crate) fn is_idle_in<M: WritableMemory>(&self, memory: &mut M, number: u16) -> bool
         requires reading { M.is_open memory.old }
+        requires room { M.has_room memory.old 1 }
         requires fits { FitsIn (M.extent memory.old) self.now }
+        ensures room { (n : ℕ) → M.has_room memory.old (n + 1) → M.has_room memory.new n }
         ensures idle { (m : List ℕ) → M.may_be memory.new m → IsTrue result
             → Applies (standing M.shared m self.now) (AnEvent.Fetch number) → ⊥ }
         ensures stays { (m : List ℕ) → M.may_be memory.new m → M.may_be memory.old m }
@@ -105,11 +107,13 @@ impl Device {
         number: u16,
     ) -> Result<bool, NoMemory>
         requires reading { M.is_open memory.old }
+        requires room { M.has_room memory.old 5 }
         requires sound { IsSoundIn M.shared (M.may_be memory.old) self.old }
         requires fits { FitsIn (M.extent memory.old) self.old }
         requires few { HasFew self.old }
         ensures turns { TurnsInOrWants M.shared (M.may_be memory.old) (M.may_be memory.new)
             (Stored M.stored M.storing memory.old memory.new) self.old (AnEvent.Fetch number) result self.new }
+        ensures room { (n : ℕ) → result ≡ Ok false → M.has_room memory.old (n + 2) → M.has_room memory.new n }
         ensures reading { M.is_open memory.new }
         ensures size { M.extent memory.new ≡ M.extent memory.old }
     {
@@ -130,11 +134,13 @@ impl Device {
         number: u16,
     ) -> Result<bool, NoMemory>
         requires reading { M.is_open memory.old }
+        requires room { M.has_room memory.old 4 }
         requires sound { IsSoundIn M.shared (M.may_be memory.old) self.old }
         requires fits { FitsIn (M.extent memory.old) self.old }
         requires request { 2 ≤ number }
         ensures turns { TurnsInOrWants M.shared (M.may_be memory.old) (M.may_be memory.new)
             (Stored M.stored M.storing memory.old memory.new) self.old (AnEvent.Fetch number) result self.new }
+        ensures room { (n : ℕ) → result ≡ Ok false → M.has_room memory.old (n + 1) → M.has_room memory.new n }
         ensures reading { M.is_open memory.new }
         ensures size { M.extent memory.new ≡ M.extent memory.old }
     {
@@ -149,10 +155,12 @@ impl Device {
     /// Takes the next chain of the control queue.
     fn fetch_control<M: WritableMemory>(&mut self, memory: &mut M) -> Result<bool, NoMemory>
         requires reading { M.is_open memory.old }
+        requires room { M.has_room memory.old 4 }
         requires sound { IsSoundIn M.shared (M.may_be memory.old) self.old }
         requires fits { FitsIn (M.extent memory.old) self.old }
         ensures turns { TurnsInOrWants M.shared (M.may_be memory.old) (M.may_be memory.new)
             (Stored M.stored M.storing memory.old memory.new) self.old (AnEvent.Fetch 0) result self.new }
+        ensures room { (n : ℕ) → result ≡ Ok false → M.has_room memory.old (n + 1) → M.has_room memory.new n }
         ensures reading { M.is_open memory.new }
         ensures size { M.extent memory.new ≡ M.extent memory.old }
     {
@@ -172,11 +180,13 @@ impl Device {
     /// Takes the next chain of the event queue.
     fn fetch_event<M: WritableMemory>(&mut self, memory: &mut M) -> Result<bool, NoMemory>
         requires reading { M.is_open memory.old }
+        requires room { M.has_room memory.old 4 }
         requires sound { IsSoundIn M.shared (M.may_be memory.old) self.old }
         requires fits { FitsIn (M.extent memory.old) self.old }
         requires few { HasFew self.old }
         ensures turns { TurnsInOrWants M.shared (M.may_be memory.old) (M.may_be memory.new)
             (Stored M.stored M.storing memory.old memory.new) self.old (AnEvent.Fetch 1) result self.new }
+        ensures room { (n : ℕ) → result ≡ Ok false → M.has_room memory.old (n + 1) → M.has_room memory.new n }
         ensures reading { M.is_open memory.new }
         ensures size { M.extent memory.new ≡ M.extent memory.old }
     {
@@ -232,6 +242,7 @@ impl Device {
         requires fits { FitsIn (M.extent memory.old) self.old }
         ensures turns { TurnsIn M.shared (M.may_be memory.old) (M.may_be memory.new)
             (Stored M.stored M.storing memory.old memory.new) self.old (AnEvent.Direct number) result self.new }
+        ensures room { (n : ℕ) → n ≤ 60 → M.has_room memory.old n → M.has_room memory.new n }
         ensures reading { M.is_open memory.old → M.is_open memory.new }
         ensures size { M.extent memory.new ≡ M.extent memory.old }
     {
@@ -316,6 +327,7 @@ impl Device {
         requires fits { FitsIn (M.extent memory.old) self.old }
         ensures turns { TurnsIn M.shared (M.may_be memory.old) (M.may_be memory.new)
             (Stored M.stored M.storing memory.old memory.new) self.old (AnEvent.Answer number) result self.new }
+        ensures room { (n : ℕ) → n ≤ 60 → M.has_room memory.old n → M.has_room memory.new n }
         ensures reading { M.is_open memory.old → M.is_open memory.new }
         ensures size { M.extent memory.new ≡ M.extent memory.old }
     {
@@ -431,6 +443,7 @@ impl Device {
         requires fits { FitsIn (M.extent memory.old) self.old }
         ensures turns { TurnsIn M.shared (M.may_be memory.old) (M.may_be memory.new)
             (Stored M.stored M.storing memory.old memory.new) self.old AnEvent.AnswerTmf result self.new }
+        ensures room { (n : ℕ) → n ≤ 60 → M.has_room memory.old n → M.has_room memory.new n }
         ensures reading { M.is_open memory.old → M.is_open memory.new }
         ensures size { M.extent memory.new ≡ M.extent memory.old }
     {
@@ -506,6 +519,7 @@ impl Device {
         requires few { HasFew self.old }
         ensures turns { TurnsIn M.shared (M.may_be memory.old) (M.may_be memory.new)
             (Stored M.stored M.storing memory.old memory.new) self.old AnEvent.Raise result self.new }
+        ensures room { (n : ℕ) → n ≤ 60 → M.has_room memory.old n → M.has_room memory.new n }
         ensures reading { M.is_open memory.old → M.is_open memory.new }
         ensures size { M.extent memory.new ≡ M.extent memory.old }
     {
@@ -527,6 +541,7 @@ impl Device {
         event: &Event,
     ) -> Result<bool, NoMemory>
         requires reading { M.is_open memory.old }
+        requires room { M.has_room memory.old 5 }
         requires sound { IsSoundIn M.shared (M.may_be memory.old) self.old }
         requires fits { FitsIn (M.extent memory.old) self.old }
         requires few { HasFew self.old }

@@ -9,6 +9,7 @@ invariant-loop-number g l =
       some : (m : List ℕ) × g.M.Memory.may_be l.memory m;
       stays : (m : List ℕ) → g.M.Memory.may_be l.memory m → g.M.Memory.may_be l.fn.memory m;
       known : g.M.Memory.stored l.memory ≡ g.M.Memory.stored l.fn.memory;
+      room : g.M.Memory.has_room l.memory 60;
       reading : g.M.Memory.is_open l.memory;
       size : g.M.Memory.extent l.memory ≡ g.M.Memory.extent l.fn.memory;
       below : AtEach g.M.Memory.shared (g.M.Memory.may_be l.memory) (NoDirectBelow l.number) l.fn.self;

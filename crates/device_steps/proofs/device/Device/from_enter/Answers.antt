@@ -88,6 +88,7 @@ from_fetch-requires g c =
     let d = c.args.self.now in
     record {
       most = c.requires.most;
+      room = c.requires.room;
       ready = still_ready (g.M.Memory.is_open x) (g.M.Memory.is_open x) shared (g.M.Memory.may_be x) (g.M.Memory.may_be x)
           (g.M.Memory.extent x) (g.M.Memory.extent x) d c.loop-number.self c.requires.ready inv.same refl
           c.requires.ready.reading c.requires.ready.some (λ m may. may);

@@ -1,4 +1,4 @@
-use Rattle.std.proofs.Common.{◌≡◌, ◌∙◌, true, [], refl, sym, subst, ap, length, arith}
+use Rattle.std.proofs.Common.{◌≡◌, ◌+◌, ◌*◌, ◌-◌, ◌∙◌, true, [], refl, sym, subst, ap, length, arith}
 use Rattle.device_model.specs.Events.{Event}
 use Rattle.device_model.specs.Happens.{MayWant}
 use Rattle.device_model.specs.Applies.{Applies}
@@ -22,6 +22,7 @@ loop-number-init g c =
       some = c.size-looked.ensures.some;
       stays = λ m may. (look.ensures.below m may).0;
       known = look.ensures.stores;
+      room = g.met.M.Memory.fewer look.new.memory 58 (58 - 3 * look.result) (omega arith) (look.ensures.room 58 (g.met.M.Memory.fewer c.args.memory.now 60 (58 + 2) (omega arith) c.requires.room));
       reading = look.ensures.reading;
       size = look.ensures.size;
       below = λ m may. λ i lt asked. (look.ensures.below m may).1 i lt refl;
@@ -34,8 +35,11 @@ serve_queue-requires g c =
     let inv = c.loop-number.invariant in
     let same = sym inv.same in
     let n = c.loop-number.number in
+    let few = c.requires.ready.few.queues in
+    let within = c.loop-number-test.true in
     record {
       most = c.requires.most;
+      room = g.met.M.Memory.fewer c.loop-number.memory (58 - 3 * n) 6 (omega (arith, within, inv.all, few)) inv.room;
       ready = still_ready (g.M.Memory.is_open c.args.memory.now) (g.M.Memory.is_open c.loop-number.memory) shared
           (g.M.Memory.may_be c.args.memory.now) (g.M.Memory.may_be c.loop-number.memory)
           (g.M.Memory.extent c.args.memory.now) (g.M.Memory.extent c.loop-number.memory) c.args.self.now c.loop-number.self
@@ -81,12 +85,16 @@ loop-number-preserved g c =
     let n = c.loop-number.number in
     let d = c.args.self.now in
     let t = rw c.in-Ok-None.field-0-is at c.in-Ok-None.ensures.turns in
+    let left = rw c.in-Ok-None.field-0-is at c.in-Ok-None.ensures.room in
     record {
       same = t.0 ∙ inv.same;
       some = c.size-bytes.ensures.some;
       stays = λ m may. inv.stays m (t.1 m may).0;
       known = still_known g.M.Memory.stored g.M.Memory.storing g.met.M.Memory.none c.loop-number.memory c.serve_queue.new.memory
           t.2 ∙ inv.known;
+      room = left (58 - 3 * (n + 1)) refl
+          (g.met.M.Memory.fewer c.loop-number.memory (58 - 3 * n) ((58 - 3 * (n + 1)) + 3)
+          (omega (arith, c.loop-number-test.true, inv.all, c.requires.ready.few.queues)) inv.room);
       reading = c.in-Ok-None.ensures.reading;
       size = c.in-Ok-None.ensures.size ∙ inv.size;
       below = λ m may.

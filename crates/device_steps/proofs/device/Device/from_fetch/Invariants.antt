@@ -1,4 +1,4 @@
-use Rattle.std.proofs.Common.{◌≡◌, List, ℕ, length}
+use Rattle.std.proofs.Common.{◌≡◌, ◌*◌, ◌-◌, List, ℕ, length}
 use Rattle.device_steps.specs.Inner.Cursors.{NoFetchBelow, AtEach}
 use Rattle.device_steps.specs.Settling.{asks}
 use Rattle.device_steps.proofs.device.Device.from_fetch.Given as goal
@@ -10,6 +10,7 @@ invariant-loop-number g l =
       some : (m : List ℕ) × g.M.Memory.may_be l.memory m;
       stays : (m : List ℕ) → g.M.Memory.may_be l.memory m → g.M.Memory.may_be l.fn.memory m;
       known : g.M.Memory.stored l.memory ≡ g.M.Memory.stored l.fn.memory;
+      room : g.M.Memory.has_room l.memory (58 - 3 * l.number);
       reading : g.M.Memory.is_open l.memory;
       size : g.M.Memory.extent l.memory ≡ g.M.Memory.extent l.fn.memory;
       below : AtEach g.M.Memory.shared (g.M.Memory.may_be l.memory) (NoFetchBelow (asks l.queues) l.number) l.fn.self;

@@ -1,4 +1,4 @@
-use Rattle.std.proofs.Common.{◌∙◌, sym, subst}
+use Rattle.std.proofs.Common.{◌∙◌, sym, subst, arith}
 use Rattle.device_model.specs.Events.{Event}
 use Rattle.device_steps.specs.Apart.{standing, Stored}
 use Rattle.device_steps.specs.Inner.Apart.{TurnsIn}
@@ -94,6 +94,7 @@ from_direct-requires g c =
     let second = idle_in shared middle after (Stored g.M.Memory.stored g.M.Memory.storing z y) d Event.Raise raise.result d' c.if-raised.false c.size-event.ensures.some turn in
     record {
       most = c.requires.most;
+      room = raise.ensures.room 60 (omega arith) (call.ensures.room 60 (omega arith) c.requires.room);
       ready = still_ready (g.M.Memory.is_open x) (g.M.Memory.is_open y) shared before after (g.M.Memory.extent x)
           (g.M.Memory.extent y) d d' c.requires.ready second.0 (raise.ensures.size ∙ call.ensures.size)
           (raise.ensures.reading call.ensures.reading) c.size-event.ensures.some

@@ -25,6 +25,7 @@ loop-number-init g c =
       some = c.requires.ready.some;
       stays = λ m may. may;
       known = refl;
+      room = c.requires.room;
       reading = c.requires.ready.reading;
       size = refl;
       below = λ m may.
@@ -85,6 +86,7 @@ loop-number-preserved g c =
       stays = λ m may. inv.stays m (here.1 m may).0;
       known = still_known g.M.Memory.stored g.M.Memory.storing g.met.M.Memory.none c.loop-number.memory call.new.memory here.2
           ∙ inv.known;
+      room = call.ensures.room 60 (omega arith) inv.room;
       reading = call.ensures.reading;
       size = call.ensures.size ∙ inv.size;
       below = λ m may.
@@ -112,6 +114,7 @@ from_enter-requires g c =
     let v = c.loop-number.self in
     record {
       most = c.requires.most;
+      room = inv.room;
       ready = still_ready (g.M.Memory.is_open c.args.memory.now) (g.M.Memory.is_open c.loop-number.memory) shared before middle
           (g.M.Memory.extent c.args.memory.now) (g.M.Memory.extent c.loop-number.memory) d v c.requires.ready inv.same inv.size
           inv.reading inv.some inv.stays;

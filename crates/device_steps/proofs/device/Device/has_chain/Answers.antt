@@ -1,4 +1,4 @@
-use Rattle.std.proofs.Common.{◌≡◌, true, refl, sym, ap, subst, ◌∙◌, length, arith}
+use Rattle.std.proofs.Common.{◌≡◌, ◌+◌, ◌-◌, true, refl, sym, ap, subst, ◌∙◌, length, arith}
 use Rattle.device_model.specs.Events.{Event}
 use Rattle.device_model.specs.Applies.{Applies}
 use Rattle.device_steps.specs.Apart.{PlainDevice, standing, FitsIn}
@@ -14,6 +14,7 @@ loop-number-init g c =
     record {
       stays = λ m may. may;
       known = refl;
+      room = c.requires.room;
       reading = c.requires.reading;
       size = refl;
       below = λ m may. λ i lt. absurd (omega (arith, lt));
@@ -25,6 +26,8 @@ queue_goes_on-requires g c =
     let inv = c.loop-number.invariant in
     record {
       reading = inv.reading;
+      room = g.met.M.Memory.fewer c.loop-number.memory (20 - c.loop-number.number) 1
+          (omega (arith, c.loop-number-test.true, inv.all, c.requires.few.queues)) inv.room;
       few = c.requires.few;
       fits = subst (λ n. FitsIn n c.args.self.now) (sym inv.size) c.requires.fits;
       there = omega (arith, c.loop-number-test.true, inv.all);
@@ -53,6 +56,9 @@ loop-number-preserved g c =
     record {
       stays = λ m may. inv.stays m (look.denies m may).0;
       known = look.stores ∙ inv.known;
+      room = look.room (20 - (n + 1))
+          (g.met.M.Memory.fewer c.loop-number.memory (20 - n) ((20 - (n + 1)) + 1)
+          (omega (arith, c.loop-number-test.true, inv.all, c.requires.few.queues)) inv.room);
       reading = look.reading;
       size = look.size ∙ inv.size;
       below = λ m may.

@@ -25,7 +25,7 @@ has_chain_in-requires g c =
     queue_read w d.bays.items d.bays.len n c.index.result.now refl d.bays.ok.0 there c.index.ensures in
     let fits : FitsIn (g.M.Memory.extent c.args.memory.now) (the_view d) =
     subst (λ z. FitsIn (g.M.Memory.extent c.args.memory.now) z) (sym c.self.view_is) c.requires.fits in
-    record { reading = c.requires.reading; fits = sym (fits n c.index.result.now at) }
+    record { reading = c.requires.reading; room = c.requires.room; fits = sym (fits n c.index.result.now at) }
 
 pub returns-clause-denies : goal.returns-clause-denies
 returns-clause-denies g c =

@@ -380,3 +380,15 @@ returns-else-place-len-clause-turns g c =
       });
       before = λ m. before_any shared left.0 m v' next last_kept.before;
     }))
+
+pub returns-in-Err-clause-room : goal.returns-in-Err-clause-room
+returns-in-Err-clause-room g c = λ n is h. absurd (cc is)
+
+pub returns-in-Ok-Other-clause-room : goal.returns-in-Ok-Other-clause-room
+returns-in-Ok-Other-clause-room g c = λ n is h. absurd (cc is)
+
+pub returns-then-place-len-clause-room : goal.returns-then-place-len-clause-room
+returns-then-place-len-clause-room g c = λ n is h. absurd (cc is)
+
+pub returns-else-place-len-clause-room : goal.returns-else-place-len-clause-room
+returns-else-place-len-clause-room g c = λ n is h. absurd (cc is)

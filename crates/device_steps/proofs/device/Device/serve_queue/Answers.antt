@@ -1,4 +1,4 @@
-use Rattle.std.proofs.Common.{◌∙◌, refl, sym}
+use Rattle.std.proofs.Common.{◌+◌, ◌∙◌, refl, sym, arith}
 use Rattle.device_steps.specs.Apart.{Stored}
 use Rattle.device_steps.specs.Settling.{asks}
 use Rattle.device_steps.proofs.InMemory.{none_known, on_known}
@@ -27,6 +27,7 @@ serve_next-requires g c =
     let look = c.is_idle_in-idle in
     record {
       most = c.requires.most;
+      room = look.ensures.room 5 (g.met.M.Memory.fewer c.args.memory.now 6 (5 + 1) (omega arith) c.requires.room);
       ready = still_ready (g.M.Memory.is_open c.args.memory.now) (g.M.Memory.is_open look.new.memory) g.M.Memory.shared
           (g.M.Memory.may_be c.args.memory.now) (g.M.Memory.may_be look.new.memory) (g.M.Memory.extent c.args.memory.now)
           (g.M.Memory.extent look.new.memory) c.args.self.now c.args.self.now c.requires.ready refl look.ensures.size
@@ -44,3 +45,18 @@ returns-clause-turns g c =
     look.new.memory c.args.self.now c.serve_next.result c.serve_next.new.memory c.serve_next.new.self look.ensures.stays
     (on_known g.M.Memory.stored g.M.Memory.storing c.args.memory.now look.new.memory look.ensures.stores)
     c.serve_next.ensures.turns
+
+pub returns-then-not-is_asked-clause-room : goal.returns-then-not-is_asked-clause-room
+returns-then-not-is_asked-clause-room g c =
+    λ n is h. g.met.M.Memory.fewer c.args.memory.now (n + 3) n (omega arith) h
+
+pub returns-then-idle-clause-room : goal.returns-then-idle-clause-room
+returns-then-idle-clause-room g c =
+    λ n is h.
+    c.is_idle_in-idle.ensures.room n (g.met.M.Memory.fewer c.args.memory.now (n + 3) (n + 1) (omega arith) h)
+
+pub returns-clause-room : goal.returns-clause-room
+returns-clause-room g c =
+    λ n is h.
+    c.serve_next.ensures.room n is
+    (c.is_idle_in-idle.ensures.room (n + 2) (g.met.M.Memory.fewer c.args.memory.now (n + 3) ((n + 2) + 1) (omega arith) h))

@@ -64,3 +64,15 @@ returns-clause-turns g c =
     let f = first.1 m may in
     let h = (second m may).1 in
     (f.0, ((λ a. inr (f.1, inr (h, inl (a, refl)))), (λ never. (f.1, (h, (never, tt))))))) c.mark.ensures
+
+pub returns-then-is_none-clause-room : goal.returns-then-is_none-clause-room
+returns-then-is_none-clause-room g c = λ n le h. h
+
+pub returns-then-answered-clause-room : goal.returns-then-answered-clause-room
+returns-then-answered-clause-room g c = c.answer_tmf_in-answered.ensures.room
+
+pub returns-then-check-clause-room : goal.returns-then-check-clause-room
+returns-then-check-clause-room g c = c.answer_tmf_in-answered.ensures.room
+
+pub returns-clause-room : goal.returns-clause-room
+returns-clause-room g c = c.answer_tmf_in-answered.ensures.room

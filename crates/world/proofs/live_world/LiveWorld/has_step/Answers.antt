@@ -1,4 +1,4 @@
-use Rattle.std.proofs.Common.{◌∙◌, refl, sym, subst}
+use Rattle.std.proofs.Common.{◌∙◌, refl, sym, subst, arith}
 use Rattle.device_steps.specs.Apart.{FitsIn, standing}
 use Rattle.device_steps.specs.Settling.{asks}
 use Rattle.device_steps.proofs.InMemory.{none_known}
@@ -16,6 +16,7 @@ has_step-has-requires g c =
     let there = g.met.M.Memory.sized now some.0 some.1 ∙ c.begin.ensures.size in
     record {
       reading = c.begin.ensures.reading;
+      room = g.met.M.Memory.fewer now 64 20 (omega arith) c.begin.ensures.room;
       few = few_live shared size d some.0 there c.self.invariant;
       fits = subst (λ n. FitsIn n d) (sym c.begin.ensures.size) (fits_live shared size d some.0 there c.self.invariant);
     }

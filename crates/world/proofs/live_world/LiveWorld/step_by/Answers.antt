@@ -1,4 +1,4 @@
-use Rattle.std.proofs.Common.{◌≡◌, ◌∙◌, ℕ, List, length, sym, subst}
+use Rattle.std.proofs.Common.{◌≡◌, ◌∙◌, ℕ, List, length, sym, subst, arith}
 use Rattle.device_model.specs.Events.{plain_event}
 use Rattle.device_steps.specs.Apart.{FitsIn, Stored}
 use Rattle.device_steps.proofs.InMemory.{turns_begun}
@@ -19,6 +19,7 @@ step_in-stepped-requires g c =
     let one = sound some.0 some.1 in
     record {
       reading = c.begin.ensures.reading;
+      room = g.met.M.Memory.fewer now 64 5 (omega arith) c.begin.ensures.room;
       sound = sound;
       fits = subst (λ n. FitsIn n d) (sym c.begin.ensures.size) (fits_live shared size d some.0 there c.self.invariant);
       few = few_live shared size d some.0 there c.self.invariant;

@@ -1,4 +1,4 @@
-use Rattle.std.proofs.Common.{◌≡◌, ◌∙◌, ℕ, List, length, sym, subst}
+use Rattle.std.proofs.Common.{◌≡◌, ◌∙◌, ℕ, List, length, sym, subst, arith}
 use Rattle.device_steps.specs.Apart.{FitsIn, Stored}
 use Rattle.device_steps.specs.Settling.{asks}
 use Rattle.world.proofs.Lively.{sound_live, fits_live, few_live}
@@ -17,6 +17,7 @@ turn-turned-requires g c =
     let there = sized some.0 some.1 in
     record {
       most = c.requires.most;
+      room = g.met.M.Memory.fewer now 64 60 (omega arith) c.begin.ensures.room;
       ready = record {
         reading = c.begin.ensures.reading;
         some = some;

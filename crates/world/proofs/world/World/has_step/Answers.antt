@@ -10,6 +10,7 @@ pub has_step-has-requires : goal.has_step-has-requires
 has_step-has-requires c =
     record {
       reading = tt;
+      room = tt;
       few = has_few false c.self.inside.memory c.self.inside.device c.self.invariant.whole.few;
       fits = subst (λ (m : List ℕ). FitsIn (length m) c.self.inside.device) (sym c.of-still.ensures) c.self.invariant.fits;
     }

@@ -17,6 +17,7 @@ turn-requires c =
     let before = subst (NoneBefore c.args.cursor) (sym c.self.view_is) c.requires.before in
     record {
       most = c.requires.most;
+      room = tt;
       ready = record {
         reading = tt;
         some = (m, refl);
