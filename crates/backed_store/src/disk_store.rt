@@ -84,6 +84,19 @@ impl Disk {
     ghost use Rattle.block_store.specs.Pages.{covered};
     ghost use Rattle.backed_store.specs.Disks.{size_of, blocks_of, holds, has_room, is_whole};
 
+    /// Returns true if it isn't backed: all its blocks are in memory, now and later, and can be written over.
+    #[inline(always)]
+    pub fn is_resident(&self) -> bool
+        ensures kind { result ≡ is_whole self.now }
+        ensures held { IsTrue result → (b : ℕ) → IsTrue (holds self.now b) }
+        ensures room { IsTrue result → (b : ℕ) → IsTrue (has_room self.now b) }
+    {
+        match self {
+            Disk::Whole(_) => true,
+            Disk::Backed(_) => false,
+        }
+    }
+
     /// Returns the bytes of `count` blocks from `first` on where they stand, which spares a copy; `None` where they lie
     /// in more than one page, or aren't in memory. Takes no memory.
     #[inline(always)]
