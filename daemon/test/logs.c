@@ -2,6 +2,7 @@
 
 #include <fcntl.h>
 #include <pthread.h>
+#include <sched.h>
 #include <stdatomic.h>
 #include <string.h>
 #include <sys/eventfd.h>
@@ -16,7 +17,7 @@
 static const uint8_t ready[6] = {0}, read_10[] = {0x28, 0, 0, 0, 0, 3, 0, 0, 16, 0}, write_10[] = {0x2a, 0, 0, 0, 0, 3, 0, 0, 16, 0};
 
 // PAGE_BYTES: of the guest's pages; LOG_BYTES: of a log, which has the guest's memory and more; ELSEWHERE: an address behind the memory.
-enum { PAGE_BYTES = 4096, LOG_SIZE = 0x50000, BYTES = 16 * 512, TURNS = 60, REQUESTS = 0x200000, RESPONSES = 0x200400 };
+enum { PAGE_BYTES = 4096, LOG_SIZE = 0x50000, BYTES = 16 * 512, TURNS = 20, REQUESTS = 0x200000, RESPONSES = 0x200400 };
 #define ELSEWHERE ((UINT64_C(1) << 33) + 8)
 static const uint64_t IS_ON = F_LOG_ALL;
 
@@ -128,9 +129,9 @@ static void *watch(void *its) {
   struct watcher *watcher = its;
   for (unsigned turn = 1; turn <= TURNS; turn++) {
     const struct front *front = watcher->front;
-    while (atomic_load(&watcher->asked) < turn) continue;
+    while (atomic_load(&watcher->asked) < turn) sched_yield();
     uint16_t before = front->queues[2].seen;
-    while (!is_answered(front, 2, before)) continue;
+    while (!is_answered(front, 2, before)) sched_yield();
     MUST(has_bit(watcher->log, guest_of(front, RESPONSES + 0x2000)));
     MUST(has_bit(watcher->log, guest_of(front, data_of(front))));
     MUST(has_bit(watcher->log, guest_of(front, data_of(front) + BYTES - 1)));
@@ -149,7 +150,7 @@ static void read_watched(struct front *front, struct watcher *watcher, unsigned 
   atomic_store(&watcher->asked, turn);
   driver_kick(front, 2);
   pump(front);
-  while (atomic_load(&watcher->seen) < turn) continue;
+  while (atomic_load(&watcher->seen) < turn) sched_yield();
   MUST(front->alive && driver_next(front, 2, 3, &used) && used == RESPONSE + BYTES);
 }
 
