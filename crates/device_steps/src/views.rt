@@ -4,12 +4,13 @@ ghost use Rattle.std.specs.Prelude.{◌≡◌, ◌≤◌, ◌↔◌, ◌+◌, �
 ghost use Rattle.std.specs.List.{list_any};
 ghost use Rattle.std.specs.Option.{option_copied, option_map};
 ghost use Rattle.ring_core.specs.State.{IsLawful};
+ghost use Rattle.ring_core.specs.Position.{position};
 ghost use Rattle.unit_model.specs.Contents.{capacity_of, pending_of};
 
 use crate::bay::Bay;
 use crate::device::Device;
 use foundation::NoMemory;
-use ring_core::{QueueLog, RingFault};
+use ring_core::{Position, QueueLog, RingFault};
 use unit_attention::Code;
 use unit_history::{Changes, UnitState};
 
@@ -76,6 +77,16 @@ impl Device {
     {
         match self.bays.get(number as usize) {
             Some(bay) => bay.queue.fault(),
+            None => None,
+        }
+    }
+
+    /// Returns where a queue goes on; `None` where there is no such queue.
+    pub fn position(&self, number: u16) -> Option<Position>
+        ensures { result ≡ option_map (λ q. position q.ring) (slice_get self.now.queues number) }
+    {
+        match self.bays.get(number as usize) {
+            Some(bay) => Some(bay.queue.position()),
             None => None,
         }
     }
