@@ -27,7 +27,7 @@ pub use phases::{
     phase_enter, phase_fetch, phase_fetch_control, phase_fetch_event, phase_hard, phase_leave,
     phase_mark, phase_prepare, phase_raise, phase_resize, phase_start_pages,
 };
-pub use ring_core::{Notify, RingFault};
+pub use ring_core::{Notify, Position, RingFault, RingIndex};
 pub use served::Served;
 pub use unit_attention::Code;
 pub use unit_history::{Changes, StepKind, UnitState};

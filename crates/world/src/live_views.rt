@@ -4,6 +4,7 @@
 ghost use Rattle.std.specs.Prelude.{◌≡◌, ◌≤◌, ◌+◌, ◌*◌, true, length, IfOk, IfSome, slice_get};
 ghost use Rattle.std.specs.Option.{option_copied, option_map};
 ghost use Rattle.ring_core.specs.State.{IsLawful};
+ghost use Rattle.ring_core.specs.Position.{position};
 ghost use Rattle.unit_model.specs.Contents.{capacity_of, pending_of};
 ghost use Rattle.device_model.specs.World.{Everywhere};
 ghost use Rattle.device_model.specs.Lawful.{IsNumbered};
@@ -16,7 +17,7 @@ use crate::live_world::LiveWorld;
 use device_steps::{Bay, all_are_sound};
 use foundation::NoMemory;
 use guest_mem::WritableMemory;
-use ring_core::{QueueLog, RingFault};
+use ring_core::{Position, QueueLog, RingFault};
 use unit_attention::Code;
 use unit_history::{Changes, UnitState};
 
@@ -80,6 +81,14 @@ impl<M: WritableMemory> LiveWorld<M> {
         ensures { result ≡ fault_of (slice_get self.now.device.queues number) }
     {
         self.device.broken(number)
+    }
+
+    /// Returns where a queue goes on, as [`World::position`](crate::World::position) does; `None` where there is no such
+    /// queue. It means that once no chain of the queue is outstanding.
+    pub fn position(&self, number: u16) -> Option<Position>
+        ensures { result ≡ option_map (λ q. position q.ring) (slice_get self.now.device.queues number) }
+    {
+        self.device.position(number)
     }
 
     /// Returns the queues with their slots, of which there are few.

@@ -3,13 +3,14 @@
 ghost use Rattle.std.specs.Prelude.{◌≡◌, ◌≤◌, ◌+◌, ◌*◌, true, length, IfOk, IfSome, slice_get};
 ghost use Rattle.std.specs.Option.{option_copied, option_map};
 ghost use Rattle.ring_core.specs.State.{IsLawful};
+ghost use Rattle.ring_core.specs.Position.{position};
 ghost use Rattle.unit_model.specs.Contents.{capacity_of, pending_of};
 
 use crate::world::World;
 use device_steps::Bay;
 use foundation::NoMemory;
 use guest_mem::GuestMem;
-use ring_core::{QueueLog, RingFault};
+use ring_core::{Position, QueueLog, RingFault};
 use unit_attention::Code;
 use unit_history::{Changes, UnitState};
 
@@ -58,6 +59,16 @@ impl World {
         ensures { result ≡ fault_of (slice_get self.now.queues number) }
     {
         self.device.broken(number)
+    }
+
+    /// Returns where a queue goes on: by these first indices of its layout another device goes on where this one is
+    /// (`a_queue_goes_on_at_its_position` of `ring_core`). `None` where there is no such queue. It means that once no chain
+    /// of the queue is outstanding, as its log tells. A chain that is, or that the device holds for an event, the other
+    /// device wouldn't know.
+    pub fn position(&self, number: u16) -> Option<Position>
+        ensures { result ≡ option_map (λ q. position q.ring) (slice_get self.now.queues number) }
+    {
+        self.device.position(number)
     }
 
     /// Returns the queues with their slots, of which there are few.
