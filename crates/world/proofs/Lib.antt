@@ -9,3 +9,4 @@ pub mod AnyChain
 pub mod Lively
 pub mod Rounds
 pub mod Whole
+pub mod Rounded

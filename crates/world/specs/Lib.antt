@@ -5,4 +5,5 @@ pub mod Promise
 pub mod LiveWorld
 pub mod Asking
 pub mod LiveServing
+pub mod ServingAsked
 pub mod Inner

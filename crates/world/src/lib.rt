@@ -7,10 +7,12 @@
 
 mod asking;
 mod live_serving;
+mod live_serving_asked;
 mod live_views;
 mod live_world;
 mod notifications;
 mod served;
+mod serving_asked;
 mod views;
 mod world;
 
