@@ -77,6 +77,8 @@ static void causes(void) {
 
 static void nulls(void) {
   struct vscsi device = {0};
+  struct vscsi_live live = {0};
+  struct vscsi_position position = {.used = 5};
   struct vscsi_disk disk = {0};
   struct vscsi_range ranges[VSCSI_MOST_RANGES];
   struct vscsi_counts counts = {.left = 5};
@@ -106,6 +108,11 @@ static void nulls(void) {
   IS(vscsi_broken(0, 0, &bits), VSCSI_NULL);
   IS(vscsi_broken(&device, 0, 0), VSCSI_NULL);
   IS(vscsi_progress(0, 0, &n, &n), VSCSI_NULL);
+  IS(vscsi_position(0, 0, &position), VSCSI_NULL);
+  IS(vscsi_position(&device, 0, 0), VSCSI_NULL);
+  IS(vscsi_live_position(0, 0, &position), VSCSI_NULL);
+  IS(vscsi_live_position(&live, 0, 0), VSCSI_NULL);
+  IS(position.used, 5);
   IS(vscsi_reset(0, 0, 0), VSCSI_NULL);
   IS(vscsi_resize(0, 0, 0, 1), VSCSI_NULL);
   IS(vscsi_counts(0, 0, 0, &counts, sizeof counts), VSCSI_NULL);
@@ -142,6 +149,8 @@ static void nulls(void) {
 
 static void no_device(void) {
   struct vscsi device = {0};
+  struct vscsi_live live = {0};
+  struct vscsi_position position = {.used = 5};
   struct vscsi_disk disk = {0};
   struct vscsi_range ranges[VSCSI_MOST_RANGES];
   struct vscsi_counts counts = {.left = 5};
@@ -162,6 +171,9 @@ static void no_device(void) {
   IS(vscsi_broken(&device, 0, &bits), VSCSI_NO_DEVICE);
   IS(vscsi_progress(&device, 0, &n, &n), VSCSI_NO_DEVICE);
   IS(vscsi_progress(&device, 0, 0, 0), VSCSI_NO_DEVICE);
+  IS(vscsi_position(&device, 0, &position), VSCSI_NO_DEVICE);
+  IS(vscsi_live_position(&live, 0, &position), VSCSI_NO_DEVICE);
+  IS(position.used, 5);
   IS(vscsi_reset(&device, 0, 0), VSCSI_NO_DEVICE);
   IS(vscsi_resize(&device, 0, 0, 0), VSCSI_NO_DEVICE);
   IS(vscsi_counts(&device, 0, 0, &counts, sizeof counts - 1), VSCSI_BAD_LENGTH);
@@ -185,6 +197,7 @@ static void no_device(void) {
 static void calls(struct vscsi *device) {
   static uint8_t whole[PAGES * VSCSI_PAGE + 1];
   struct vscsi_fault fault;
+  struct vscsi_position position = {.used = 5};
   uint64_t n = 5, used = 5;
   uint32_t bits = 5;
   uint8_t bytes[1024] = {5}, byte = 5;
@@ -214,6 +227,10 @@ static void calls(struct vscsi *device) {
   IS(used, 0);
   IS(vscsi_progress(device, 2, 0, 0), VSCSI_DONE);
   IS(vscsi_progress(device, QUEUES, 0, 0), VSCSI_NO_QUEUE);
+  IS(vscsi_position(device, QUEUES, &position), VSCSI_NO_QUEUE);
+  IS(position.used, 5);
+  IS(vscsi_position(device, 2, &position), VSCSI_DONE);
+  IS(position.available + position.used + position.available_wrapped + position.used_wrapped, 0);
   // units
   struct vscsi_counts counts = {.left = 5};
   IS(vscsi_counts(device, 4, 1, &counts, sizeof counts), VSCSI_NO_UNIT);
@@ -254,6 +271,7 @@ static void calls(struct vscsi *device) {
 // A guest breaks a queue, and the others go on.
 static void broken(struct vscsi *device) {
   static const uint8_t nine[2] = {9, 0}, one[2] = {1, 0};
+  struct vscsi_position position;
   uint64_t steps, accepted, used;
   uint32_t fault = 5, owed;
   uint8_t status = 5;
@@ -279,6 +297,9 @@ static void broken(struct vscsi *device) {
   IS(vscsi_progress(device, 1, &accepted, &used), VSCSI_DONE);
   IS(accepted, 1);
   IS(used, 1);
+  IS(vscsi_position(device, 1, &position), VSCSI_DONE);
+  IS(position.available, 1);
+  IS(position.used, 1);
   IS(vscsi_owed(device, &owed), VSCSI_DONE);
   IS(owed, 2);
   IS(vscsi_owed(device, &owed), VSCSI_DONE);

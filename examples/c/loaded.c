@@ -18,7 +18,8 @@ enum { QUEUES = 3, SIZE = 8, PAGES = 16 };
                   of(vscsi_answer_text) of(vscsi_cause_text) of(vscsi_broken_text) of(vscsi_live_create) of(vscsi_map)           \
                       of(vscsi_live_serve) of(vscsi_live_owed) of(vscsi_live_status) of(vscsi_live_broken) of(vscsi_live_reset)  \
                           of(vscsi_live_resize) of(vscsi_live_counts) of(vscsi_live_capacity) of(vscsi_live_blocks)              \
-                              of(vscsi_live_changed) of(vscsi_live_close) of(vscsi_live_destroy) of(vscsi_live_ask) of(vscsi_log)
+                              of(vscsi_live_changed) of(vscsi_live_close) of(vscsi_live_destroy) of(vscsi_live_ask) of(vscsi_log)     \
+                                  of(vscsi_position) of(vscsi_live_position)
 
 #define FIELD(name) __typeof__(&name) name;
 #define LOAD(name) library.name = (__typeof__(&name))found(handle, #name);

@@ -211,6 +211,7 @@ enum vscsi_broken {
 struct vscsi_live {
   void *at;
   bool live;
+  bool asks;
   void *map;
 };
 
@@ -247,7 +248,12 @@ struct vscsi_ring {
 };
 
 /* The device that is wanted on live memory, as `struct vscsi_config`: the memory has no size, since any address below
- * VSCSI_MOST_ADDRESS may be mapped. `size` is sizeof (struct vscsi_live_config). Since 1.4. */
+ * VSCSI_MOST_ADDRESS may be mapped. `size` is sizeof (struct vscsi_live_config).
+ *
+ * Where `asks` is true, vscsi_live_serve asks the driver of each queue that it serves to notify of its next chain, once nothing
+ * is left, and looks once more behind that (VIRTIO 1.2, 2.7.10 and 2.8.10). A host that waits for kicks then calls nothing else
+ * before it sleeps. Where it is false the device writes nothing of its own: the host calls vscsi_live_ask, or polls. A
+ * configuration that ends before `asks` has false there. Since 1.4. */
 struct vscsi_live_config {
   size_t size;
   uint64_t features;
@@ -255,6 +261,7 @@ struct vscsi_live_config {
   size_t ring_count;
   const struct vscsi_unit *units;
   size_t unit_count;
+  bool asks;
 };
 
 /* Makes the device of a configuration, with zeros for guest memory, of which nothing has happened yet. A guest that had
@@ -341,6 +348,13 @@ enum vscsi_answer vscsi_broken(struct vscsi *device, uint16_t queue, uint32_t *f
  * position in the available ring and its used index.
  * VSCSI_NO_DEVICE; VSCSI_NO_QUEUE. */
 enum vscsi_answer vscsi_progress(struct vscsi *device, uint16_t queue, uint64_t *accepted, uint64_t *used);
+
+/* Tells where a queue goes on: with this as its `first` in a `struct vscsi_ring`, a device on live memory goes on where this one
+ * is. It means that once no chain of the queue is outstanding: once vscsi_serve left nothing (`more`), and both numbers of
+ * vscsi_progress are equal. The next device doesn't know a chain that is outstanding, and never gives it back; an event buffer
+ * that this device holds is one. A queue that a guest broke goes on at what broke it. Takes no memory. Since 1.4.
+ * VSCSI_NO_DEVICE; VSCSI_NO_QUEUE. */
+enum vscsi_answer vscsi_position(struct vscsi *device, uint16_t queue, struct vscsi_position *position);
 
 /* The operator's hard reset of a unit: its tasks that haven't run end with response RESET, its next command is told
  * (29/00), and an event goes to the event queue. vscsi_settle or vscsi_serve does what follows.
@@ -448,15 +462,27 @@ enum vscsi_answer vscsi_log(struct vscsi_live *device, uint8_t *bitmap, size_t b
  * none (VIRTIO 1.2, 2.7.10 and 2.8.10). A driver that agreed to VSCSI_F_EVENT_IDX notifies of that one chain alone, and one of a
  * split queue that is never asked stops after its first request. So a host that waits for notifications does these three in
  * turn: it serves until nothing is left; it asks for the next chain; and it serves once more, since a driver that made a chain
- * available before it saw what was asked notifies nobody. If that took no step it sleeps, else it asks again. A host that polls
- * asks for none, again after 65,535 chains, and for the next one before it sleeps. Nothing is written for a queue that is broken
- * or isn't mapped. Since 1.4.
+ * available before it saw what was asked notifies nobody. If that took no step it sleeps, else it asks again. With `asks` of the
+ * configuration vscsi_live_serve does all three. A host that polls asks for none, again after 65,535 chains, and for the next
+ * one before it sleeps. Nothing is written for a queue that is broken or isn't mapped. Since 1.4.
  * VSCSI_NO_DEVICE; VSCSI_NO_QUEUE. */
 enum vscsi_answer vscsi_live_ask(struct vscsi_live *device, uint16_t queue, bool notify);
 
+/* Tells where a queue goes on, as vscsi_position does: before the device is closed, and another is made in its place, in this
+ * process or elsewhere. It means that once no chain of the queue is outstanding. Of the control queue and of request queues none
+ * is once vscsi_live_serve left nothing (`more`). Of the event queue none is where both sides stand at the same place, as they
+ * did when the device was made. Since 1.4.
+ * VSCSI_NO_DEVICE; VSCSI_NO_QUEUE. */
+enum vscsi_answer vscsi_live_position(struct vscsi_live *device, uint16_t queue, struct vscsi_position *position);
+
 /* Of a device on live memory what the call of the same name does; but vscsi_live_owed decides by the driver's flag, or its
  * event index, as it stood behind the full barrier behind the used index, so nothing needs to be looked at once more. And
- * vscsi_live_broken also tells a queue that isn't mapped. Since 1.4. */
+ * vscsi_live_broken also tells a queue that isn't mapped.
+ *
+ * Where the configuration has `asks`, vscsi_live_serve goes on until no driver made a chain available before it could see that
+ * it was asked, or `most` steps were taken: to ask is no step. Where `more` is false then, the driver of each of those queues
+ * notifies of its next chain, but for queues that are broken or not mapped. Where it is true, or VSCSI_NO_MEMORY was answered,
+ * the drivers may not have been asked. Since 1.4. */
 enum vscsi_answer vscsi_live_serve(struct vscsi_live *device, uint32_t queues, uint64_t most, uint64_t *steps, bool *more);
 enum vscsi_answer vscsi_live_owed(struct vscsi_live *device, uint32_t *queues);
 enum vscsi_answer vscsi_live_status(struct vscsi_live *device, uint8_t *status);

@@ -23,6 +23,7 @@ uint32_t vscsi_raw_owed(struct vscsi *device, uint32_t *queues);
 uint32_t vscsi_raw_status(struct vscsi *device, uint8_t *status);
 uint32_t vscsi_raw_broken(struct vscsi *device, uint16_t queue, uint32_t *fault);
 uint32_t vscsi_raw_progress(struct vscsi *device, uint16_t queue, uint64_t *accepted, uint64_t *used);
+uint32_t vscsi_raw_position(struct vscsi *device, uint16_t queue, struct vscsi_position *position);
 uint32_t vscsi_raw_reset(struct vscsi *device, uint8_t target, uint16_t lun);
 uint32_t vscsi_raw_resize(struct vscsi *device, uint8_t target, uint16_t lun, uint64_t blocks);
 uint32_t vscsi_raw_counts(struct vscsi *device, uint8_t target, uint16_t lun, struct vscsi_counts *counts);
@@ -51,9 +52,11 @@ uint32_t vscsi_raw_live_ask(struct vscsi_live *device, uint16_t queue, bool noti
 uint32_t vscsi_raw_live_close(struct vscsi_live *device, struct vscsi_disk *disks, size_t count);
 uint32_t vscsi_raw_live_destroy(struct vscsi_live *device);
 uint32_t vscsi_raw_live_serve(struct vscsi_live *device, uint32_t queues, uint64_t most, uint64_t *steps, bool *more);
+uint32_t vscsi_raw_live_serve_and_ask(struct vscsi_live *device, uint32_t queues, uint64_t most, uint64_t *steps, bool *more);
 uint32_t vscsi_raw_live_owed(struct vscsi_live *device, uint32_t *queues);
 uint32_t vscsi_raw_live_status(struct vscsi_live *device, uint8_t *status);
 uint32_t vscsi_raw_live_broken(struct vscsi_live *device, uint16_t queue, uint32_t *fault);
+uint32_t vscsi_raw_live_position(struct vscsi_live *device, uint16_t queue, struct vscsi_position *position);
 uint32_t vscsi_raw_live_reset(struct vscsi_live *device, uint8_t target, uint16_t lun);
 uint32_t vscsi_raw_live_resize(struct vscsi_live *device, uint8_t target, uint16_t lun, uint64_t blocks);
 uint32_t vscsi_raw_live_counts(struct vscsi_live *device, uint8_t target, uint16_t lun, struct vscsi_counts *counts);
@@ -156,6 +159,10 @@ enum vscsi_answer vscsi_progress(struct vscsi *device, uint16_t queue, uint64_t 
   return (enum vscsi_answer)vscsi_raw_progress(device, queue, accepted ? accepted : &unread[0], used ? used : &unread[1]);
 }
 
+enum vscsi_answer vscsi_position(struct vscsi *device, uint16_t queue, struct vscsi_position *position) {
+  return device && position ? (enum vscsi_answer)vscsi_raw_position(device, queue, position) : VSCSI_NULL;
+}
+
 enum vscsi_answer vscsi_reset(struct vscsi *device, uint8_t target, uint16_t lun) {
   return device ? (enum vscsi_answer)vscsi_raw_reset(device, target, lun) : VSCSI_NULL;
 }
@@ -197,10 +204,13 @@ enum vscsi_answer vscsi_changed(struct vscsi *device, uint8_t target, uint16_t l
 static const struct vscsi_ring no_ring = {0, 0, 0, 0, {0, 0, false, false}};
 static const struct vscsi_region no_region = {0, 0, NULL};
 
+/* The size of a configuration in a header that had no `asks` yet. */
+static const size_t size_without_asks = offsetof(struct vscsi_live_config, asks);
+
 /* Returns why a configuration of live memory can't be handed on, or VSCSI_DONE. */
 static enum vscsi_answer live_unreadable(const struct vscsi_live_config *config) {
   if (!config) return VSCSI_NULL;
-  if (config->size != sizeof *config) return VSCSI_BAD_LENGTH;
+  if (config->size != sizeof *config && config->size != size_without_asks) return VSCSI_BAD_LENGTH;
   if ((!config->rings && config->ring_count) || (!config->units && config->unit_count)) return VSCSI_NULL;
   if (is_long(config->ring_count, sizeof no_ring) || is_long(config->unit_count, sizeof(struct vscsi_disk))) return VSCSI_BAD_LENGTH;
   return VSCSI_DONE;
@@ -228,11 +238,13 @@ enum vscsi_answer vscsi_live_create(struct vscsi_live *device, const struct vscs
   struct bus_map *map = bus_map();
   if (!map) return VSCSI_NO_MEMORY;
   answer = create_over(device, map, config, disks, fault ? fault : &unread);
-  if (answer == VSCSI_DONE)
-    device->map = map;
-  else
+  if (answer != VSCSI_DONE) {
     bus_unmap(map);
-  return answer;
+    return answer;
+  }
+  device->map = map;
+  device->asks = config->size != size_without_asks && config->asks;
+  return VSCSI_DONE;
 }
 
 /* Lets go of what was mapped, once the device has gone. */
@@ -240,6 +252,7 @@ static enum vscsi_answer unmapped(struct vscsi_live *device, enum vscsi_answer a
   if (answer == VSCSI_DONE) {
     bus_unmap(device->map);
     device->map = NULL;
+    device->asks = false;
   }
   return answer;
 }
@@ -288,7 +301,8 @@ enum vscsi_answer vscsi_live_serve(struct vscsi_live *device, uint32_t queues, u
   uint64_t taken = 0;
   bool left = false;
   if (!device) return VSCSI_NULL;
-  enum vscsi_answer answer = (enum vscsi_answer)vscsi_raw_live_serve(device, queues, most, &taken, &left);
+  enum vscsi_answer answer = (enum vscsi_answer)(device->asks ? vscsi_raw_live_serve_and_ask(device, queues, most, &taken, &left)
+                                                              : vscsi_raw_live_serve(device, queues, most, &taken, &left));
   if (answer == VSCSI_DONE && steps) *steps = taken;
   if (answer == VSCSI_DONE && more) *more = left;
   return answer;
@@ -304,6 +318,10 @@ enum vscsi_answer vscsi_live_status(struct vscsi_live *device, uint8_t *status) 
 
 enum vscsi_answer vscsi_live_broken(struct vscsi_live *device, uint16_t queue, uint32_t *fault) {
   return device && fault ? (enum vscsi_answer)vscsi_raw_live_broken(device, queue, fault) : VSCSI_NULL;
+}
+
+enum vscsi_answer vscsi_live_position(struct vscsi_live *device, uint16_t queue, struct vscsi_position *position) {
+  return device && position ? (enum vscsi_answer)vscsi_raw_live_position(device, queue, position) : VSCSI_NULL;
 }
 
 enum vscsi_answer vscsi_live_reset(struct vscsi_live *device, uint8_t target, uint16_t lun) {

@@ -9,6 +9,8 @@ pub mod Changes
 pub mod Counts
 pub mod LiveWanted
 pub mod Mapped
+pub mod Position
 pub mod Live
+pub mod LiveAsked
 pub mod LiveDisks
 pub mod Inner

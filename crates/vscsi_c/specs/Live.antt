@@ -31,12 +31,14 @@ use Rattle.device_steps.specs.Views.{unit_of, IsPlaceAmong, fault_of, status_of}
 use Rattle.vscsi_c.specs.Calls.{number_of, HasCapacity, GivesBlocks, plain_cause, cause_of}
 use Rattle.vscsi_c.specs.Changes.{TellsOf}
 use Rattle.vscsi_c.specs.Counts.{TellsCountsOf}
+use Rattle.vscsi_c.specs.Position.{TellsPositionOf}
 use Rattle.vscsi_c.specs.declared.answer.Answer.{Answer}
 use Rattle.vscsi_c.specs.declared.answer.Answer.TheVariants as answer
 use Rattle.vscsi_c.specs.declared.counts.UnitCounts.{UnitCounts}
 use Rattle.vscsi_c.specs.declared.live_served.LiveServed.{LiveServed}
 use Rattle.vscsi_c.specs.declared.ranges.BlockRange.{BlockRange}
 use Rattle.vscsi_c.specs.declared.ranges.Told.{Told}
+use Rattle.vscsi_c.specs.declared.live_wanted.RingPosition.{RingPosition}
 use Rattle.vscsi_c.specs.declared.live_wanted.WantedRing.{WantedRing}
 use Rattle.vscsi_c.specs.declared.wanted.Fault.{Fault}
 use Rattle.vscsi_c.specs.declared.wanted.WantedUnit.{WantedUnit}
@@ -178,6 +180,10 @@ Gives target lun first count old new d a d' = GivesBlocks (unit_of d.world.devic
 -- as `UnitState::counts`
 abbrev pub TellsCounts : ℕ → ℕ → UnitCounts → UnitCounts → LiveServed → Answer → LiveServed → Type 0
 TellsCounts target lun old new d a d' = TellsCountsOf (unit_of d.world.device.units target lun) old a new × (d' ≡ d)
+
+-- as `LiveWorld::position`
+abbrev pub TellsPosition : ℕ → RingPosition → RingPosition → LiveServed → Answer → LiveServed → Type 0
+TellsPosition queue old new d a d' = TellsPositionOf (slice_get d.world.device.queues queue) old a new × (d' ≡ d)
 
 -- as `LiveWorld::take_changes`
 abbrev pub TellsChanges : ℕ → ℕ → Told → List BlockRange → Told → List BlockRange → LiveServed → Answer → LiveServed → Type 0

@@ -5,10 +5,12 @@ ghost use Rattle.vscsi_c.specs.Kept.{kept_in};
 ghost use Rattle.vscsi_c.specs.Calls.{Serving, Settles, ServesPortion, Pokes, Peeks, Owes, IsStatus, Breaks, Counts, Resets, Resizes, Holds, Gives, Creates, Destroys};
 ghost use Rattle.vscsi_c.specs.Changes.{TellsChanges};
 ghost use Rattle.vscsi_c.specs.Counts.{TellsCounts};
+ghost use Rattle.vscsi_c.specs.Position.{TellsPosition};
 
 use crate::answer::Answer;
 use crate::counts::UnitCounts;
 use crate::device::Device;
+use crate::live_wanted::RingPosition;
 use crate::ranges::{BlockRange, Told};
 use crate::served::Served;
 use crate::wanted::{Fault, WantedQueue, WantedUnit, config_of, fault_of};
@@ -182,6 +184,25 @@ pub(crate) fn progress(
         return Answer::NoDevice;
     };
     let answer = served.progress(queue, accepted, used);
+    device.put(served);
+    answer
+}
+
+/// Tells where a queue goes on.
+#[tactic(auto, using(crate::proofs::Serve::serving, crate::proofs::Serve::without))]
+pub(crate) fn position(
+    device: &mut Device,
+    alloc: Global,
+    queue: u16,
+    position: &mut RingPosition,
+) -> Answer
+    ensures { Serving (TellsPosition queue position.old position.new) (position.new ≡ position.old) (kept_in device.old)
+        result (kept_in device.new) }
+{
+    let Some(mut served) = device.take(alloc) else {
+        return Answer::NoDevice;
+    };
+    let answer = served.position(queue, position);
     device.put(served);
     answer
 }

@@ -7,11 +7,13 @@ ghost use Rattle.vscsi_c.specs.Kept.{kept_in, disk_at, disks_at};
 ghost use Rattle.vscsi_c.specs.Calls.{Serving, Settles, ServesPortion, Pokes, Peeks, Owes, IsStatus, Breaks, Counts, Resets, Resizes, Holds, Gives, Creates, Destroys};
 ghost use Rattle.vscsi_c.specs.Changes.{TellsChanges};
 ghost use Rattle.vscsi_c.specs.Counts.{TellsCounts};
+ghost use Rattle.vscsi_c.specs.Position.{TellsPosition};
 ghost use Rattle.vscsi_c.specs.Disks.{CreatesDisk, DestroysDisk, OnDisk, HasBlocks, LoadsBlocks, Saves, CreatesOver, Closes};
 
 use crate::counts::UnitCounts;
 use crate::device::Device;
 use crate::disk::Disk;
+use crate::live_wanted::RingPosition;
 use crate::ranges::{BlockRange, Told};
 use crate::wanted::{Fault, WantedQueue, WantedUnit};
 use crate::{calls, disks, handing};
@@ -135,6 +137,20 @@ pub extern "C" fn vscsi_raw_progress(
         ((accepted.new ≡ accepted.old) × (used.new ≡ used.old)) (kept_in device.old) a (kept_in device.new)) }
 {
     calls::progress(device, alloc, queue, accepted, used).code()
+}
+
+/// Tells where a queue goes on.
+#[unsafe(no_mangle)]
+pub extern "C" fn vscsi_raw_position(
+    device: &mut Device,
+    alloc: Global,
+    queue: u16,
+    position: &mut RingPosition,
+) -> u32
+    ensures { Tells result (λ a. Serving (TellsPosition queue position.old position.new) (position.new ≡ position.old)
+        (kept_in device.old) a (kept_in device.new)) }
+{
+    calls::position(device, alloc, queue, position).code()
 }
 
 /// Resets a unit for the operator.

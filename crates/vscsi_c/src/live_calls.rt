@@ -3,13 +3,14 @@
 
 ghost use Rattle.std.specs.Prelude.{◌≡◌};
 ghost use Rattle.vscsi_c.specs.Kept.{live_at};
-ghost use Rattle.vscsi_c.specs.Live.{ServingLive, Maps, AsksDriver, ServesPortion, Owes, IsStatus, Breaks, Resets, Resizes, Holds, Gives, TellsCounts, TellsChanges, CreatesLive, DestroysLive};
+ghost use Rattle.vscsi_c.specs.LiveAsked.{ServesAskedPortion};
+ghost use Rattle.vscsi_c.specs.Live.{ServingLive, Maps, AsksDriver, ServesPortion, Owes, IsStatus, Breaks, Resets, Resizes, Holds, Gives, TellsCounts, TellsPosition, TellsChanges, CreatesLive, DestroysLive};
 
 use crate::answer::Answer;
 use crate::counts::UnitCounts;
 use crate::live_device::LiveDevice;
 use crate::live_opening::{ALL_BYTES, open};
-use crate::live_wanted::{WantedRing, live_config_of};
+use crate::live_wanted::{RingPosition, WantedRing, live_config_of};
 use crate::ranges::{BlockRange, Told};
 use crate::region::Region;
 use crate::wanted::{Fault, WantedUnit, fault_of};
@@ -104,6 +105,27 @@ pub(crate) fn serve(
     answer
 }
 
+/// Serves some queues as `serve` does, and asks their drivers for the next chains once nothing is left.
+#[tactic(auto, using(crate::proofs::LiveServe::serving, crate::proofs::LiveServe::without))]
+pub(crate) fn serve_and_ask(
+    device: &mut LiveDevice,
+    alloc: Global,
+    queues: u32,
+    most: u64,
+    steps: &mut u64,
+    more: &mut bool,
+) -> Answer
+    ensures { ServingLive (ServesAskedPortion queues most steps.old more.old steps.new more.new)
+        ((steps.new ≡ steps.old) × (more.new ≡ more.old)) (live_at device.old) result (live_at device.new) }
+{
+    let Some(mut served) = device.take(alloc) else {
+        return Answer::NoDevice;
+    };
+    let answer = served.serve_and_ask(queues, most, steps, more);
+    device.put(served);
+    answer
+}
+
 /// Tells which queues' drivers are owed a notification since this was last asked.
 #[tactic(auto, using(crate::proofs::LiveServe::serving, crate::proofs::LiveServe::without))]
 pub(crate) fn owed(device: &mut LiveDevice, alloc: Global, queues: &mut u32) -> Answer
@@ -140,6 +162,25 @@ pub(crate) fn broken(device: &mut LiveDevice, alloc: Global, queue: u16, fault: 
         return Answer::NoDevice;
     };
     let answer = served.broken(queue, fault);
+    device.put(served);
+    answer
+}
+
+/// Tells where a queue goes on.
+#[tactic(auto, using(crate::proofs::LiveServe::serving, crate::proofs::LiveServe::without))]
+pub(crate) fn position(
+    device: &mut LiveDevice,
+    alloc: Global,
+    queue: u16,
+    position: &mut RingPosition,
+) -> Answer
+    ensures { ServingLive (TellsPosition queue position.old position.new) (position.new ≡ position.old)
+        (live_at device.old) result (live_at device.new) }
+{
+    let Some(mut served) = device.take(alloc) else {
+        return Answer::NoDevice;
+    };
+    let answer = served.position(queue, position);
     device.put(served);
     answer
 }

@@ -3,13 +3,14 @@
 ghost use Rattle.std.specs.Prelude.{◌≡◌, is_some};
 ghost use Rattle.vscsi_c.specs.Answers.{Tells};
 ghost use Rattle.vscsi_c.specs.Kept.{live_at, disks_at};
-ghost use Rattle.vscsi_c.specs.Live.{ServingLive, Maps, AsksDriver, ServesPortion, Owes, IsStatus, Breaks, Resets, Resizes, Holds, Gives, TellsCounts, TellsChanges, CreatesLive, DestroysLive};
+ghost use Rattle.vscsi_c.specs.LiveAsked.{ServesAskedPortion};
+ghost use Rattle.vscsi_c.specs.Live.{ServingLive, Maps, AsksDriver, ServesPortion, Owes, IsStatus, Breaks, Resets, Resizes, Holds, Gives, TellsCounts, TellsPosition, TellsChanges, CreatesLive, DestroysLive};
 ghost use Rattle.vscsi_c.specs.LiveDisks.{CreatesLiveOver, ClosesLive};
 
 use crate::counts::UnitCounts;
 use crate::disk::Disk;
 use crate::live_device::LiveDevice;
-use crate::live_wanted::WantedRing;
+use crate::live_wanted::{RingPosition, WantedRing};
 use crate::ranges::{BlockRange, Told};
 use crate::region::Region;
 use crate::wanted::{Fault, WantedUnit};
@@ -123,6 +124,22 @@ pub extern "C" fn vscsi_raw_live_serve(
     live_calls::serve(device, alloc, queues, most, steps, more).code()
 }
 
+/// Serves some queues in at most so many steps, and asks their drivers for the next chains once nothing is left.
+#[unsafe(no_mangle)]
+pub extern "C" fn vscsi_raw_live_serve_and_ask(
+    device: &mut LiveDevice,
+    alloc: Global,
+    queues: u32,
+    most: u64,
+    steps: &mut u64,
+    more: &mut bool,
+) -> u32
+    ensures { Tells result (λ a. ServingLive (ServesAskedPortion queues most steps.old more.old steps.new more.new)
+        ((steps.new ≡ steps.old) × (more.new ≡ more.old)) (live_at device.old) a (live_at device.new)) }
+{
+    live_calls::serve_and_ask(device, alloc, queues, most, steps, more).code()
+}
+
 /// Tells which queues' drivers are owed a notification since this was last asked.
 #[unsafe(no_mangle)]
 pub extern "C" fn vscsi_raw_live_owed(
@@ -161,6 +178,20 @@ pub extern "C" fn vscsi_raw_live_broken(
         (live_at device.old) a (live_at device.new)) }
 {
     live_calls::broken(device, alloc, queue, fault).code()
+}
+
+/// Tells where a queue goes on.
+#[unsafe(no_mangle)]
+pub extern "C" fn vscsi_raw_live_position(
+    device: &mut LiveDevice,
+    alloc: Global,
+    queue: u16,
+    position: &mut RingPosition,
+) -> u32
+    ensures { Tells result (λ a. ServingLive (TellsPosition queue position.old position.new) (position.new ≡ position.old)
+        (live_at device.old) a (live_at device.new)) }
+{
+    live_calls::position(device, alloc, queue, position).code()
 }
 
 /// Resets a unit for the operator.

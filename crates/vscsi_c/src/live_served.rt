@@ -3,6 +3,7 @@
 ghost use Rattle.std.specs.Prelude.{◌≡◌, length};
 ghost use Rattle.std.specs.Option.{option_map};
 ghost use Rattle.device_steps.specs.Views.{unit_of};
+ghost use Rattle.vscsi_c.specs.LiveAsked.{ServesAskedPortion};
 ghost use Rattle.vscsi_c.specs.Live.{Maps, AsksDriver, notify_of, ServesPortion, Owes, IsStatus, Breaks, number_or_unmapped, Resets, Resizes, Holds, Gives, TellsCounts, TellsChanges};
 
 use crate::answer::Answer;
@@ -86,6 +87,27 @@ impl LiveServed {
         ensures { ServesPortion queues most steps.old more.old steps.new more.new self.old result self.new }
     {
         match self.world.serve(self.rings.among(queues), most) {
+            Ok(served) => {
+                *steps = served.steps;
+                *more = served.more;
+                Answer::Done
+            }
+            Err(_) => Answer::NoMemory,
+        }
+    }
+
+    /// Serves as `serve` does, and asks the drivers of these queues for their next chains once nothing is left, until nothing
+    /// came in between.
+    pub(crate) fn serve_and_ask(
+        &mut self,
+        queues: u32,
+        most: u64,
+        steps: &mut u64,
+        more: &mut bool,
+    ) -> Answer
+        ensures { ServesAskedPortion queues most steps.old more.old steps.new more.new self.old result self.new }
+    {
+        match self.world.serve_and_ask(self.rings.among(queues), most) {
             Ok(served) => {
                 *steps = served.steps;
                 *more = served.more;
