@@ -140,6 +140,11 @@ impl Machine for LiveMachine {
         self.world.settle()
     }
 
+    fn serve_and_ask(&mut self, most: u64) -> Result<Served, NoMemory> {
+        let served = self.world.serve_and_ask(EACH_QUEUE, most);
+        self.seen(served)
+    }
+
     fn ask(&mut self, queue: u16, notify: Notify) -> bool {
         self.world.ask(queue, notify)
     }

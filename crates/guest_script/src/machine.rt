@@ -18,7 +18,8 @@ pub(crate) trait Machine: GuestMemory + Device + Drop {
     /// between two reads.
     fn race(&mut self, alloc: Global, race: &Race) -> Result<(), Stop>;
 
-    /// Begins a line of the device. `step`, `serve`, `settle` and `ask` are called within one.
+    /// Begins a line of the device. `step`, `serve`, `settle`, `serve_and_ask` and `ask` are
+    /// called within one.
     fn begin(&mut self);
 
     /// Ends the line.
@@ -32,6 +33,10 @@ pub(crate) trait Machine: GuestMemory + Device + Drop {
 
     /// Runs the device until nothing is left to do.
     fn settle(&mut self) -> Result<u64, NoMemory>;
+
+    /// Serves all queues, in so many steps at most, and asks each driver for a notification of its next chain once nothing is
+    /// left, until nothing came in between.
+    fn serve_and_ask(&mut self, most: u64) -> Result<Served, NoMemory>;
 
     /// Asks the driver of a queue for a notification, or for none; false where nothing is written.
     fn ask(&mut self, queue: u16, notify: Notify) -> bool;

@@ -99,6 +99,10 @@ impl Machine for OwnMachine {
         Ok(self.world.settle()?)
     }
 
+    fn serve_and_ask(&mut self, most: u64) -> Result<Served, NoMemory> {
+        Ok(self.world.serve_and_ask(EACH_QUEUE, most)?)
+    }
+
     fn ask(&mut self, queue: u16, notify: Notify) -> bool {
         self.world.ask(queue, notify)
     }

@@ -150,6 +150,7 @@ impl<C: Ledger, D: Ledger> Service<C, D> {
             known,
             rings,
             features,
+            ..
         } = wanted;
         let pages = config.pages;
         let host = match Host::start(rt, alloc, config, Open, workers, acts, receipts) {

@@ -6,6 +6,7 @@ use crate::machine::Machine;
 use crate::own_machine::OwnMachine;
 use crate::steps::{event_of, order};
 use crate::trace::{Trace, print_ask};
+use foundation::NoMemory;
 use guest_driver::Driver;
 use script_semantics::{
     Known, Script, Wanted, command_of, line_number, print, read_whole, run_guest_line,
@@ -14,7 +15,7 @@ use script_syntax::{Command, LineFault, ScriptFault, Step, Stop};
 use scsi_codec::Address;
 use std::alloc::{AllocError, Global};
 use std::io::{Read, Write};
-use world::{Event, Notify};
+use world::{Event, Notify, Served};
 
 /// The options with which a script is played.
 #[derive(Clone, Copy)]
@@ -75,6 +76,8 @@ struct Session<M: Machine> {
     driver: Driver,
     known: Known,
     allowance: Allowance,
+    /// True if the device asks its drivers for notifications whenever it has settled.
+    asks: bool,
     tracing: Option<Tracing>,
 }
 
@@ -104,6 +107,7 @@ impl<M: Machine> Session<M> {
             known,
             rings,
             features,
+            asks,
         } = wanted;
         let mut machine = M::open(alloc, &config)?;
         let driver = Driver::new(alloc, features, known.queues, rings)?;
@@ -124,6 +128,7 @@ impl<M: Machine> Session<M> {
             allowance: Allowance {
                 left: options.steps,
             },
+            asks,
             tracing,
         })
     }
@@ -179,24 +184,60 @@ impl<M: Machine> Session<M> {
     /// Runs the device until nothing is left to do. `TooManySteps` where it may not take as many steps.
     fn settle(&mut self) -> Result<(), Stop> {
         let Some(left) = self.allowance.left else {
-            let _steps = self.machine.settle()?;
-            return Ok(());
+            return Ok(self.settle_freely()?);
         };
-        let served = self.machine.serve(left)?;
+        let served = self.serve(left)?;
         if served.more {
             return Err(Stop::Fault(LineFault::TooManySteps));
         }
         Ok(self.allowance.spend(served.steps)?)
     }
 
-    /// Does the same, and prints a line for each step.
+    /// Serves all queues, in so many steps at most, and asks their drivers where the device does that.
+    fn serve(&mut self, most: u64) -> Result<Served, NoMemory> {
+        if self.asks {
+            self.machine.serve_and_ask(most)
+        } else {
+            self.machine.serve(most)
+        }
+    }
+
+    /// Does the same in any number of steps.
+    fn settle_freely(&mut self) -> Result<(), NoMemory> {
+        if !self.asks {
+            let _steps = self.machine.settle()?;
+            return Ok(());
+        }
+        let served = self.machine.serve_and_ask(u64::MAX)?;
+        if served.more {
+            return Err(NoMemory);
+        }
+        Ok(())
+    }
+
+    /// Does the same, and prints a line for each step, and for each driver that is asked.
     fn settle_by_steps<W: Write>(&mut self, out: &mut W) -> Result<(), Stop> {
+        let mut is_over = !self.asks;
         for _ in 0..u64::MAX {
-            if !self.next_step(out)? {
+            if self.next_step(out)? {
+                is_over = !self.asks;
+                continue;
+            }
+            if is_over {
                 return Ok(());
             }
+            self.ask_each(out)?;
+            is_over = true;
         }
         Err(Stop::NoMemory)
+    }
+
+    /// Asks each driver for a notification of its next chain.
+    fn ask_each<W: Write>(&mut self, out: &mut W) -> Result<(), Stop> {
+        for queue in 0..self.known.queues {
+            self.ask(queue, Notify::Next, out)?;
+        }
+        Ok(())
     }
 
     /// Takes the first step that applies; false where none does.

@@ -33,6 +33,7 @@ pub(crate) struct Header {
     workers: Option<u16>,
     handoff: Option<u16>,
     features: Option<Features>,
+    asks: Option<()>,
     units: Vec<UnitSpec>,
 }
 
@@ -47,6 +48,7 @@ impl Header {
             workers: None,
             handoff: None,
             features: None,
+            asks: None,
             units: Vec::new(alloc),
         }
     }
@@ -81,6 +83,7 @@ impl Header {
             HeaderLine::Workers(workers) => set_once(&mut self.workers, workers)?,
             HeaderLine::Handoff(handoff) => set_once(&mut self.handoff, handoff)?,
             HeaderLine::Features(features) => set_once(&mut self.features, features)?,
+            HeaderLine::Asks => set_once(&mut self.asks, ())?,
             HeaderLine::Unit(disk) => self.units.push(unit_of(disk))?,
         }
         Ok(())
@@ -118,6 +121,7 @@ impl Header {
             known,
             rings,
             features,
+            asks: self.asks.is_some(),
         })
     }
 }
@@ -133,13 +137,15 @@ pub struct Wanted {
     pub rings: Rings,
     /// The features that the driver agrees to, beside those that each driver of the form does.
     pub features: Features,
+    /// True if the device asks its drivers for notifications whenever it has settled.
+    pub asks: bool,
 }
 
 impl Wanted {
-    /// Returns true if threads may serve the device: its memory doesn't change between two reads of one step, and its
-    /// rings begin where memory of zeros has no chain.
+    /// Returns true if threads may serve the device: its memory doesn't change between two reads of one step, its rings
+    /// begin where memory of zeros has no chain, and it asks nobody for notifications.
     pub fn suits_threads(&self) -> bool {
-        !self.known.is_live && self.rings.are_fresh()
+        !self.known.is_live && self.rings.are_fresh() && !self.asks
     }
 }
 

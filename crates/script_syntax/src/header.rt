@@ -112,6 +112,8 @@ pub enum HeaderLine {
     Handoff(u16),
     /// Features beside those that each device of its form has.
     Features(Features),
+    /// The device asks its drivers for notifications whenever it has settled.
+    Asks,
     /// A disk.
     Unit(Disk),
 }
@@ -174,6 +176,15 @@ fn read_features(words: &[&str]) -> Result<Features, LineFault> {
     Ok(features)
 }
 
+/// Reads a line that has no values.
+fn read_asks(values: &[&str]) -> Result<HeaderLine, LineFault> {
+    if values.is_empty() {
+        Ok(HeaderLine::Asks)
+    } else {
+        Err(LineFault::BadValue)
+    }
+}
+
 /// Returns the one value of a line that has one.
 pub fn only<'a>(values: &[&'a str]) -> Result<&'a str, LineFault>
     ensures one { IsOk result ↔ (length values.now ≡ 1) }
@@ -202,6 +213,7 @@ impl HeaderLine {
             "workers" => HeaderLine::Workers(number::<u16>(only(values)?)?),
             "handoff" => HeaderLine::Handoff(number::<u16>(only(values)?)?),
             "features" => HeaderLine::Features(read_features(values)?),
+            "asks" => read_asks(values)?,
             "unit" => HeaderLine::Unit(read_disk(values)?),
             _ => return Ok(None),
         };

@@ -196,9 +196,15 @@ const REQUEST_WORDS: usize = 6;
 /// Returns what a place behind the first word of a line takes, from 0 on.
 fn place_of(keyword: &str, values: &[&str], index: usize) -> Place {
     match keyword {
-        "memory" | "ring" | "queues" | "start" | "workers" | "handoff" | "features" | "unit" => {
-            header_place(keyword, index)
-        }
+        "memory"
+        | "ring"
+        | "queues"
+        | "start"
+        | "workers"
+        | "handoff"
+        | "features"
+        | "asks"
+        | "unit" => header_place(keyword, index),
         "send" if index >= REQUEST_WORDS => {
             let has_out = match values.get(REQUEST_WORDS) {
                 Some(word) => *word == "out",
