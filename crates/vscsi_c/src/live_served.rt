@@ -108,9 +108,9 @@ impl LiveServed {
         ensures { ServesAskedPortion queues most steps.old more.old steps.new more.new self.old result self.new }
     {
         match self.world.serve_and_ask(self.rings.among(queues), most) {
-            Ok(served) => {
-                *steps = served.steps;
-                *more = served.more;
+            Ok(portion) => {
+                *steps = portion.steps;
+                *more = portion.more;
                 Answer::Done
             }
             Err(_) => Answer::NoMemory,

@@ -6,7 +6,7 @@ use Rattle.vscsi_c.proofs.live_served.LiveServed.serve_and_ask.Goals as goal
 
 pub returns-in-Ok : goal.returns-in-Ok
 returns-in-Ok c = (
-  subst (λ n. ServesAskedApart n c.args.most c.args.self.now.world c.in-Ok.served Done c.in-Ok.served c.serve_and_ask.new.self)
+  subst (λ n. ServesAskedApart n c.args.most c.args.self.now.world c.in-Ok.portion Done c.in-Ok.portion c.serve_and_ask.new.self)
       c.among.ensures c.in-Ok.ensures.serves,
   (refl, refl),
 )
