@@ -10,23 +10,20 @@ ghost use Rattle.block_commands.specs.Inner.Told.{facts_of};
 
 use crate::capacity::is_in_range;
 use crate::facts::UnitFacts;
-use block_store::{PagedStore, Store};
+use backed_store::Disk;
+use block_store::Store;
 use cdb::Command;
 
-/// Returns the data of a READ where they stand in the store (SBC-3 §5.11), so that nothing is copied for its reply: that
-/// is GOOD with these data. Its blocks lie in one page, below the capacity, and no attention is pending. `None` for
-/// every other command, which [`exec`](crate::exec) runs. Takes no memory.
+/// Returns the data of a READ where they stand on the disk (SBC-3 §5.11), so that nothing is copied for its reply: that
+/// is GOOD with these data. Its blocks lie in one page that is in memory, below the capacity, and no attention is
+/// pending. `None` for every other command, which [`exec`](crate::exec) runs once it is ready. Takes no memory.
 #[inline(always)]
-pub fn read_in_place<'a>(
-    store: &'a PagedStore,
-    command: &Command,
-    facts: &UnitFacts,
-) -> Option<&'a [u8]>
+pub fn read_in_place<'a>(store: &'a Disk, command: &Command, facts: &UnitFacts) -> Option<&'a [u8]>
     ensures reply { IfSome result (λ found. (out : List ℕ) →
-        reply_of (facts_of facts.now (⟦<PagedStore as Store>⟧.size store.now)) command.now out (⟦<PagedStore as Store>⟧.block_at store.now)
+        reply_of (facts_of facts.now (⟦<Disk as Store>⟧.size store.now)) command.now out (⟦<Disk as Store>⟧.block_at store.now)
         ≡ success command.now found.now) }
     ensures blocks { IfSome result (λ found. (out : List ℕ) (b : ℕ) →
-        block_after command.now out good (⟦<PagedStore as Store>⟧.block_at store.now) b ≡ ⟦<PagedStore as Store>⟧.block_at store.now b) }
+        block_after command.now out good (⟦<Disk as Store>⟧.block_at store.now) b ≡ ⟦<Disk as Store>⟧.block_at store.now b) }
     ensures sends { IfSome result (λ found. (need_of command.now).out ≡ 0) }
     ensures calm { IfSome result (λ found. facts.now.pending ≡ None) }
     ensures len { IfSome result (λ found. length found.now ≡ (need_of command.now).into) }

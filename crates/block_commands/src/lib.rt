@@ -11,6 +11,7 @@ mod attention;
 mod capacity;
 mod compare;
 mod data;
+mod disks;
 mod execution;
 mod extents;
 mod facts;
@@ -25,6 +26,7 @@ mod transfer;
 mod unmap;
 
 pub use attention::takes_attention;
+pub use disks::exec_on;
 pub use execution::exec;
 pub use extents::{Extent, UNMAP_HEADER_BYTES, extent_at, taken_descriptors};
 pub use facts::UnitFacts;

@@ -14,26 +14,27 @@ ghost use Rattle.command_model.specs.Replies.{reply_of};
 ghost use Rattle.block_commands.specs.Inner.Told.{facts_of};
 ghost use Rattle.command_model.specs.Memory.{may_want};
 ghost use Rattle.block_commands.specs.Prepared.{IsOf};
+ghost use Rattle.block_commands.specs.Inner.Ready.{IsReady};
 
 use crate::attention::met_attention;
 use crate::capacity::is_in_range;
-use crate::execution::exec;
+use crate::disks::exec_on;
 use crate::facts::UnitFacts;
-use block_store::{PagedStore, Prepared, Store};
+use backed_store::Disk;
+use block_store::{Prepared, Store};
 use cdb::{Command, need};
 use command_model::Reply;
 use foundation::NoMemory;
 use std::alloc::Global;
 
-/// Runs one command on the blocks of a unit, whole, as [`exec`] does. `prepared` has the new pages of its write, if
-/// any. They are installed where nothing beside the range has changed in them since; else the blocks are written as
+/// Runs one command on a disk, whole, as [`exec_on`] does. `prepared` has the new pages of its write, if any. They are installed where nothing beside the range has changed in them since; else the blocks are written as
 /// ever. Gives pages back beside the reply: those that it replaced, or those of `prepared` where it didn't install
 /// them. So a caller that holds a lock frees them after it.
 #[inline(always)]
 pub fn exec_prepared(
     alloc: Global,
     room: &mut Vec<u8>,
-    store: &mut PagedStore,
+    store: &mut Disk,
     command: &Command,
     out: &[u8],
     facts: &UnitFacts,
@@ -41,47 +42,54 @@ pub fn exec_prepared(
 ) -> Result<(Reply, Option<Prepared>), NoMemory>
     requires data { (need_of command.now).out ≤ length out.now }
     requires own { IfSome prepared (λ pages. IsOf command.now (data_of command.now out.now) (prepared_draft pages)) }
+    requires ready { met command.now facts.now.pending ≡ None →
+        IsReady (⟦<Disk as Store>⟧.is_held store.old) (⟦<Disk as Store>⟧.has_room store.old) (⟦<Disk as Store>⟧.size store.old)
+        command.now (data_of command.now out.now) }
     ensures reply { IfOk result (λ answer. plain_of answer.0
-        ≡ reply_of (facts_of facts.now (⟦<PagedStore as Store>⟧.size store.old)) command.now (data_of command.now out.now)
-        (⟦<PagedStore as Store>⟧.block_at store.old)) }
-    ensures blocks { IfOk result (λ answer. (b : ℕ) → ⟦<PagedStore as Store>⟧.block_at store.new b
-        ≡ block_after command.now (data_of command.now out.now) answer.0.status (⟦<PagedStore as Store>⟧.block_at store.old) b) }
+        ≡ reply_of (facts_of facts.now (⟦<Disk as Store>⟧.size store.old)) command.now (data_of command.now out.now)
+        (⟦<Disk as Store>⟧.block_at store.old)) }
+    ensures blocks { IfOk result (λ answer. (b : ℕ) → ⟦<Disk as Store>⟧.block_at store.new b
+        ≡ block_after command.now (data_of command.now out.now) answer.0.status (⟦<Disk as Store>⟧.block_at store.old) b) }
     ensures room { IfOk result (λ answer. vec_len answer.0.payload ≤ (need_of command.now).into) }
     ensures back { IfOk result (λ answer. is_some answer.1 ≡ is_some prepared) }
-    ensures want { OnErr result (IsTrue (may_want (facts_of facts.now (⟦<PagedStore as Store>⟧.size store.old)) command.now)) }
-    ensures err { OnErr result ((b : ℕ) → ⟦<PagedStore as Store>⟧.block_at store.new b ≡ ⟦<PagedStore as Store>⟧.block_at store.old b) }
-    ensures capacity { ⟦<PagedStore as Store>⟧.size store.new ≡ ⟦<PagedStore as Store>⟧.size store.old }
+    ensures want { OnErr result (IsTrue (may_want (facts_of facts.now (⟦<Disk as Store>⟧.size store.old)) command.now)) }
+    ensures err { OnErr result ((b : ℕ) → ⟦<Disk as Store>⟧.block_at store.new b ≡ ⟦<Disk as Store>⟧.block_at store.old b) }
+    ensures capacity { ⟦<Disk as Store>⟧.size store.new ≡ ⟦<Disk as Store>⟧.size store.old }
+    ensures kind { ⟦<Disk as Store>⟧.is_whole store.new ≡ ⟦<Disk as Store>⟧.is_whole store.old }
 {
     let (installed, back) = exchange(store, command, facts, prepared)?;
     if installed {
         return Ok((written(alloc, command), back));
     }
-    let reply = exec(alloc, room, store, command, out, facts)?;
+    let reply = exec_on(alloc, room, store, command, out, facts)?;
     Ok((reply, back))
 }
 
 /// Installs the pages of a command, if there are any and no attention stops it. Returns true if it did, and the pages
 /// that come back.
 fn exchange(
-    store: &mut PagedStore,
+    store: &mut Disk,
     command: &Command,
     facts: &UnitFacts,
     prepared: Option<Prepared>,
 ) -> Result<(bool, Option<Prepared>), NoMemory>
     ensures installed { IfOk result (λ answer. IsTrue answer.0 → (met command.now facts.now.pending ≡ None)
-        × IsSomeAnd prepared (λ pages. IsTrue (is_in_range (⟦<PagedStore as Store>⟧.size store.old)
+        × IsSomeAnd prepared (λ pages. IsTrue (is_in_range (⟦<Disk as Store>⟧.size store.old)
         (prepared_draft pages).first (prepared_draft pages).count)
-        × ((b : ℕ) → ⟦<PagedStore as Store>⟧.block_at store.new b
-        ≡ covered (⟦<PagedStore as Store>⟧.block_at store.old) (prepared_draft pages).blocks
+        × ((b : ℕ) → ⟦<Disk as Store>⟧.block_at store.new b
+        ≡ covered (⟦<Disk as Store>⟧.block_at store.old) (prepared_draft pages).blocks
         (prepared_draft pages).first (prepared_draft pages).count b))) }
     ensures otherwise { IfOk result (λ answer. IsFalse answer.0 → (b : ℕ) →
-        ⟦<PagedStore as Store>⟧.block_at store.new b ≡ ⟦<PagedStore as Store>⟧.block_at store.old b) }
+        ⟦<Disk as Store>⟧.block_at store.new b ≡ ⟦<Disk as Store>⟧.block_at store.old b) }
+    ensures held { (b : ℕ) → IsTrue (⟦<Disk as Store>⟧.is_held store.old b) → IsTrue (⟦<Disk as Store>⟧.is_held store.new b) }
+    ensures keeps_room { (b : ℕ) → IsTrue (⟦<Disk as Store>⟧.has_room store.old b) → IsTrue (⟦<Disk as Store>⟧.has_room store.new b) }
     ensures back { IfOk result (λ answer. is_some answer.1 ≡ is_some prepared) }
     ensures want { OnErr result ((met command.now facts.now.pending ≡ None)
-        × IsSomeAnd prepared (λ pages. IsTrue (is_in_range (⟦<PagedStore as Store>⟧.size store.old)
+        × IsSomeAnd prepared (λ pages. IsTrue (is_in_range (⟦<Disk as Store>⟧.size store.old)
         (prepared_draft pages).first (prepared_draft pages).count))) }
-    ensures err { OnErr result ((b : ℕ) → ⟦<PagedStore as Store>⟧.block_at store.new b ≡ ⟦<PagedStore as Store>⟧.block_at store.old b) }
-    ensures size { ⟦<PagedStore as Store>⟧.size store.new ≡ ⟦<PagedStore as Store>⟧.size store.old }
+    ensures err { OnErr result ((b : ℕ) → ⟦<Disk as Store>⟧.block_at store.new b ≡ ⟦<Disk as Store>⟧.block_at store.old b) }
+    ensures size { ⟦<Disk as Store>⟧.size store.new ≡ ⟦<Disk as Store>⟧.size store.old }
+    ensures kind { ⟦<Disk as Store>⟧.is_whole store.new ≡ ⟦<Disk as Store>⟧.is_whole store.old }
 {
     let Some(pages) = prepared else {
         return Ok((false, None));
@@ -105,17 +113,20 @@ fn written(alloc: Global, command: &Command) -> Reply
 
 /// Installs the pages, where they lie below the capacity and nothing beside their range has changed in them. Returns
 /// true if it did, and the pages that come back.
-fn installs(store: &mut PagedStore, prepared: Prepared) -> Result<(bool, Prepared), NoMemory>
+fn installs(store: &mut Disk, prepared: Prepared) -> Result<(bool, Prepared), NoMemory>
     ensures range { IfOk result (λ answer. IsTrue answer.0 →
-        IsTrue (is_in_range (⟦<PagedStore as Store>⟧.size store.old) (prepared_draft prepared).first (prepared_draft prepared).count)) }
-    ensures blocks { IfOk result (λ answer. (b : ℕ) → ⟦<PagedStore as Store>⟧.block_at store.new b
-        ≡ (if answer.0 then covered (⟦<PagedStore as Store>⟧.block_at store.old)
+        IsTrue (is_in_range (⟦<Disk as Store>⟧.size store.old) (prepared_draft prepared).first (prepared_draft prepared).count)) }
+    ensures blocks { IfOk result (λ answer. (b : ℕ) → ⟦<Disk as Store>⟧.block_at store.new b
+        ≡ (if answer.0 then covered (⟦<Disk as Store>⟧.block_at store.old)
         (prepared_draft prepared).blocks (prepared_draft prepared).first (prepared_draft prepared).count b
-        else ⟦<PagedStore as Store>⟧.block_at store.old b)) }
-    ensures want { OnErr result (IsTrue (is_in_range (⟦<PagedStore as Store>⟧.size store.old)
+        else ⟦<Disk as Store>⟧.block_at store.old b)) }
+    ensures want { OnErr result (IsTrue (is_in_range (⟦<Disk as Store>⟧.size store.old)
         (prepared_draft prepared).first (prepared_draft prepared).count)) }
-    ensures err { OnErr result ((b : ℕ) → ⟦<PagedStore as Store>⟧.block_at store.new b ≡ ⟦<PagedStore as Store>⟧.block_at store.old b) }
-    ensures size { ⟦<PagedStore as Store>⟧.size store.new ≡ ⟦<PagedStore as Store>⟧.size store.old }
+    ensures err { OnErr result ((b : ℕ) → ⟦<Disk as Store>⟧.block_at store.new b ≡ ⟦<Disk as Store>⟧.block_at store.old b) }
+    ensures size { ⟦<Disk as Store>⟧.size store.new ≡ ⟦<Disk as Store>⟧.size store.old }
+    ensures kind { ⟦<Disk as Store>⟧.is_whole store.new ≡ ⟦<Disk as Store>⟧.is_whole store.old }
+    ensures held { (b : ℕ) → IsTrue (⟦<Disk as Store>⟧.is_held store.old b) → IsTrue (⟦<Disk as Store>⟧.is_held store.new b) }
+    ensures keeps_room { (b : ℕ) → IsTrue (⟦<Disk as Store>⟧.has_room store.old b) → IsTrue (⟦<Disk as Store>⟧.has_room store.new b) }
 {
     if !is_in_range(store.capacity(), prepared.first(), prepared.count()) {
         return Ok((false, prepared));

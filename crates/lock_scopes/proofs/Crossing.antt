@@ -48,6 +48,9 @@ use Rattle.unit_history.specs.contracts.unit.UnitState.{the_row as unit_row}
 use Rattle.unit_history.specs.contracts.unit.UnitState.TheInside as unit
 use Rattle.block_store.proofs.edges.Prepared.TheSendSync as pages
 use Rattle.block_store.proofs.paged.PagedStore.TheSendSync as store
+use Rattle.backed_store.proofs.cache.Cache.TheSendSync as cache
+use Rattle.backed_store.specs.contracts.backed.BackedStore.{the_field as backed_field, the_type as backed_type}
+use Rattle.backed_store.specs.contracts.disk.Disk.{the_field as disk_field, the_type as disk_type}
 use Rattle.unit_history.proofs.changes.Changes.TheSendSync as changes
 use Rattle.block_commands.specs.contracts.facts.UnitFacts.{the_field as facts_field, the_type as facts_type}
 use Rattle.ring_core.proofs.outstanding.OutstandingTable.TheSendSync as table
@@ -136,9 +139,15 @@ lasts_fields = recorded_send lasts.the_field.row _ _ lasts.the_type.to_one
 lasts_sends : IsSend lasts_row
 lasts_sends = search (sendable, lasts_fields)
 
+backed_sends : IsSend backed_field.row
+backed_sends = struct_send (shape backed_type) (search sendable, (search sendable, (cache.the_field_send, (search crosses depth 30, (search crosses depth 30, tt)))))
+
+disk_sends : IsSend disk_field.row
+disk_sends = enum_send (enum_shape disk_type) ((store.the_field_send, tt), ((backed_sends, tt), tt))
+
 unit_fields : IsSend unit.the_row
 unit_fields = declared_send unit.the_type
-    (search sendable, (as_row_send facts_field facts_sends, (search sendable, (attentions.the_send, (store.the_send, (search crosses depth 30, (search sendable, (set_sends, (steps_sends, (lasts_sends, (search crosses depth 30, (search (crosses, option.the_send, pages.the_send) depth 30, (changes.the_send, tt)))))))))))))
+    (search sendable, (as_row_send facts_field facts_sends, (search sendable, (attentions.the_send, (as_row_send disk_field disk_sends, (search crosses depth 30, (search sendable, (set_sends, (steps_sends, (lasts_sends, (search crosses depth 30, (search (crosses, option.the_send, pages.the_send) depth 30, (changes.the_send, tt)))))))))))))
 
 pub unit_sends : IsSend unit_row
 unit_sends = search (sendable, unit_fields)

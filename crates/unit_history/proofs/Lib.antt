@@ -18,3 +18,4 @@ pub mod Alone
 pub mod Noting
 pub mod Opening
 pub mod Ranging
+pub mod Readied

@@ -1,6 +1,6 @@
 //! The run of a task's command on its unit.
 
-ghost use Rattle.std.specs.Prelude.{◌≡◌, ◌+◌, ◌<◌, ◌≤◌, ◌∷◌, ℕ, length, map, IfSome};
+ghost use Rattle.std.specs.Prelude.{◌≡◌, ◌+◌, ◌<◌, ◌≤◌, ◌∷◌, ℕ, length, map, IfSome, IfNone, IsSome};
 ghost use Rattle.std.specs.Option.{option_map};
 ghost use Rattle.cdb.specs.Need.{need_of};
 ghost use Rattle.unit_history.specs.Endings.{FitsNeed};
@@ -12,7 +12,7 @@ ghost use Rattle.unit_history.specs.Inner.Outcomes.{outcome_for};
 use crate::log::StepLog;
 use crate::outcomes::{Outcome, Receipt};
 use crate::pages::{PreparedWrite, StartedWrite, pages_for};
-use crate::performing::{Performed, perform};
+use crate::performing::{Performed, perform_if_ready};
 use crate::recorded::{RecordedReply, RecordedStep};
 use crate::turn::{Turn, turn_of};
 use crate::unit::UnitState;
@@ -121,8 +121,10 @@ impl UnitState {
                     return None;
                 }
                 match self.store.edges(lba, u32::from(blocks)) {
-                    Ok(edges) => Some(StartedWrite::new(edges, self.spare_pages.take(), request)),
-                    Err(NoMemory) => None,
+                    Ok(Some(edges)) => {
+                        Some(StartedWrite::new(edges, self.spare_pages.take(), request))
+                    }
+                    Ok(None) | Err(NoMemory) => None,
                 }
             }
             _ => None,
@@ -143,13 +145,34 @@ impl UnitState {
         ensures step { Commits self.old job.now result self.new }
         ensures fits { FitsNeed (need_of job.now.entry.command).into result }
     {
+        match self.commit_ready(job, prepared, spare) {
+            Some(outcome) => outcome,
+            None => unreachable!(),
+        }
+    }
+
+    /// Runs the command of a job's task as [`UnitState::commit_with`] does, if the pages that it needs of its disk are in
+    /// memory. Else the host is asked for each of them at once, and the command waits: `None`, with nothing changed. No
+    /// command waits yet, since a unit's disk isn't backed.
+    #[inline(always)]
+    pub fn commit_ready(
+        &mut self,
+        job: &Job,
+        prepared: Option<PreparedWrite>,
+        spare: &mut Option<Prepared>,
+    ) -> Option<Outcome>
+        ensures step { IfSome result (λ outcome. Commits self.old job.now outcome self.new) }
+        ensures fits { IfSome result (λ outcome. FitsNeed (need_of job.now.entry.command).into outcome) }
+        ensures waits { IfNone result (self.new ≡ self.old) }
+        ensures whole { IsSome result }
+    {
         let ticket = job.ticket();
         let Some(task) = self.tasks.task(ticket) else {
-            return Outcome::Unknown;
+            return Some(Outcome::Unknown);
         };
         match turn_of(task, job) {
-            Turn::Unknown => Outcome::Unknown,
-            Turn::Aborted(reason) => Outcome::Aborted(reason),
+            Turn::Unknown => Some(Outcome::Unknown),
+            Turn::Aborted(reason) => Some(Outcome::Aborted(reason)),
             Turn::Ready => {
                 let unit = Address {
                     target: self.facts.target,
@@ -157,11 +180,9 @@ impl UnitState {
                 };
                 let command = task.command();
                 let bytes = task.data();
-                self.changes
-                    .note_command(&command, bytes, self.store.capacity(), self.log.len());
                 let pages = pages_for(prepared, task);
                 let keeps = self.log.keeps_replies();
-                let performed = perform(
+                let Ok(performed) = perform_if_ready(
                     self.alloc,
                     &mut self.room,
                     &mut self.facts,
@@ -172,9 +193,13 @@ impl UnitState {
                     pages,
                     spare,
                     keeps,
-                );
+                ) else {
+                    return None;
+                };
+                self.changes
+                    .note_command(&command, bytes, self.store.capacity(), self.log.len());
                 keep_pages(&mut self.spare_pages, spare);
-                record_run(&mut self.log, &mut self.tasks, unit, ticket, performed)
+                Some(record_run(&mut self.log, &mut self.tasks, unit, ticket, performed))
             }
         }
     }

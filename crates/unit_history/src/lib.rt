@@ -5,7 +5,9 @@
 //! `UnitState`: a history is lawful whatever a call is given. A call is one step or none, its answer exact by
 //! cause. A request enters only the unit whose address it names, above the last ticket of its queue. Each job is
 //! handed out once. A command runs whole, with the reply that its history gives; or its task was marked, or memory
-//! was refused, and nothing changed. A Leave wants the proof that the chain was completed (`Answered`).
+//! was refused, and nothing changed. A Leave wants the proof that the chain was completed (`Answered`). A command that
+//! needs pages which aren't in memory waits, with nothing changed (`commit_ready`). Since no unit's disk is backed yet,
+//! none does.
 //!
 //! Blocks, capacity, attentions and counts (modulo 2^64) are the history's, over disks that are given and given
 //! back. Blocks outside the changes that it tells are unchanged since a place; it may always tell of its latest

@@ -1,12 +1,15 @@
 //! Running a command whole.
 
-ghost use Rattle.std.specs.Prelude.{◌≡◌, ◌≤◌, ◌<◌, IfSome, if◌then◌else◌, length, true, IfOk, OnErr, false};
+ghost use Rattle.std.specs.Prelude.{◌≡◌, ◌≢◌, ◌≤◌, ◌<◌, ◌×◌, IfSome, if◌then◌else◌, length, true, IfOk, IfErr, OnErr, false, None, IsOk, IsTrue};
 ghost use Rattle.std.specs.Option.{option_map};
 ghost use Rattle.cdb.specs.Need.{need_of};
 ghost use Rattle.command_model.specs.PlainReply.{plain_of};
 ghost use Rattle.block_store.specs.Drafts.{prepared_draft};
+ghost use Rattle.block_store.specs.declared.readiness.Readiness.TheVariants.{Ready, Full};
 ghost use Rattle.block_commands.specs.Prepared.{IsOf};
 ghost use Rattle.block_commands.specs.Inner.Told.{facts_of};
+ghost use Rattle.block_commands.specs.Inner.Ready.{IsReady};
+ghost use Rattle.command_model.specs.Attention.{met};
 ghost use Rattle.sense.specs.Conditions.{unit_attention};
 ghost use Rattle.unit_model.specs.Contents.{pending_at_start};
 ghost use Rattle.unit_history.specs.Inner.Kept.{kept_reply};
@@ -14,8 +17,9 @@ ghost use Rattle.unit_history.specs.Endings.{plain_run};
 ghost use Rattle.unit_history.specs.Inner.Performing.{Performs, performed_of, told, taken, unkept};
 
 use crate::log::LONGEST_KEPT;
-use block_commands::{UnitFacts, exec, exec_prepared, takes_attention};
-use block_store::{PagedStore, Prepared, Store};
+use backed_store::Disk;
+use block_commands::{UnitFacts, exec_on, exec_prepared, make_ready, takes_attention};
+use block_store::{Prepared, Readiness, Store};
 use cdb::Command;
 use command_model::Reply;
 use foundation::NoMemory;
@@ -101,6 +105,62 @@ pub struct Performed {
     pub kept: Option<Reply>,
 }
 
+/// Puts what is pending first among the facts, and asks the host for each page that a command needs and that isn't in
+/// memory. The command has exactly the data that it takes. The blocks stay as they are. `Ready` where it may run; so
+/// always on a disk that isn't backed.
+#[inline(always)]
+pub fn ready_for(
+    facts: &mut UnitFacts,
+    attentions: &Attentions,
+    store: &mut Disk,
+    command: &Command,
+    bytes: &[u8],
+) -> Readiness
+    requires data { length bytes.now ≡ (need_of command.now).out }
+    ensures facts { facts.new ≡ told facts.old attentions.now }
+    ensures ready { result ≡ Ready → met command.now (told facts.old attentions.now).pending ≡ None →
+        IsReady (⟦<Disk as Store>⟧.is_held store.new) (⟦<Disk as Store>⟧.has_room store.new) (⟦<Disk as Store>⟧.size store.new)
+        command.now bytes.now }
+    ensures asked { result ≢ Full → met command.now (told facts.old attentions.now).pending ≡ None →
+        IsReady (⟦<Disk as Store>⟧.is_coming store.new) (⟦<Disk as Store>⟧.has_room store.new) (⟦<Disk as Store>⟧.size store.new)
+        command.now bytes.now }
+    ensures whole { IsTrue (⟦<Disk as Store>⟧.is_whole store.old) → result ≡ Ready }
+    ensures kind { ⟦<Disk as Store>⟧.is_whole store.new ≡ ⟦<Disk as Store>⟧.is_whole store.old }
+    ensures blocks { ⟦<Disk as Store>⟧.block_at store.new ≡ ⟦<Disk as Store>⟧.block_at store.old }
+    ensures size { ⟦<Disk as Store>⟧.size store.new ≡ ⟦<Disk as Store>⟧.size store.old }
+{
+    tell_oldest(facts, attentions);
+    if store.is_resident() {
+        return Readiness::Ready;
+    }
+    make_ready(store, command, bytes, facts)
+}
+
+/// Makes a disk ready for a command as [`ready_for`] does. Returns true if the command may run.
+#[inline(always)]
+pub fn is_ready(
+    facts: &mut UnitFacts,
+    attentions: &Attentions,
+    store: &mut Disk,
+    command: &Command,
+    bytes: &[u8],
+) -> bool
+    requires data { length bytes.now ≡ (need_of command.now).out }
+    ensures facts { facts.new ≡ told facts.old attentions.now }
+    ensures ready { IsTrue result → met command.now (told facts.old attentions.now).pending ≡ None →
+        IsReady (⟦<Disk as Store>⟧.is_held store.new) (⟦<Disk as Store>⟧.has_room store.new) (⟦<Disk as Store>⟧.size store.new)
+        command.now bytes.now }
+    ensures whole { IsTrue (⟦<Disk as Store>⟧.is_whole store.old) → IsTrue result }
+    ensures kind { ⟦<Disk as Store>⟧.is_whole store.new ≡ ⟦<Disk as Store>⟧.is_whole store.old }
+    ensures blocks { ⟦<Disk as Store>⟧.block_at store.new ≡ ⟦<Disk as Store>⟧.block_at store.old }
+    ensures size { ⟦<Disk as Store>⟧.size store.new ≡ ⟦<Disk as Store>⟧.size store.old }
+{
+    match ready_for(facts, attentions, store, command, bytes) {
+        Readiness::Ready => true,
+        Readiness::Asked | Readiness::Full => false,
+    }
+}
+
 /// Runs a command, with exactly the data that it takes, on the blocks of its unit, whose facts have what is pending; its
 /// reply is kept nowhere. The unit calls it, in the hold of its lock. `NoMemory` where memory was refused, with blocks
 /// and attentions as before.
@@ -110,18 +170,22 @@ pub fn run(
     room: &mut Vec<u8>,
     facts: &UnitFacts,
     attentions: &mut Attentions,
-    store: &mut PagedStore,
+    store: &mut Disk,
     command: &Command,
     bytes: &[u8],
 ) -> Result<Reply, NoMemory>
     requires data { length bytes.now ≡ (need_of command.now).out }
-    ensures performed { Performs false (facts_of facts.now (⟦<PagedStore as Store>⟧.size store.old))
+    requires ready { met command.now facts.now.pending ≡ None →
+        IsReady (⟦<Disk as Store>⟧.is_held store.old) (⟦<Disk as Store>⟧.has_room store.old) (⟦<Disk as Store>⟧.size store.old)
+        command.now bytes.now }
+    ensures performed { Performs false (facts_of facts.now (⟦<Disk as Store>⟧.size store.old))
         command.now bytes.now (unkept (plain_run result))
-        (⟦<PagedStore as Store>⟧.block_at store.old) (⟦<PagedStore as Store>⟧.block_at store.new) attentions.old attentions.new }
-    ensures size { ⟦<PagedStore as Store>⟧.size store.new ≡ ⟦<PagedStore as Store>⟧.size store.old }
+        (⟦<Disk as Store>⟧.block_at store.old) (⟦<Disk as Store>⟧.block_at store.new) attentions.old attentions.new }
+    ensures size { ⟦<Disk as Store>⟧.size store.new ≡ ⟦<Disk as Store>⟧.size store.old }
+    ensures kind { ⟦<Disk as Store>⟧.is_whole store.new ≡ ⟦<Disk as Store>⟧.is_whole store.old }
     ensures fits { IfOk result (λ r. length r.payload.items ≤ (need_of command.now).into) }
 {
-    let ran = exec(alloc, room, store, command, bytes, facts);
+    let ran = exec_on(alloc, room, store, command, bytes, facts);
     if ran.is_ok() {
         clear_oldest(attentions, command);
     }
@@ -136,7 +200,7 @@ fn run_prepared(
     room: &mut Vec<u8>,
     facts: &mut UnitFacts,
     attentions: &mut Attentions,
-    store: &mut PagedStore,
+    store: &mut Disk,
     command: &Command,
     bytes: &[u8],
     prepared: Option<Prepared>,
@@ -144,11 +208,15 @@ fn run_prepared(
 ) -> Result<Reply, NoMemory>
     requires data { length bytes.now ≡ (need_of command.now).out }
     requires own { IfSome prepared (λ pages. IsOf command.now bytes.now (prepared_draft pages)) }
-    ensures performed { Performs false (facts_of (told facts.old attentions.old) (⟦<PagedStore as Store>⟧.size store.old))
+    requires ready { met command.now (told facts.old attentions.old).pending ≡ None →
+        IsReady (⟦<Disk as Store>⟧.is_held store.old) (⟦<Disk as Store>⟧.has_room store.old) (⟦<Disk as Store>⟧.size store.old)
+        command.now bytes.now }
+    ensures performed { Performs false (facts_of (told facts.old attentions.old) (⟦<Disk as Store>⟧.size store.old))
         command.now bytes.now (unkept (plain_run result))
-        (⟦<PagedStore as Store>⟧.block_at store.old) (⟦<PagedStore as Store>⟧.block_at store.new) attentions.old attentions.new }
+        (⟦<Disk as Store>⟧.block_at store.old) (⟦<Disk as Store>⟧.block_at store.new) attentions.old attentions.new }
     ensures facts { facts.new ≡ told facts.old attentions.old }
-    ensures size { ⟦<PagedStore as Store>⟧.size store.new ≡ ⟦<PagedStore as Store>⟧.size store.old }
+    ensures size { ⟦<Disk as Store>⟧.size store.new ≡ ⟦<Disk as Store>⟧.size store.old }
+    ensures kind { ⟦<Disk as Store>⟧.is_whole store.new ≡ ⟦<Disk as Store>⟧.is_whole store.old }
     ensures fits { IfOk result (λ r. length r.payload.items ≤ (need_of command.now).into) }
 {
     tell_oldest(facts, attentions);
@@ -167,7 +235,7 @@ pub fn perform(
     room: &mut Vec<u8>,
     facts: &mut UnitFacts,
     attentions: &mut Attentions,
-    store: &mut PagedStore,
+    store: &mut Disk,
     command: &Command,
     bytes: &[u8],
     prepared: Option<Prepared>,
@@ -176,11 +244,15 @@ pub fn perform(
 ) -> Option<Performed>
     requires data { length bytes.now ≡ (need_of command.now).out }
     requires own { IfSome prepared (λ pages. IsOf command.now bytes.now (prepared_draft pages)) }
-    ensures performed { Performs keeps_replies (facts_of (told facts.old attentions.old) (⟦<PagedStore as Store>⟧.size store.old))
+    requires ready { met command.now (told facts.old attentions.old).pending ≡ None →
+        IsReady (⟦<Disk as Store>⟧.is_held store.old) (⟦<Disk as Store>⟧.has_room store.old) (⟦<Disk as Store>⟧.size store.old)
+        command.now bytes.now }
+    ensures performed { Performs keeps_replies (facts_of (told facts.old attentions.old) (⟦<Disk as Store>⟧.size store.old))
         command.now bytes.now (option_map performed_of result)
-        (⟦<PagedStore as Store>⟧.block_at store.old) (⟦<PagedStore as Store>⟧.block_at store.new) attentions.old attentions.new }
+        (⟦<Disk as Store>⟧.block_at store.old) (⟦<Disk as Store>⟧.block_at store.new) attentions.old attentions.new }
     ensures facts { facts.new ≡ told facts.old attentions.old }
-    ensures size { ⟦<PagedStore as Store>⟧.size store.new ≡ ⟦<PagedStore as Store>⟧.size store.old }
+    ensures size { ⟦<Disk as Store>⟧.size store.new ≡ ⟦<Disk as Store>⟧.size store.old }
+    ensures kind { ⟦<Disk as Store>⟧.is_whole store.new ≡ ⟦<Disk as Store>⟧.is_whole store.old }
     ensures fits { IfSome result (λ p. length p.reply.payload.items ≤ (need_of command.now).into) }
 {
     if !keeps_replies {
@@ -197,4 +269,53 @@ pub fn perform(
     let kept = kept_of(alloc, &reply).ok()?;
     clear_oldest(attentions, command);
     Some(Performed { reply, kept })
+}
+
+/// Runs a command as [`perform`] does, if what it needs of the disk is in memory. Else it waits, with blocks and
+/// attentions as before: `Asked` where the host is asked for each page at once, `Full` where there is no room for all.
+#[inline(always)]
+pub fn perform_if_ready(
+    alloc: Global,
+    room: &mut Vec<u8>,
+    facts: &mut UnitFacts,
+    attentions: &mut Attentions,
+    store: &mut Disk,
+    command: &Command,
+    bytes: &[u8],
+    prepared: Option<Prepared>,
+    spare: &mut Option<Prepared>,
+    keeps_replies: bool,
+) -> Result<Option<Performed>, Readiness>
+    requires data { length bytes.now ≡ (need_of command.now).out }
+    requires own { IfSome prepared (λ pages. IsOf command.now bytes.now (prepared_draft pages)) }
+    ensures performed { IfOk result (λ ran. Performs keeps_replies
+        (facts_of (told facts.old attentions.old) (⟦<Disk as Store>⟧.size store.old))
+        command.now bytes.now (option_map performed_of ran)
+        (⟦<Disk as Store>⟧.block_at store.old) (⟦<Disk as Store>⟧.block_at store.new) attentions.old attentions.new) }
+    ensures waits { OnErr result ((⟦<Disk as Store>⟧.block_at store.new ≡ ⟦<Disk as Store>⟧.block_at store.old)
+        × (attentions.new ≡ attentions.old)) }
+    ensures asked { IfErr result (λ why. why ≢ Full → met command.now (told facts.old attentions.old).pending ≡ None →
+        IsReady (⟦<Disk as Store>⟧.is_coming store.new) (⟦<Disk as Store>⟧.has_room store.new) (⟦<Disk as Store>⟧.size store.new)
+        command.now bytes.now) }
+    ensures whole { IsTrue (⟦<Disk as Store>⟧.is_whole store.old) → IsOk result }
+    ensures facts { facts.new ≡ told facts.old attentions.old }
+    ensures size { ⟦<Disk as Store>⟧.size store.new ≡ ⟦<Disk as Store>⟧.size store.old }
+    ensures kind { ⟦<Disk as Store>⟧.is_whole store.new ≡ ⟦<Disk as Store>⟧.is_whole store.old }
+    ensures fits { IfOk result (λ ran. IfSome ran (λ p. length p.reply.payload.items ≤ (need_of command.now).into)) }
+{
+    match ready_for(facts, attentions, store, command, bytes) {
+        Readiness::Ready => Ok(perform(
+            alloc,
+            room,
+            facts,
+            attentions,
+            store,
+            command,
+            bytes,
+            prepared,
+            spare,
+            keeps_replies,
+        )),
+        why => Err(why),
+    }
 }

@@ -1,8 +1,10 @@
 //! A request that is served to its end in one call, where no other task is alive.
 
-ghost use Rattle.std.specs.Prelude.{◌≡◌, IsTrue, false};
+ghost use Rattle.std.specs.Prelude.{◌≡◌, IsTrue, false, None};
 ghost use Rattle.std.specs.Bool.{OnFalse};
+ghost use Rattle.block_commands.specs.Inner.Ready.{IsReady};
 ghost use Rattle.block_commands.specs.Inner.Told.{facts_of};
+ghost use Rattle.command_model.specs.Attention.{met};
 ghost use Rattle.unit_history.specs.Endings.{ending_of_run, plain_run};
 ghost use Rattle.unit_history.specs.Inner.Performing.{Performs, step_for, told, unkept};
 ghost use Rattle.unit_history.specs.Recorded.{step_recorded};
@@ -10,11 +12,12 @@ ghost use Rattle.unit_history.specs.Serving.{ServesAlone};
 
 use crate::answering::Answering;
 use crate::execution::keep_larger;
-use crate::performing::{run, tell_oldest};
+use crate::performing::{is_ready, run, tell_oldest};
 use crate::recorded::{RecordedReply, RecordedStep};
 use crate::unit::{UnitState, has_address, make_way, recorded_entry};
+use backed_store::Disk;
 use block_commands::{UnitFacts, read_in_place};
-use block_store::{PagedStore, Store};
+use block_store::Store;
 use command_model::Reply;
 use foundation::NoMemory;
 use ring_core::Ticket;
@@ -45,17 +48,21 @@ fn run_and_answer<A: Answering>(
     room: &mut Vec<u8>,
     facts: &mut UnitFacts,
     attentions: &mut Attentions,
-    store: &mut PagedStore,
+    store: &mut Disk,
     arrival: &Arrival,
     answering: &mut A,
 ) -> Result<RecordedReply, NoMemory>
     requires may { A.may_answer answering.old arrival.now }
-    ensures performed { Performs false (facts_of (told facts.old attentions.old) (⟦<PagedStore as Store>⟧.size store.old))
+    requires ready { met arrival.now.entry.command (told facts.old attentions.old).pending ≡ None →
+        IsReady (⟦<Disk as Store>⟧.is_held store.old) (⟦<Disk as Store>⟧.has_room store.old) (⟦<Disk as Store>⟧.size store.old)
+        arrival.now.entry.command arrival.now.entry.data_out }
+    ensures performed { Performs false (facts_of (told facts.old attentions.old) (⟦<Disk as Store>⟧.size store.old))
         arrival.now.entry.command arrival.now.entry.data_out (unkept result)
-        (⟦<PagedStore as Store>⟧.block_at store.old) (⟦<PagedStore as Store>⟧.block_at store.new) attentions.old attentions.new }
+        (⟦<Disk as Store>⟧.block_at store.old) (⟦<Disk as Store>⟧.block_at store.new) attentions.old attentions.new }
     ensures answered { A.answers answering.old arrival.now (ending_of_run result) answering.new }
     ensures facts { facts.new ≡ told facts.old attentions.old }
-    ensures size { ⟦<PagedStore as Store>⟧.size store.new ≡ ⟦<PagedStore as Store>⟧.size store.old }
+    ensures size { ⟦<Disk as Store>⟧.size store.new ≡ ⟦<Disk as Store>⟧.size store.old }
+    ensures kind { ⟦<Disk as Store>⟧.is_whole store.new ≡ ⟦<Disk as Store>⟧.is_whole store.old }
 {
     let command = arrival.command();
     tell_oldest(facts, attentions);
@@ -90,8 +97,8 @@ fn step_of_run(ticket: Ticket, ran: Result<RecordedReply, NoMemory>) -> Recorded
 impl UnitState {
     /// Serves a request to its end: its task enters, its command runs, its answer is written, and its task leaves.
     /// Returns true then, and the caller uses the chain. It does so only where no task is alive, the request names the
-    /// unit, no replies are kept, the ticket is above the last of its queue, and room for its steps was made. Else
-    /// nothing is changed.
+    /// unit, no replies are kept, and the ticket is above the last of its queue. The pages that the command needs have to
+    /// be in memory, too, and room for its steps to be had. Else nothing is changed.
     #[inline(always)]
     pub fn serve_alone<A: Answering>(&mut self, arrival: &Arrival, answering: &mut A) -> bool
         requires may { A.may_answer answering.old arrival.now }
@@ -112,6 +119,17 @@ impl UnitState {
         if self.last_tickets.is_stale(ticket) {
             return false;
         }
+        let command = arrival.command();
+        let bytes = arrival.data();
+        if !is_ready(
+            &mut self.facts,
+            &self.attentions,
+            &mut self.store,
+            &command,
+            bytes,
+        ) {
+            return false;
+        }
         let Ok(()) = self.last_tickets.reserve(ticket.queue) else {
             return false;
         };
@@ -119,12 +137,8 @@ impl UnitState {
             return false;
         };
         self.last_tickets.came(ticket);
-        self.changes.note_command(
-            &arrival.command(),
-            arrival.data(),
-            self.store.capacity(),
-            self.log.len() + 1,
-        );
+        self.changes
+            .note_command(&command, bytes, self.store.capacity(), self.log.len() + 1);
         let ran = run_and_answer(
             self.alloc,
             &mut self.room,

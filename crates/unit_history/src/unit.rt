@@ -14,6 +14,7 @@ use crate::outcomes::{Entered, ResizeFault, Unknown};
 use crate::performing::attentions_at_start;
 use crate::recorded::{RecordedEntry, RecordedStep};
 use crate::turn::is_ended;
+use backed_store::Disk;
 use block_commands::UnitFacts;
 use block_store::{PagedStore, Prepared, Store};
 use foundation::{NoMemory, Record};
@@ -40,7 +41,8 @@ pub struct UnitState {
     pub(crate) facts: UnitFacts,
     pub(crate) calm: bool,
     pub(crate) attentions: Attentions,
-    pub(crate) store: PagedStore,
+    // No unit's disk is backed yet.
+    pub(crate) store: Disk,
     // The store that was handed in at the opening, as it was then.
     pub(crate) opened: Record<PagedStore>,
     pub(crate) opening_blocks: u64,
@@ -167,7 +169,7 @@ impl UnitState {
             },
             calm: spec.calm,
             attentions: attentions_at_start(spec.calm),
-            store: PagedStore::new(alloc, spec.blocks),
+            store: Disk::Whole(PagedStore::new(alloc, spec.blocks)),
             opened: Record::new(),
             opening_blocks: spec.blocks,
             tasks: TaskSet::new(),
@@ -190,14 +192,17 @@ impl UnitState {
         // The store's bytes behind its end are no block of the disk.
         store.resize(blocks);
         self.opening_blocks = blocks;
-        self.store = store;
+        self.store = Disk::Whole(store);
     }
 
     /// Returns the unit's blocks, as its commands and resizes left them. The rest of the unit is gone.
     pub fn into_store(self) -> PagedStore
         ensures { IsDiskOf self result }
     {
-        self.store
+        match self.store {
+            Disk::Whole(store) => store,
+            Disk::Backed(_) => unreachable!(),
+        }
     }
 
     /// Shows what every unit is between calls: its history is lawful, and its parts are what follows from it.

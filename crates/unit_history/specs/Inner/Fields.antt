@@ -1,6 +1,6 @@
 -- Rests on `specs/Fields.antt`; no promise rests on it.
-use Rattle.std.specs.Prelude.{◌≡◌}
-use Rattle.block_store.specs.Kept as pages
+use Rattle.std.specs.Prelude.{◌≡◌, true}
+use Rattle.backed_store.specs.Disks as disks
 use Rattle.unit_model.specs.Contents.{capacity_of}
 use Rattle.task_set.specs.Inner.Tasks.{seen_of}
 use Rattle.unit_history.specs.Inner.Noting.{AreRecorded}
@@ -9,7 +9,8 @@ use Rattle.unit_history.specs.Fields.{opening_of}
 use Rattle.unit_history.specs.declared.unit.UnitState.TheInside.{Inside}
 
 pub record IsTold (u : Inside) : Type 0 where
-  pub kept : AreKept (opening_of u) u.log.steps (pages.blocks_of u.store.pages) u.attentions u.tasks u.last_tickets u.log.room
+  pub kept : AreKept (opening_of u) u.log.steps (disks.blocks_of u.store) u.attentions u.tasks u.last_tickets u.log.room
   pub based : AreBased u.log.base u.log.forgotten u.log.steps (seen_of u.tasks)
-  pub sized : u.store.capacity ≡ capacity_of (opening_of u) u.log.steps
+  pub sized : disks.size_of u.store ≡ capacity_of (opening_of u) u.log.steps
   pub noted : AreRecorded (opening_of u) u.log.steps u.changes
+  pub whole : disks.is_whole u.store ≡ true

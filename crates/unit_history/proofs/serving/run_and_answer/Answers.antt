@@ -1,6 +1,6 @@
 use Rattle.std.proofs.Common.{◌≡◌, false, None, subst}
 use Rattle.block_commands.specs.Inner.Told.{facts_of}
-use Rattle.block_store.specs.Kept as pages
+use Rattle.backed_store.specs.Disks as disks
 use Rattle.cdb.specs.declared.commands.Command.{Command}
 use Rattle.unit_history.specs.Inner.Performing.{Ran, told}
 use Rattle.unit_history.proofs.Alone.{ran_in_place}
@@ -8,11 +8,11 @@ use Rattle.unit_history.proofs.serving.run_and_answer.Goals as goal
 
 pub returns-in-Some-clause-performed : goal.returns-in-Some-clause-performed
 returns-in-Some-clause-performed g c =
-    let blocks = pages.blocks_of c.args.store.now.pages in
+    let blocks = disks.blocks_of c.args.store.now in
     let out = c.args.arrival.now.entry.data_out in
-    subst (λ (command : Command). Ran false (facts_of (told c.args.facts.now c.args.attentions.now) c.args.store.now.capacity) command out
+    subst (λ (command : Command). Ran false (facts_of (told c.args.facts.now c.args.attentions.now) (disks.size_of c.args.store.now)) command out
     (record { reply = c.of_read.result; kept = None }) blocks blocks c.args.attentions.now c.args.attentions.now)
     c.command-command.ensures
-    (ran_in_place c.args.facts.now c.tell_oldest.new.facts c.args.store.now.capacity c.command-command.result out c.in-Some.data.now
+    (ran_in_place c.args.facts.now c.tell_oldest.new.facts (disks.size_of c.args.store.now) c.command-command.result out c.in-Some.data.now
     c.of_read.result blocks c.args.attentions.now c.tell_oldest.ensures (c.in-Some.ensures.reply out) (c.in-Some.ensures.blocks out)
     c.in-Some.ensures.sends c.in-Some.ensures.calm c.of_read.ensures)

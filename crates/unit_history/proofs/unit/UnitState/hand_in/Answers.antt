@@ -1,4 +1,4 @@
-use Rattle.std.proofs.Common.{◌≡◌, ℕ, length, ◌/◌, ◌%◌, ap, sym, ◌∙◌, ◌++◌, ◌∷◌, [], arith, cond, nat_lt, min}
+use Rattle.std.proofs.Common.{◌≡◌, ℕ, length, ◌/◌, ◌%◌, ap, sym, ◌∙◌, ◌++◌, ◌∷◌, [], refl, arith, cond, nat_lt, min}
 use Rattle.block_store.specs.Blocks.{zero_block}
 use Rattle.block_store.specs.Kept as pages
 use Rattle.block_store.specs.Pages.{blocks_in}
@@ -25,4 +25,5 @@ invariant_of-self c =
       based = c.self.invariant.based;
       sized = rw fresh c.resize.ensures.size;
       noted = recorded_again _ _ _ _ fresh c.self.invariant.noted;
+      whole = refl;
     }

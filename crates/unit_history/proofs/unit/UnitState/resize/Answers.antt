@@ -1,6 +1,6 @@
 use Rattle.std.proofs.Common.{◌≡◌, ◌≤◌, ◌∷◌, true, refl, sym, ap, ◌∙◌, arith, cond, nat_lt, min}
 use Rattle.block_store.specs.Blocks.{zero_block}
-use Rattle.block_store.specs.Kept as pages
+use Rattle.backed_store.specs.Disks as disks
 use Rattle.unit_model.specs.Contents.{is_capacity}
 use Rattle.unit_model.specs.Steps.{Step}
 use Rattle.task_set.specs.Inner.Tasks.{seen_of}
@@ -23,7 +23,7 @@ invariant_of-self-2 c =
       kept =
           rw (c.push.ensures.steps, c.make_way.ensures.steps)
           (keep_resize c.self.invariant.kept c.args.blocks _ _ _ is
-          (λ b. c.resize.ensures.blocks b ∙ ap (λ k. cond (nat_lt b (min k c.args.blocks)) (pages.blocks_of u.store.pages b) zero_block) c.self.invariant.sized)
+          (λ b. c.resize.ensures.blocks b ∙ ap (λ k. cond (nat_lt b (min k c.args.blocks)) (disks.blocks_of u.store b) zero_block) c.self.invariant.sized)
           c.raise.ensures (omega (arith, ahead, left)));
       based =
           based_way _ n _ (Step.Resize c.args.blocks) u.log.steps _ (seen_of u.tasks) _ refl
@@ -35,6 +35,7 @@ invariant_of-self-2 c =
           recorded_resize (opening_of u) c.args.blocks u.log.steps _ _ _ c.self.invariant.noted
           (rw (c.capacity.ensures, c.self.invariant.sized, c.len-place.ensures, c.make_way.ensures.steps) at c.note_growth.ensures.notes)
           (c.push.ensures.steps ∙ ap (λ w. Step.Resize c.args.blocks ∷ w) c.make_way.ensures.steps);
+      whole = c.resize.ensures.kind ∙ c.self.invariant.whole;
     }
 
 pub returns-clause-step : goal.returns-clause-step

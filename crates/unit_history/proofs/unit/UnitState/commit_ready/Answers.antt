@@ -3,7 +3,7 @@ use Rattle.unit_model.specs.Seen.{finished}
 use Rattle.unit_history.specs.Inner.Parts.{AreBehind}
 use Rattle.unit_history.proofs.Basing.{based_on, behind_moved, ran_folds, ran_sized}
 use Rattle.std.specs.Option.{option_copied, option_map}
-use Rattle.block_store.specs.Kept as pages
+use Rattle.backed_store.specs.Disks as disks
 use Rattle.block_commands.specs.Inner.Told.{facts_of}
 use Rattle.unit_history.specs.Fields.{opening_of}
 use Rattle.unit_history.specs.Inner.Performing.{performed_of, told, step_for}
@@ -11,7 +11,7 @@ use Rattle.task_set.specs.Inner.Tasks.{task_at, seen_of}
 use Rattle.unit_history.proofs.Keeping.{has_room, is_ready, told_is, task_at_alive}
 use Rattle.unit_history.proofs.Committing.{cannot_none, cannot_turn, is_of, is_aborted, keep_run, commits_run}
 use Rattle.unit_history.proofs.Noting.{recorded_run}
-use Rattle.unit_history.proofs.unit.UnitState.commit_with.Goals as goal
+use Rattle.unit_history.proofs.unit.UnitState.commit_ready.Goals as goal
 
 pub returns-in_default-clause-step : goal.returns-in_default-clause-step
 returns-in_default-clause-step c =
@@ -22,30 +22,31 @@ pub record_run-requires-clause-room : goal.record_run-requires-clause-room
 record_run-requires-clause-room c =
     has_room c.self.invariant.kept c.ticket-ticket.result c.in-Some.task.now (sym c.task.ensures ∙ ap option_copied c.in-Some.is)
 
-pub invariant_of-self : goal.invariant_of-self
-invariant_of-self c =
+pub invariant_of-self-in-Ready : goal.invariant_of-self-in-Ready
+invariant_of-self-in-Ready c =
     let at = sym c.task.ensures ∙ ap option_copied c.in-Some.is in
     let turns = c.in-Ready.ensures in
     let n = c.self.inside.log.forgotten in
     record {
       kept =
-          rw (c.record_run.ensures.tasks, c.record_run.ensures.steps, c.perform-performed.ensures.facts)
+          rw (c.record_run.ensures.tasks, c.record_run.ensures.steps, c.perform_if_ready.ensures.facts)
           (keep_run c.self.invariant.kept c.ticket-ticket.result c.in-Some.task.now.seen.entry c.keeps_replies-keeps.result
-          (facts_of (told c.self.inside.facts c.self.inside.attentions) (c.self.inside.store.capacity)) (option_map performed_of c.perform-performed.result) _ _ _
+          (facts_of (told c.self.inside.facts c.self.inside.attentions) (disks.size_of c.self.inside.store)) (option_map performed_of c.in-Ok.performed) _ _ _
           (is_ready c.self.invariant.kept c.ticket-ticket.result c.in-Some.task.now at turns.1 turns.2 turns.3)
-          (told_is c.self.invariant.kept c.self.inside.facts (c.self.inside.store.capacity) refl refl refl c.self.invariant.sized)
-          (rw (c.command-command.ensures, c.data-bytes.ensures.data) at c.perform-performed.ensures.performed) c.record_run.ensures.room);
+          (told_is c.self.invariant.kept c.self.inside.facts (disks.size_of c.self.inside.store) refl refl refl c.self.invariant.sized)
+          (rw (c.command-command.ensures, c.data-bytes.ensures.data) at c.in-Ok.ensures.performed) c.record_run.ensures.room);
       based =
           based_on _ _ n _ (step_for c.ticket-ticket.result _) c.self.inside.log.steps _ (seen_of c.self.inside.tasks) _ c.self.invariant.based (ran_folds c.ticket-ticket.result _)
           c.record_run.ensures.base c.record_run.ensures.forgotten c.record_run.ensures.steps
           (λ b. subst (λ ts. AreBehind n (seen_of ts)) (sym c.record_run.ensures.tasks) (behind_moved (finished c.ticket-ticket.result) n c.self.inside.tasks (λ s. refl) b));
-      sized = c.perform-performed.ensures.size ∙ c.self.invariant.sized ∙ sym (ran_sized (opening_of c.self.inside) c.ticket-ticket.result _ c.self.inside.log.steps _ c.record_run.ensures.steps);
+      sized = c.perform_if_ready.ensures.size ∙ c.self.invariant.sized ∙ sym (ran_sized (opening_of c.self.inside) c.ticket-ticket.result _ c.self.inside.log.steps _ c.record_run.ensures.steps);
       noted =
-          rw (c.perform-performed.ensures.facts)
+          rw (c.perform_if_ready.ensures.facts)
           (recorded_run (opening_of c.self.inside) c.ticket-ticket.result c.in-Some.task.now.seen.entry _ c.self.inside.log.steps _ _ _ _ c.self.invariant.noted
           (task_at_alive c.self.invariant.kept c.ticket-ticket.result c.in-Some.task.now at).0
           (rw (c.command-command.ensures, c.data-bytes.ensures.data, c.len.ensures) at c.note_command.ensures)
-          (c.capacity.ensures ∙ c.self.invariant.sized) c.record_run.ensures.steps);
+          (c.capacity.ensures ∙ c.perform_if_ready.ensures.size ∙ c.self.invariant.sized) c.record_run.ensures.steps);
+      whole = c.perform_if_ready.ensures.kind ∙ c.self.invariant.whole;
     }
 
 pub returns-in-Unknown-clause-step : goal.returns-in-Unknown-clause-step
@@ -75,13 +76,13 @@ returns-in-Ready-clause-step c =
       c.record_run.ensures.tasks,
       c.record_run.ensures.steps,
       c.record_run.ensures.keeps,
-      c.perform-performed.ensures.facts,
+      c.perform_if_ready.ensures.facts,
       c.ticket-ticket.ensures.entry,
     )
     (commits_run c.self.invariant.kept c.args.job.now c.in-Some.task.now.seen.entry c.self.inside.log.keeps
-    (facts_of (told c.self.inside.facts c.self.inside.attentions) (c.self.inside.store.capacity)) (option_map performed_of c.perform-performed.result)
-    (pages.blocks_of c.perform-performed.new.store.pages) c.perform-performed.new.attentions
+    (facts_of (told c.self.inside.facts c.self.inside.attentions) (disks.size_of c.self.inside.store)) (option_map performed_of c.in-Ok.performed)
+    (disks.blocks_of c.perform_if_ready.new.store) c.perform_if_ready.new.attentions
     (is_of c.self.invariant.kept c.args.job.now c.in-Some.task.now at turns.0)
     (is_ready c.self.invariant.kept c.args.job.now.entry.ticket c.in-Some.task.now at turns.1 turns.2 turns.3)
-    (told_is c.self.invariant.kept c.self.inside.facts (c.self.inside.store.capacity) refl refl refl c.self.invariant.sized)
-    (rw keeps (rw (c.command-command.ensures, c.data-bytes.ensures.data) at c.perform-performed.ensures.performed)))
+    (told_is c.self.invariant.kept c.self.inside.facts (disks.size_of c.self.inside.store) refl refl refl c.self.invariant.sized)
+    (rw keeps (rw (c.command-command.ensures, c.data-bytes.ensures.data) at c.in-Ok.ensures.performed)))
