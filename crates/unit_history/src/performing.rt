@@ -316,6 +316,7 @@ pub fn perform_if_ready(
             spare,
             keeps_replies,
         )),
-        why => Err(why),
+        Readiness::Asked => Err(Readiness::Asked),
+        Readiness::Full => Err(Readiness::Full),
     }
 }

@@ -22,6 +22,29 @@ pub record_run-requires-clause-room : goal.record_run-requires-clause-room
 record_run-requires-clause-room c =
     has_room c.self.invariant.kept c.ticket-ticket.result c.in-Some.task.now (sym c.task.ensures ∙ ap option_copied c.in-Some.is)
 
+pub invariant_of-self : goal.invariant_of-self
+invariant_of-self c =
+    let k = c.self.invariant.kept in
+    let stays = c.in_default-perform_if_ready.ensures.waits in
+    let facts = c.perform_if_ready.ensures.facts in
+    record {
+      kept =
+          rw (facts, stays.1)
+          (record {
+            lawful = k.lawful;
+            stored = λ b. ap (λ f. f b) stays.0 ∙ k.stored b;
+            pends = k.pends;
+            set = k.set;
+            fit = k.fit;
+            floors = k.floors;
+            reserved = k.reserved;
+          });
+      based = c.self.invariant.based;
+      sized = rw facts (c.perform_if_ready.ensures.size ∙ c.self.invariant.sized);
+      noted = rw facts c.self.invariant.noted;
+      whole = c.perform_if_ready.ensures.kind ∙ c.self.invariant.whole;
+    }
+
 pub invariant_of-self-in-Ready : goal.invariant_of-self-in-Ready
 invariant_of-self-in-Ready c =
     let at = sym c.task.ensures ∙ ap option_copied c.in-Some.is in
