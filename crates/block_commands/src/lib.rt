@@ -4,7 +4,9 @@
 //! # Proved
 //!
 //! `exec`: status, sense, data, bytes moved and every block afterwards are the definitions' (`docs/COMMANDS.md`).
-//! CHECK CONDITION moves nothing. After want of memory no block changed.
+//! CHECK CONDITION moves nothing. After want of memory no block changed. A command runs only where `make_ready` found the
+//! pages that it needs in memory. Else each of them was asked for, at once, or there was no room for all. A disk that
+//! isn't backed has all pages in memory.
 #![tactic(auto)]
 
 mod attention;

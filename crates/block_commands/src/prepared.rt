@@ -27,9 +27,10 @@ use command_model::Reply;
 use foundation::NoMemory;
 use std::alloc::Global;
 
-/// Runs one command on a disk, whole, as [`exec_on`] does. `prepared` has the new pages of its write, if any. They are installed where nothing beside the range has changed in them since; else the blocks are written as
-/// ever. Gives pages back beside the reply: those that it replaced, or those of `prepared` where it didn't install
-/// them. So a caller that holds a lock frees them after it.
+/// Runs one command on a disk, whole, as [`exec_on`] does. `prepared` has the new pages of its write, if any. They are
+/// installed where nothing beside the range has changed in them since; else the blocks are written as ever. Gives pages
+/// back beside the reply: those that it replaced, or those of `prepared` where it didn't install them. So a caller that
+/// holds a lock frees them after it.
 #[inline(always)]
 pub fn exec_prepared(
     alloc: Global,
