@@ -1,6 +1,6 @@
 //! Running a command whole.
 
-ghost use Rattle.std.specs.Prelude.{◌≡◌, ◌≢◌, ◌≤◌, ◌<◌, ◌×◌, IfSome, if◌then◌else◌, length, true, IfOk, IfErr, OnErr, false, None, IsOk, IsTrue};
+ghost use Rattle.std.specs.Prelude.{◌≡◌, ◌≢◌, ◌≤◌, ◌<◌, IfSome, if◌then◌else◌, length, true, IfOk, IfErr, OnErr, false, None, IsOk, IsTrue};
 ghost use Rattle.std.specs.Option.{option_map};
 ghost use Rattle.cdb.specs.Need.{need_of};
 ghost use Rattle.command_model.specs.PlainReply.{plain_of};
