@@ -199,7 +199,8 @@ impl UnitState {
     pub fn into_store(self) -> PagedStore
         ensures { IsDiskOf self result }
     {
-        match self.store {
+        let disk = self.store;
+        match disk {
             Disk::Whole(store) => store,
             Disk::Backed(_) => unreachable!(),
         }

@@ -88,8 +88,8 @@ returns-in-Aborted-clause-step c =
       refl,
     )
 
-pub returns-in-Ready-clause-step : goal.returns-in-Ready-clause-step
-returns-in-Ready-clause-step c =
+pub returns-in-Ok-clause-step : goal.returns-in-Ok-clause-step
+returns-in-Ok-clause-step c =
     let at = ap (λ t. task_at t c.self.inside.tasks) (sym c.ticket-ticket.ensures.entry) ∙ sym c.task.ensures ∙ ap option_copied c.in-Some.is in
     let turns = c.in-Ready.ensures in
     let keeps : c.self.inside.log.keeps ≡ c.keeps_replies-keeps.result = sym c.keeps_replies-keeps.ensures in
