@@ -19,10 +19,10 @@ size_live m = m.size
 abbrev pub ServesAskedApart : ℕ → ℕ → PlainLive (LiveMem HostBus) → Portion → Answer → Portion → PlainLive (LiveMem HostBus)
     → Type 0
 ServesAskedApart queues most x old answer.Done new y =
-    ServesAskedOrWants (ServesWholeLive true begins_live MayBeLive size_live queues)
+    ServesAskedOrWants (ServesWholeLive true begins_live MayBeLive stores_live size_live queues)
     (AsksDriversLive true begins_live MayBeLive stores_live size_live queues) x most (Ok new) y
 ServesAskedApart queues most x old answer.NoMemory new y = (e : NoMemory)
-    × ServesAskedOrWants (ServesWholeLive true begins_live MayBeLive size_live queues)
+    × ServesAskedOrWants (ServesWholeLive true begins_live MayBeLive stores_live size_live queues)
     (AsksDriversLive true begins_live MayBeLive stores_live size_live queues) x most (Err e) y × (new ≡ old)
 ServesAskedApart queues most x old a new y = ⊥
 

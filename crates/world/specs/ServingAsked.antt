@@ -9,7 +9,7 @@ use Rattle.device_model.specs.World.{PlainWorld}
 use Rattle.device_steps.specs.Asking.{asking_at}
 use Rattle.device_steps.specs.Settling.{asks}
 use Rattle.world.specs.Asking.{Asks, AsksAsPromised, AsksLive, AsksPromised}
-use Rattle.world.specs.LiveServing.{ServesLiveOrWants, ServesPromised}
+use Rattle.world.specs.LiveServing.{ServesLiveOrWants, ServesPromised, ServeStores}
 use Rattle.world.specs.LiveWorld.{PlainLive}
 use Rattle.world.specs.Promise.{ServesAsPromised}
 use Rattle.world.specs.Settling.{ServesSomeOrWants}
@@ -88,11 +88,12 @@ AsksDrivers queues w w' = AsksBelow AsksNext (asks queues) (length w.queues) w w
 -- In a memory that its guest writes at any time
 
 -- as `LiveWorld::serve`
-abbrev pub ServesWholeLive : {X : Type 0} → Bool → (X → X → Type 0) → (X → List ℕ → Type 0) → (X → ℕ) → ℕ → ℕ → PlainLive X
-    → Result Served NoMemory → PlainLive X → Type 0
-ServesWholeLive {X} shared begins may_be extent queues most x r y =
-    ServesLiveOrWants shared begins may_be (asks queues) x most r y
+abbrev pub ServesWholeLive : {X : Type 0} → Bool → (X → X → Type 0) → (X → List ℕ → Type 0) → (X → X → List Write → Type 0)
+    → (X → ℕ) → ℕ → ℕ → PlainLive X → Result Served NoMemory → PlainLive X → Type 0
+ServesWholeLive {X} shared begins may_be stored extent queues most x r y =
+    ServesLiveOrWants shared begins may_be stored (asks queues) x most r y
     × ServesPromised (asks queues) shared (extent x.memory) x.device r y.device
+    × ServeStores (stored x.memory y.memory) (asks queues) shared (extent x.memory) x.device r y.device
 
 -- as `LiveWorld::ask` for the next chain
 abbrev pub AsksNextLive : {X : Type 0} → Bool → (X → X → Type 0) → (X → List ℕ → Type 0) → (X → X → List Write → Type 0)

@@ -28,7 +28,7 @@ impl<M: WritableMemory> LiveWorld<M> {
     pub fn serve_and_ask(&mut self, queues: u32, most: u64) -> Result<Served, NoMemory>
         ensures size { M.extent self.new.memory ≡ M.extent self.old.memory }
         ensures serves { ServesAskedOrWants
-            (ServesWholeLive M.shared M.begins M.may_be M.extent queues)
+            (ServesWholeLive M.shared M.begins M.may_be (Stored M.stored M.storing) M.extent queues)
             (AsksDriversLive M.shared M.begins M.may_be (Stored M.stored M.storing) M.extent queues)
             self.old most result self.new }
     {

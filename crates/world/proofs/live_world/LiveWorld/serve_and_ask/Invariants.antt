@@ -7,7 +7,7 @@ use Rattle.world.proofs.live_world.LiveWorld.serve_and_ask.Given as goal
 abbrev pub invariant-rounds : goal.invariant-rounds
 invariant-rounds g l =
     record {
-      so : SoFar (ServesWholeLive g.M.Memory.shared g.M.Memory.begins g.M.Memory.may_be g.M.Memory.extent l.queues)
+      so : SoFar (ServesWholeLive g.M.Memory.shared g.M.Memory.begins g.M.Memory.may_be (Stored g.M.Memory.stored g.M.Memory.storing) g.M.Memory.extent l.queues)
           (AsksDriversLive g.M.Memory.shared g.M.Memory.begins g.M.Memory.may_be
           (Stored g.M.Memory.stored g.M.Memory.storing) g.M.Memory.extent l.queues) l.fn.self l.most l.steps l.asked l.self;
       size : g.M.Memory.extent l.self.memory ≡ g.M.Memory.extent l.fn.self.memory;
