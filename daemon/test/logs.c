@@ -1,5 +1,6 @@
 #include "logs.h"
 
+#include <errno.h>
 #include <fcntl.h>
 #include <pthread.h>
 #include <sched.h>
@@ -16,9 +17,10 @@
 
 static const uint8_t ready[6] = {0}, read_10[] = {0x28, 0, 0, 0, 0, 3, 0, 0, 16, 0}, write_10[] = {0x2a, 0, 0, 0, 0, 3, 0, 0, 16, 0};
 
-// PAGE_BYTES: of the guest's pages; LOG_BYTES: of a log, which has the guest's memory and more; ELSEWHERE: an address behind the memory.
-enum { PAGE_BYTES = 4096, LOG_SIZE = 0x50000, BYTES = 16 * 512, TURNS = 20, REQUESTS = 0x200000, RESPONSES = 0x200400 };
-#define ELSEWHERE ((UINT64_C(1) << 33) + 8)
+// PAGE_BYTES: of the guest's pages; LOG_SIZE: the bytes of a log, which has the guest's memory and more; ELSEWHERE: an address behind the
+// memory, from which the elements of a used ring lie on the next page.
+enum { PAGE_BYTES = 4096, LOG_SIZE = 0x30000, BYTES = 16 * 512, TURNS = 20, REQUESTS = 0x200000, RESPONSES = 0x200400 };
+#define ELSEWHERE ((UINT64_C(5) << 30) + PAGE_BYTES - 8)
 static const uint64_t IS_ON = F_LOG_ALL;
 
 struct log {
@@ -100,10 +102,14 @@ static bool is_exact(const struct front *front, struct log *log, unsigned q, uin
   for (uint32_t i = 0; i < in; i += 512) put_bit(must, guest_of(front, data_of(front) + i));
   if (in) put_bit(must, guest_of(front, data_of(front) + in - 1));
   put_bit(must, guest_of(front, place_of(q, front->way.packed ? 0 : 2)));
-  if (elsewhere && !front->way.packed) put_bit(must, elsewhere);
+  uint64_t element = elsewhere + 4 + 8 * (uint64_t)((uint16_t)(front->queues[q].seen - 1) % front->size);
+  if (elsewhere && !front->way.packed) put_bit(must, elsewhere + 2);
+  if (elsewhere && !front->way.packed) put_bit(must, element + 7);
   memcpy(may, must, sizeof may);
   put_bit(may, guest_of(front, place_of(q, 2)));
   if (elsewhere) put_bit(may, elsewhere);
+  if (elsewhere) put_bit(may, element);
+  if (elsewhere && front->way.event_index) put_bit(may, elsewhere + 4 + 8 * (uint64_t)front->size);
   bool exact = true;
   for (size_t i = 0; i < LOG_SIZE; i++) exact = exact && !(must[i] & ~log->bits[i]) && !(log->bits[i] & ~may[i]);
   memset(log->bits, 0, LOG_SIZE);
@@ -216,7 +222,7 @@ void test_logged_elsewhere(void) {
     begin(&front, &disks, number % WAYS, on_file);
     begin_log(&front, &log);
     set_ring(&front, 3, true, ELSEWHERE);
-    for (unsigned i = 0; i < 40; i++) {
+    for (unsigned i = 0; i < 18; i++) {
       MUST(command(&front, 3, read_10, sizeof read_10, NULL, 0, data, BYTES) == 0 && is_exact(&front, &log, 3, BYTES, ELSEWHERE));
       MUST(command(&front, 2, ready, sizeof ready, NULL, 0, NULL, 0) == 0 && is_exact(&front, &log, 2, 0, 0));
     }
@@ -260,6 +266,31 @@ void test_logs_change(void) {
     end(&front, &disks, on_file);
     end_log(&log);
     end_log(&other);
+  }
+}
+
+void test_logged_behind(void) {
+  for (unsigned number = 0; number < WAYS; number++) {
+    struct disks disks;
+    struct front front;
+    struct log log = make_log();
+    load_make(&disks, "1G", "");
+    load_begin(&front, &disks, number);
+    put_write(&front, Q, 0, 0);
+    driver_kick(&front, Q);
+    MUST(await(&front, Q, 1, PATIENCE) == 1);
+    begin_log(&front, &log);
+    faults.write_error = ENOSPC;
+    put_write(&front, Q, 1, 8);
+    driver_kick(&front, Q);
+    MUST(await_error(&front, Q));
+    // The device has answered, and the front end has seen that. The driver hasn't.
+    uint64_t place = place_of(Q, front.way.packed ? 0 : 2) + (front.way.packed ? 16 * (uint64_t)front.queues[Q].seen : 2);
+    memset(log.bits, 0, LOG_SIZE);
+    faults_clear();
+    MUST(await(&front, Q, 1, PATIENCE) == 1 && has_bit(&log, guest_of(&front, place)));
+    load_end(&front, &disks);
+    end_log(&log);
   }
 }
 

@@ -8,8 +8,11 @@ void test_logged(void);
 // Device areas that are logged elsewhere than where they lie.
 void test_logged_elsewhere(void);
 
-// A log that ends, that another one takes the place of, and that begins while requests wait for a file.
+// A log that ends, and that another one takes the place of.
 void test_logs_change(void);
+
+// Answers that wait for a file while the front end takes the bits away: each page that is written then has its bit again.
+void test_logged_behind(void);
 
 // Logs that can't be had, and one that becomes shorter.
 void test_wrong_logs(void);

@@ -310,7 +310,7 @@ int main(int count, char **words) {
                {"forms", test_forms}, {"stale", test_stale}, {"kicks", test_kicks}, {"waits", test_waits}, {"reset", test_reset},
                {"refused", test_refused}, {"endless", test_endless}, {"polls", test_polls},
                {"status", test_status}, {"logged", test_logged}, {"logged elsewhere", test_logged_elsewhere},
-               {"logs change", test_logs_change}, {"wrong logs", test_wrong_logs}};
+               {"logs change", test_logs_change}, {"logged behind", test_logged_behind}, {"wrong logs", test_wrong_logs}};
   unsigned files = open_files();
   for (size_t i = 0; i < sizeof tests / sizeof *tests; i++) {
     if (count > 1 && strcmp(words[1], tests[i].name)) continue;
