@@ -15,7 +15,9 @@ ROOT = Path(__file__).resolve().parent.parent.parent
 DAEMON = ROOT / "out/daemon/vscsi-vhost-user"
 MODULES = ("virtio_pci", "virtio_scsi", "sd_mod", "crc32c_generic", "ext4")
 PACKAGES = "qemu-system-x86 linux-image-amd64 busybox-static e2fsprogs cpio"
-LONGEST = 200
+# A processor without these has a /dev/kvm at most in which a guest hangs.
+ACCELERATOR = "kvm:tcg" if re.search(r"\b(vmx|svm)\b", Path("/proc/cpuinfo").read_text()) else "tcg"
+LONGEST = 200 if ACCELERATOR != "tcg" else 900
 
 INIT = """#!/bin/sh
 mount -t proc none /proc; mount -t sysfs none /sys; mount -t devtmpfs none /dev
@@ -137,7 +139,7 @@ class Machine:
     def __init__(self, room, name, socket_path, form, queues, memory, *words):
         device = f"vhost-user-scsi-pci,chardev=c,num_queues={queues},disable-legacy=on" + (",packed=on" if form == "packed" else "")
         self.control = room / f"{name}.qmp"
-        started = ["qemu-system-x86_64", "-M", "q35,accel=kvm:tcg,memory-backend=memory", "-cpu", "max", "-smp", str(queues), "-nodefaults", "-display", "none"]
+        started = ["qemu-system-x86_64", "-M", f"q35,accel={ACCELERATOR},memory-backend=memory", "-cpu", "max", "-smp", str(queues), "-nodefaults", "-display", "none"]
         started += ["-object", f"memory-backend-memfd,id=memory,size={memory}M,share=on", "-chardev", f"socket,id=c,path={socket_path}"]
         started += ["-device", device, "-serial", "stdio", "-qmp", f"unix:{self.control},server=on,wait=off", *map(str, words)]
         if "-m" not in words:
