@@ -139,7 +139,7 @@ class Machine:
     def __init__(self, room, name, socket_path, form, queues, memory, *words):
         device = f"vhost-user-scsi-pci,chardev=c,num_queues={queues},disable-legacy=on" + (",packed=on" if form == "packed" else "")
         self.control = room / f"{name}.qmp"
-        started = ["qemu-system-x86_64", "-M", f"q35,accel={ACCELERATOR},memory-backend=memory", "-cpu", "max", "-smp", str(queues), "-nodefaults", "-display", "none"]
+        started = ["qemu-system-x86_64", "-M", f"pc,accel={ACCELERATOR},memory-backend=memory", "-smp", str(queues), "-nodefaults", "-display", "none"]
         started += ["-object", f"memory-backend-memfd,id=memory,size={memory}M,share=on", "-chardev", f"socket,id=c,path={socket_path}"]
         started += ["-device", device, "-serial", "stdio", "-qmp", f"unix:{self.control},server=on,wait=off", *map(str, words)]
         if "-m" not in words:
