@@ -141,8 +141,7 @@ impl Machine for LiveMachine {
     }
 
     fn serve_and_ask(&mut self, most: u64) -> Result<Served, NoMemory> {
-        let served = self.world.serve_and_ask(EACH_QUEUE, most);
-        self.seen(served)
+        self.world.serve_and_ask(EACH_QUEUE, most)
     }
 
     fn ask(&mut self, queue: u16, notify: Notify) -> bool {

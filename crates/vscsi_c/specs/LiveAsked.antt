@@ -1,5 +1,5 @@
 -- A device on live memory that asks its drivers for notifications as it serves them.
-use Rattle.std.specs.Prelude.{ℕ, ◌≡◌, Bool, bit_and, Ok, Err}
+use Rattle.std.specs.Prelude.{ℕ, ◌≡◌, Bool, true, bit_and, Ok, Err}
 use Rattle.foundation.specs.declared.NoMemory.{NoMemory}
 use Rattle.host_bus.specs.declared.HostBus.{HostBus}
 use Rattle.live_mem.specs.Live.{MayBeLive}

@@ -1,6 +1,6 @@
 //! The places where queues go on, for C.
 
-ghost use Rattle.std.specs.Prelude.{◌≡◌};
+ghost use Rattle.std.specs.Prelude.{◌≡◌, ◌==◌};
 ghost use Rattle.vscsi_c.specs.Position.{wrapped_of, told_position, BeginsAt, TellsPosition};
 ghost use Rattle.vscsi_c.specs.Live.{TellsPosition as TellsLivePosition};
 
