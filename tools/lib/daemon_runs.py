@@ -219,12 +219,13 @@ def test_conventions(room):
 
 
 def test_documents(room):
-    """The page, the manual and --help have the same words."""
-    said = [set(re.findall(r"--[a-z][a-z-]*|\b(?:grow|snapshot|detect-zeroes)\b", text.replace("\\-", "-"))) for text in (
+    """The manual page and --help have the same words, and the page on the daemon has no other."""
+    words = r"--[a-z][a-z-]*|\b(?:grow|snapshot|detect-zeroes)\b"
+    said = [set(re.findall(words, text.replace("\\-", "-"))) for text in (
         room.ends("--help", status=0),
         (DOCS / "vscsi-vhost-user.1").read_text().split(".SH OPTIONS")[1].split(".SH ")[0],
         (DOCS / "DAEMON.md").read_text().split("## Words")[1].split("## ")[0])]
-    assert said[0] == said[1] == said[2] and len(said[0]) > 15, [sorted(it - said[0]) + sorted(said[0] - it) for it in said]
+    assert said[0] == said[1] and said[2] <= said[0] and len(said[0]) > 15, [sorted(it - said[0]) + sorted(said[0] - it) for it in said]
 
 
 def test_socket_path_is_socket(room):
