@@ -110,7 +110,7 @@ impl Features {
     }
 }
 
-/// The cause for which a layout is refused. They are tested in this order, `NoMemory` last.
+/// The cause for which a layout is refused. They are tested in this order, but for `NoMemory`, which comes last.
 #[derive(Clone, Copy, Debug, PartialEq, Eq)]
 pub enum LayoutFault {
     /// The size is 0, above 32,768, or in a split queue no power of two.

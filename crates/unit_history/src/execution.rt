@@ -30,7 +30,7 @@ const MOST_ROOM: usize = 4096;
 /// The most blocks whose pages are kept from one WRITE for the next: 128 KiB.
 const MOST_SPARE_BLOCKS: u32 = 256;
 
-/// Keeps the room of a reply's data in place of what is kept, where it is more and isn't much.
+/// Keeps the larger of two buffers for the data of the next reply, up to `MOST_ROOM` bytes.
 #[inline(always)]
 pub(crate) fn keep_larger(room: &mut Vec<u8>, reply: Reply) {
     let Reply { payload, .. } = reply;

@@ -33,7 +33,7 @@ fn are_alike(kept: &Option<Reply>, given: &Option<Reply>) -> bool
     }
 }
 
-/// Returns true if the reply that is kept of the step at a place, if one is, agrees, where so many steps came.
+/// Returns true if the kept reply of a step, if there is one, agrees. `steps` is how many steps the history has.
 pub(crate) fn agrees_there(
     replies: &VecDeque<Option<Reply>>,
     steps: u64,

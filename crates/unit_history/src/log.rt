@@ -221,7 +221,7 @@ impl StepLog {
         rule_of_one(self.kinds.get(place))
     }
 
-    /// Returns the place of the oldest folded Abort or Reset of which it is kept which tasks it met, if there is one.
+    /// Returns the step number of the oldest folded Abort or Reset whose tasks are still known, if there is one.
     #[inline(always)]
     pub fn oldest_mark(&self) -> Option<u64>
         ensures { IfSome result (λ place. place < length self.now.steps) }

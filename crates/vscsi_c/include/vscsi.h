@@ -1,8 +1,8 @@
 /* A virtio SCSI device (OASIS VIRTIO 1.2, 5.6) as a library.
  *
- * The device is everything behind the virtqueues: it has a copy of guest memory, takes requests from its queues there,
- * runs their commands on its units, whose blocks it keeps in its own memory, and writes what is answered. It has no
- * thread, opens no file and waits for nothing: a call does its work and returns.
+ * The device is everything behind the virtqueues. It takes requests from its queues in guest memory, runs their
+ * commands on its units, whose blocks it keeps in its own memory, and writes what is answered. It has no thread, opens
+ * no file and waits for nothing: a call does its work and returns.
  *
  * Who owns what. `struct vscsi` is the caller's: it begins as zeros, and stays where it is while it has a device. Only
  * this library looks at its fields. What the device needs is taken from malloc by vscsi_create, and goes back by
@@ -91,9 +91,11 @@ enum vscsi_answer {
 /* The features that any host may offer. */
 #define VSCSI_FEATURES (VSCSI_F_VERSION_1 | VSCSI_F_RING_PACKED | VSCSI_F_INDIRECT_DESC | VSCSI_F_CHANGE)
 
-/* All features that vscsi_create takes. The device never writes `avail_event` or its event area. A driver of a split
- * queue that agreed to VSCSI_F_EVENT_IDX notifies only of the chain that `avail_event` names, so it stops after its
- * first request. Offer that feature for packed queues alone, or write the guest's `avail_event` behind each call. */
+/* All features that vscsi_create and vscsi_live_create take. With VSCSI_F_EVENT_IDX the driver of a split queue notifies
+ * only of the chain that `avail_event` names (VIRTIO 2.7.10). A `struct vscsi` never writes that, nor the event area of a
+ * packed queue: offer the feature for packed queues alone, or write the guest's `avail_event` behind each call. Else the
+ * driver stops after its first request. A `struct vscsi_live` writes both by vscsi_live_ask, or by itself where its
+ * configuration's `asks` says so. */
 #define VSCSI_ACCEPTED_FEATURES (VSCSI_FEATURES | VSCSI_F_EVENT_IDX)
 
 #define VSCSI_PAGE 4096u
