@@ -1,6 +1,7 @@
 pub mod Spans
 pub mod Recording
 pub mod Over
+pub mod Latest
 pub mod Keeping
 pub mod Reading
 pub mod Storing

@@ -2,8 +2,8 @@
 use Rattle.std.proofs.Common.{◌≡◌, ℕ, ◌+◌, ◌-◌, ◌<◌, ◌≤◌, List, [], ◌∷◌, length, take, drop, get_or, cond, true, false, Bool, refl, sym, ap, ◌∙◌, arith, ◌⊎◌, inl, inr}
 use Rattle.std.proofs.lemmas.List.{ext_get_or, get_or-take, get_or-drop, length-take-le, length-drop}
 use Rattle.guest_mem.specs.Memory.{bytes_at}
-use Rattle.live_mem.specs.Access.{Access, Begins, Loads, Stores, spans, loaded, AreBytes, Agrees, MayBe, StoredNothing}
-use Rattle.live_mem.specs.Inner.Access.{LoadsThere}
+use Rattle.live_mem.specs.Access.{Access, Begins, Loads, Stores, spans, loaded, AreBytes, Agrees, MayBe, StoredNothing, Asks}
+use Rattle.live_mem.specs.Inner.Access.{LoadsThere, ReadsThere}
 use Rattle.live_mem.proofs.Spans.{In, Out, lies, within}
 
 -- where no load has an address any byte stays; where one has it, it doesn't matter which stood there
@@ -73,3 +73,46 @@ module _ (size size' : ℕ) (log log' : List Access) (addr : ℕ) (out m : List 
 -- a read that asked for nothing
 pub nothing_stays : (size size' : ℕ) (log log' : List Access) (m : List ℕ) → size' ≡ size → log' ≡ log → MayBe size' log' m → MayBe size log m
 nothing_stays size size' log log' m is_size same may = rw (is_size, same) at may
+
+-- a read that asked the bus, or for nothing since all that it gives was loaded before
+pub reads_reading : (log log' : List Access) (addr : ℕ) (out : List ℕ) → StoredNothing log → ReadsThere log log' addr out → StoredNothing log'
+reads_reading log log' addr out reading reads = elim reads [ inl loads ↦ rw loads.asked reading | inr known ↦ rw known.0 reading ]
+
+pub reads_asks : (log log' : List Access) (addr : ℕ) (out : List ℕ) → ReadsThere log log' addr out → Asks log log' addr (length out)
+reads_asks log log' addr out reads =
+    elim reads [
+      | inl loads ↦ inl (loads.fresh, loads.long, loads.asked)
+      | inr known ↦
+          inr (
+            known.0,
+            λ p l h x y.
+                let n : addr + (p - addr) ≡ p = omega (arith, l) in
+                let lt : p - addr < length out = omega (arith, l, h) in
+                let one = known.1 (p - addr) x lt in
+                let other = known.1 (p - addr) y lt in
+                (rw n at one) ∙ sym (rw n at other),
+          )
+    ]
+
+module _ (size size' : ℕ) (log log' : List Access) (addr : ℕ) (out m : List ℕ) (is_size : size' ≡ size) (inside : addr + length out ≤ size) (reading : StoredNothing log) (reads : ReadsThere log log' addr out) where
+  module _ (may : MayBe size' log' m) where
+    pub reads_stays : MayBe size log m
+    reads_stays =
+        elim reads [
+          | inl loads ↦ loads_stays size size' log log' addr out m is_size inside reading loads may
+          | inr known ↦ nothing_stays size size' log log' m is_size known.0 may
+        ]
+
+    known_gives : log' ≡ log → ((i d : ℕ) → i < length out → loaded log (addr + i) d ≡ get_or out i 0) → out ≡ bytes_at m addr (length out)
+    known_gives same known =
+        let now : MayBe size log m = nothing_stays size size' log log' m is_size same may in
+        let e : m ≡ now.0 = now.2 ∙ reading now.0 in
+        same_bytes now.0 out addr size now.1.sized inside (λ i lt. sym (now.1.there (addr + i) (omega (arith, lt, inside))) ∙ known i (get_or now.0 (addr + i) 0) lt)
+        ∙ ap (λ (l : List ℕ). bytes_at l addr (length out)) (sym e)
+
+    pub reads_gives : out ≡ bytes_at m addr (length out)
+    reads_gives =
+        elim reads [
+          | inl loads ↦ loads_gives size size' log log' addr out m is_size inside reading loads may
+          | inr known ↦ known_gives known.0 known.1
+        ]

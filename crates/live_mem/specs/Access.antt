@@ -1,6 +1,6 @@
 -- What was asked of a bus, the latest first, and what the latest phase knows by it: the bytes that it loaded, and the bytes
 -- that it stored. A phase begins at the latest Begins.
-use Rattle.std.specs.Prelude.{ℕ, ◌≡◌, ◌+◌, ◌-◌, ◌<◌, ◌&&◌, nat_le, nat_lt, Bool, cond, List, [], ◌∷◌, ◌++◌, length, get_or}
+use Rattle.std.specs.Prelude.{ℕ, ◌≡◌, ◌+◌, ◌-◌, ◌<◌, ◌≤◌, ◌⊎◌, ◌&&◌, nat_le, nat_lt, Bool, cond, List, [], ◌∷◌, ◌++◌, length, get_or}
 use Rattle.guest_mem.specs.Memory.{with_bytes}
 use Rattle.guest_mem.specs.Stores.{Store, stores_at}
 
@@ -53,10 +53,16 @@ MayBe size log m = (m₀ : List ℕ) × Agrees size log m₀ × (m ≡ stored lo
 abbrev pub StoredNothing : List Access → Type 0
 StoredNothing log = (m : List ℕ) → stored log m ≡ m
 
--- a read of n bytes from addr on asks the bus for them, once, and for nothing else
-abbrev pub Asks : List Access → List Access → ℕ → ℕ → Type 0
-Asks log new_log addr n = (fresh : List ℕ) × (length fresh ≡ n) × (new_log ≡ Loads addr fresh ∷ log)
-
 -- no load of the phase has the address
 abbrev pub WasNotRead : List Access → ℕ → Type 0
 WasNotRead log p = (d : ℕ) → loaded log p d ≡ d
+
+-- one has it, and says which byte stands there
+abbrev pub WasRead : List Access → ℕ → Type 0
+WasRead log p = (d e : ℕ) → loaded log p d ≡ loaded log p e
+
+-- a read of n bytes from addr on asks the bus for them, once, and for nothing else; or for nothing, where each was read
+abbrev pub Asks : List Access → List Access → ℕ → ℕ → Type 0
+Asks log new_log addr n =
+    ((fresh : List ℕ) × (length fresh ≡ n) × (new_log ≡ Loads addr fresh ∷ log))
+    ⊎ ((new_log ≡ log) × ((p : ℕ) → addr ≤ p → p < addr + n → WasRead log p))

@@ -177,6 +177,40 @@ impl Kept {
         addr >= self.high || end <= self.low || self.free_from <= addr && end <= self.free_to
     }
 
+    /// Returns true if the latest span has all bytes from `addr` on, as many as `out` holds, and puts them there then.
+    #[inline(always)]
+    pub(crate) fn gives(&self, addr: u64, out: &mut [u8]) -> bool
+        requires small { addr + length out.old ≤ 2 ^ 52 }
+        ensures len { length out.new ≡ length out.old }
+        ensures gives { IsTrue result → (i d : ℕ) → i < length out.old
+            → valued self.now.spans.items self.now.bytes.items (addr + i) d ≡ get_or out.new i 0 }
+    {
+        !self.is_free(addr, addr + out.len() as u64) && self.gives_again(addr, out)
+    }
+
+    /// Does the same, apart so that a read of what wasn't read passes it by.
+    #[inline(never)]
+    fn gives_again(&self, addr: u64, out: &mut [u8]) -> bool
+        requires small { addr + length out.old ≤ 2 ^ 52 }
+        ensures len { length out.new ≡ length out.old }
+        ensures gives { IsTrue result → (i d : ℕ) → i < length out.old
+            → valued self.now.spans.items self.now.bytes.items (addr + i) d ≡ get_or out.new i 0 }
+    {
+        let count = self.spans.len();
+        if count == 0 {
+            return false;
+        }
+        let span = &self.spans[count - 1];
+        if addr < span.addr
+            || span.len < out.len()
+            || addr - span.addr > (span.len - out.len()) as u64
+        {
+            return false;
+        }
+        put_over(span, &self.bytes, addr, out);
+        true
+    }
+
     /// Puts what is kept over `out`, which has the bytes from `addr` on.
     #[inline(always)]
     pub(crate) fn put_over(&mut self, addr: u64, out: &mut [u8])

@@ -3,9 +3,10 @@
 //! # Proved
 //!
 //! The same of memory that its guest changes at any moment: no byte of a decision is fetched twice. Each byte is
-//! the first that the bus gave for its address in this phase, and a read asks once (`reads_what_the_bus_gave`). A
-//! write is stored at once, whole, behind all stores before; a phase begins with a barrier. A read that is refused
-//! memory asks the bus for nothing, and is an error. The first 64 short reads of a phase are never refused.
+//! the first that the bus gave for its address in this phase (`reads_what_the_bus_gave`). A read asks once, or for
+//! nothing where the phase read each of its bytes before. A write is stored at once, whole, behind all stores before;
+//! a phase begins with a barrier. A read that is refused memory asks the bus for nothing, and is an error. The first 64
+//! short reads of a phase are never refused.
 #![tactic(auto)]
 
 mod bus;

@@ -4,7 +4,7 @@ ghost use Rattle.std.specs.Prelude.{ℕ, ◌≡◌, ◌+◌, ◌<◌, ◌≤◌,
 ghost use Rattle.guest_mem.specs.Memory.{bytes_at, with_bytes, LiesIn};
 ghost use Rattle.guest_mem.specs.Stores.{Store, stores_at};
 ghost use Rattle.live_mem.specs.Access.{Access, loaded, stored, all_stores, AreBytes, Asks, MayBe, StoredNothing};
-ghost use Rattle.live_mem.specs.Inner.Access.{LoadsThere};
+ghost use Rattle.live_mem.specs.Inner.Access.{ReadsThere};
 ghost use Rattle.live_mem.specs.Heard.{heard};
 ghost use Rattle.live_mem.specs.Kept.{valued};
 ghost use Rattle.std.proofs.Common.{append-nil, append_assoc, arith};
@@ -53,17 +53,20 @@ impl<B: Bus> LiveMem<B> {
         })
     }
 
-    /// Reads what is kept, and loads where nothing is kept. It keeps the read, for which there is room.
+    /// Reads what is kept, and loads where nothing is kept. It keeps what it loaded, for which there is room.
     #[inline(always)]
     fn read_there(&mut self, addr: u64, out: &mut [u8])
         requires inside { addr + length out.old ≤ self.old.size }
         requires room { Takes self.old.kept (length out.old) }
         ensures len { length out.new ≡ length out.old }
-        ensures loads { LoadsThere (heard self.old.bus) (heard self.new.bus) addr out.new }
+        ensures loads { ReadsThere (heard self.old.bus) (heard self.new.bus) addr out.new }
         ensures stores { all_stores (heard self.new.bus) ≡ all_stores (heard self.old.bus) }
         ensures size { self.new.size ≡ self.old.size }
         ensures room { (n : ℕ) → HasRoom self.old (n + 1) → HasRoom self.new n }
     {
+        if self.kept.gives(addr, out) {
+            return;
+        }
         self.bus.load(addr, out);
         self.kept.put_over(addr, out);
         self.kept.keep(addr, out);

@@ -1,4 +1,4 @@
-use Rattle.std.proofs.Common.{◌+◌, ◌-◌, arith, sym, cond, length, get_or}
+use Rattle.std.proofs.Common.{◌+◌, ◌-◌, arith, rules, inl, sym, cond, length, get_or}
 use Rattle.live_mem.specs.Access.{spans}
 use Rattle.live_mem.specs.Heard.{heard}
 use Rattle.live_mem.proofs.Keeping.{kept_loaded}
@@ -28,3 +28,6 @@ invariant_of-self-clause-bytes_stored g c = λ m e are. rw c.load.ensures.heard 
 pub returns-clause-room : goal.returns-clause-room
 returns-clause-room g c = λ n h.
     c.keep.ensures.room n (same_room c.args.self.now.kept c.put_over.new.self (n + 1) c.put_over.ensures.spans h)
+
+pub returns-clause-loads : goal.returns-clause-loads
+returns-clause-loads g c = inl (search rules)
