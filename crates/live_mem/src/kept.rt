@@ -168,24 +168,54 @@ impl Kept {
         self.bytes.reserve(len)
     }
 
-    /// Returns true if a read from `addr` up to `end` lies in one of the ranges that no span has.
-    #[tactic(auto, using(crate::proofs::Keeping::narrower))]
+    /// Takes the bytes from `addr` up to `end` out of the ranges that no span has. Returns false, with nothing changed, where
+    /// they lie in none of these.
+    #[tactic(auto, using(crate::proofs::Keeping::narrower, crate::proofs::Spans::before, crate::proofs::Spans::behind))]
     #[inline(always)]
-    fn is_free(&self, addr: u64, end: u64) -> bool
-        ensures { IsTrue result → IsFree self.now.spans.items self.now.bytes.items addr end }
+    pub(crate) fn takes_free(&mut self, addr: u64, end: u64) -> bool
+        requires { addr ≤ end }
+        ensures spans { self.new.spans ≡ self.old.spans }
+        ensures bytes { self.new.bytes ≡ self.old.bytes }
+        ensures free { IsTrue result → IsFree self.old.spans.items self.old.bytes.items addr end }
+        ensures below { IsTrue result → self.new.low ≤ addr }
+        ensures above { IsTrue result → end ≤ self.new.high }
+        ensures apart { IsTrue result → (p n : ℕ) → self.new.free_from ≤ p → p < self.new.free_to → end ≡ addr + n
+            → spans addr n p ≡ false }
     {
-        addr >= self.high || end <= self.low || self.free_from <= addr && end <= self.free_to
+        if addr >= self.high {
+            if addr - self.high >= GAP {
+                self.free_from = self.high;
+                self.free_to = addr;
+            }
+            self.low = self.low.min(addr);
+            self.high = end;
+            return true;
+        }
+        if end <= self.low {
+            self.free_from = end;
+            self.free_to = self.low.min(self.high);
+            self.low = addr;
+            self.high = self.high.max(end);
+            return true;
+        }
+        if self.free_from <= addr && end <= self.free_to {
+            self.free_from = self.free_from.max(end);
+            self.low = self.low.min(addr);
+            return true;
+        }
+        false
     }
 
-    /// Returns true if the latest span has all bytes from `addr` on, as many as `out` holds, and puts them there then.
+    /// Returns true if the latest span has all bytes from `addr` on, as many as `out` holds, and puts them there then. No span
+    /// has any where `free` is true.
     #[inline(always)]
-    pub(crate) fn gives(&self, addr: u64, out: &mut [u8]) -> bool
+    pub(crate) fn gives(&self, free: bool, addr: u64, out: &mut [u8]) -> bool
         requires small { addr + length out.old ≤ 2 ^ 52 }
         ensures len { length out.new ≡ length out.old }
         ensures gives { IsTrue result → (i d : ℕ) → i < length out.old
             → valued self.now.spans.items self.now.bytes.items (addr + i) d ≡ get_or out.new i 0 }
     {
-        !self.is_free(addr, addr + out.len() as u64) && self.gives_again(addr, out)
+        !free && self.gives_again(addr, out)
     }
 
     /// Does the same, apart so that a read of what wasn't read passes it by.
@@ -211,23 +241,33 @@ impl Kept {
         true
     }
 
-    /// Puts what is kept over `out`, which has the bytes from `addr` on.
+    /// Puts what is kept over `out`, which has the bytes from `addr` on, and takes these out of the ranges that no span has. Where
+    /// `free` is true they are, and no span has any of them.
     #[inline(always)]
-    pub(crate) fn put_over(&mut self, addr: u64, out: &mut [u8])
+    pub(crate) fn put_over(&mut self, free: bool, addr: u64, out: &mut [u8])
         requires small { addr + length out.old ≤ 2 ^ 52 }
+        requires free { IsTrue free → IsFree self.old.spans.items self.old.bytes.items addr (addr + length out.old) }
+        requires below { IsTrue free → self.old.low ≤ addr }
+        requires above { IsTrue free → addr + length out.old ≤ self.old.high }
+        requires apart { IsTrue free → (p : ℕ) → self.old.free_from ≤ p → p < self.old.free_to
+            → spans addr (length out.old) p ≡ false }
         ensures len { length out.new ≡ length out.old }
         ensures over { (i : ℕ) → i < length out.old → get_or out.new i 0
             ≡ valued self.old.spans.items self.old.bytes.items (addr + i) (get_or out.old i 0) }
         ensures spans { self.new.spans ≡ self.old.spans }
         ensures bytes { self.new.bytes ≡ self.old.bytes }
+        ensures below { self.new.low ≤ addr }
+        ensures above { addr + length out.new ≤ self.new.high }
+        ensures apart { (p : ℕ) → self.new.free_from ≤ p → p < self.new.free_to → spans addr (length out.new) p ≡ false }
     {
-        let end = addr + out.len() as u64;
-        if !self.is_free(addr, end) {
-            self.look_over(addr, out);
+        if free {
+            return;
         }
+        self.look_over(addr, out);
     }
 
     /// Does the same by a look at each span. Takes note of a range behind the bytes that no span has.
+    #[tactic(auto, using(crate::proofs::Keeping::narrower, crate::proofs::Spans::behind))]
     #[inline(never)]
     fn look_over(&mut self, addr: u64, out: &mut [u8])
         requires small { addr + length out.old ≤ 2 ^ 52 }
@@ -236,12 +276,17 @@ impl Kept {
             ≡ valued self.old.spans.items self.old.bytes.items (addr + i) (get_or out.old i 0) }
         ensures spans { self.new.spans ≡ self.old.spans }
         ensures bytes { self.new.bytes ≡ self.old.bytes }
+        ensures below { self.new.low ≤ addr }
+        ensures above { addr + length out.new ≤ self.new.high }
+        ensures apart { (p : ℕ) → self.new.free_from ≤ p → p < self.new.free_to → spans addr (length out.new) p ≡ false }
     {
         let end = addr + out.len() as u64;
         self.put_spans_over(addr, out);
         let (from, to) = free_behind(&self.spans, end);
         self.free_from = from;
         self.free_to = to.min(self.high);
+        self.low = self.low.min(addr);
+        self.high = self.high.max(end);
     }
 
     /// Puts each span over `out`, which has the bytes from `addr` on.
@@ -256,44 +301,15 @@ impl Kept {
         }
     }
 
-    /// Takes the bytes from `addr` up to `end` out of the ranges that no span has.
-    #[tactic(auto, using(crate::proofs::Keeping::narrower, crate::proofs::Spans::before, crate::proofs::Spans::behind))]
-    #[inline(always)]
-    fn leave_out(&mut self, addr: u64, end: u64)
-        requires { addr ≤ end }
-        ensures spans { self.new.spans ≡ self.old.spans }
-        ensures bytes { self.new.bytes ≡ self.old.bytes }
-        ensures below { self.new.low ≤ addr }
-        ensures above { end ≤ self.new.high }
-        ensures apart { (p n : ℕ) → self.new.free_from ≤ p → p < self.new.free_to → end ≡ addr + n → spans addr n p ≡ false }
-    {
-        if addr >= self.high {
-            if addr - self.high >= GAP {
-                self.free_from = self.high;
-                self.free_to = addr;
-            }
-            self.low = self.low.min(addr);
-            self.high = end;
-        } else if end <= self.low {
-            self.free_from = end;
-            self.free_to = self.low.min(self.high);
-            self.low = addr;
-            self.high = self.high.max(end);
-        } else {
-            if self.free_to > addr {
-                self.free_from = self.free_from.max(end);
-            }
-            self.low = self.low.min(addr);
-            self.high = self.high.max(end);
-        }
-    }
-
     /// Keeps a short run that was read from `addr` on, for which there is room.
     #[inline(always)]
     fn keep_short(&mut self, addr: u64, out: &[u8])
         requires small { addr + length out.now ≤ 2 ^ 52 }
         requires short { length out.now ≤ 16 }
         requires room { Holds self.old 1 }
+        requires below { self.old.low ≤ addr }
+        requires above { addr + length out.now ≤ self.old.high }
+        requires apart { (p : ℕ) → self.old.free_from ≤ p → p < self.old.free_to → spans addr (length out.now) p ≡ false }
         ensures kept { Keeps self.old.spans.items self.old.bytes.items addr out.now self.new.spans.items self.new.bytes.items }
         ensures room { (n : ℕ) → Holds self.old (n + 1) → Holds self.new n }
     {
@@ -303,7 +319,6 @@ impl Kept {
             len: out.len(),
             short: short_of(out),
         };
-        self.leave_out(addr, addr + out.len() as u64);
         self.spans.push_reserved(span);
     }
 
@@ -313,6 +328,9 @@ impl Kept {
         requires small { addr + length out.now ≤ 2 ^ 52 }
         requires long { 16 < length out.now }
         requires room { Takes self.old (length out.now) }
+        requires below { self.old.low ≤ addr }
+        requires above { addr + length out.now ≤ self.old.high }
+        requires apart { (p : ℕ) → self.old.free_from ≤ p → p < self.old.free_to → spans addr (length out.now) p ≡ false }
         ensures kept { Keeps self.old.spans.items self.old.bytes.items addr out.now self.new.spans.items self.new.bytes.items }
         ensures room { (n : ℕ) → Holds self.old (n + 1) → Holds self.new n }
     {
@@ -322,7 +340,6 @@ impl Kept {
             len: out.len(),
             short: short_of(&[]),
         };
-        self.leave_out(addr, addr + out.len() as u64);
         let _ = self.bytes.extend_from_slice(out);
         self.spans.push_reserved(span);
     }
@@ -332,6 +349,9 @@ impl Kept {
     pub(crate) fn keep(&mut self, addr: u64, out: &[u8])
         requires small { addr + length out.now ≤ 2 ^ 52 }
         requires room { Takes self.old (length out.now) }
+        requires below { self.old.low ≤ addr }
+        requires above { addr + length out.now ≤ self.old.high }
+        requires apart { (p : ℕ) → self.old.free_from ≤ p → p < self.old.free_to → spans addr (length out.now) p ≡ false }
         ensures kept { Keeps self.old.spans.items self.old.bytes.items addr out.now self.new.spans.items self.new.bytes.items }
         ensures room { (n : ℕ) → Holds self.old (n + 1) → Holds self.new n }
     {

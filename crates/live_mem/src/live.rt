@@ -64,11 +64,12 @@ impl<B: Bus> LiveMem<B> {
         ensures size { self.new.size ≡ self.old.size }
         ensures room { (n : ℕ) → HasRoom self.old (n + 1) → HasRoom self.new n }
     {
-        if self.kept.gives(addr, out) {
+        let free = self.kept.takes_free(addr, addr + out.len() as u64);
+        if self.kept.gives(free, addr, out) {
             return;
         }
         self.bus.load(addr, out);
-        self.kept.put_over(addr, out);
+        self.kept.put_over(free, addr, out);
         self.kept.keep(addr, out);
     }
 

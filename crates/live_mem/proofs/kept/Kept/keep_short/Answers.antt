@@ -1,4 +1,4 @@
-use Rattle.std.proofs.Common.{◌≡◌, ◌^◌, ◌++◌, ◌∷◌, [], length, arith, refl, sym, rules}
+use Rattle.std.proofs.Common.{◌≡◌, ◌^◌, ◌++◌, ◌∷◌, [], length, arith, rules}
 use Rattle.live_mem.specs.Inner.Kept.{Keeps}
 use Rattle.live_mem.proofs.Spans.{before, behind}
 use Rattle.live_mem.proofs.Keeping.{all_stay, free_stays, keeps_short}
@@ -6,15 +6,15 @@ use Rattle.live_mem.proofs.kept.Kept.keep_short.Goals as goal
 
 pub returns-clause-kept : goal.returns-clause-kept
 returns-clause-kept c =
-    let t = c.leave_out.new.self in
+    let t = c.args.self.now in
     let l : c.push_reserved.new.self.items ≡ t.spans.items ++ record { addr = c.args.addr; start = 0; len = length c.args.out.now; short = c.short_of.result } ∷ [] = search rules in
     let k : Keeps t.spans.items t.bytes.items c.args.addr c.args.out.now c.push_reserved.new.self.items t.bytes.items = rw l (keeps_short t.spans.items t.bytes.items c.args.addr c.args.out.now c.short_of.result c.requires.short c.short_of.ensures.len c.short_of.ensures.bytes) in
-    rw (sym c.leave_out.ensures.spans, sym c.leave_out.ensures.bytes) k
+    k
 
 pub invariant_of-self : goal.invariant_of-self
 invariant_of-self c =
-    let t = c.leave_out.new.self in
-    let e = c.leave_out.ensures in
+    let t = c.args.self.now in
+    let e = c.requires in
     let ss = c.push_reserved.new.self.items in
     let kept = t.bytes.items in
     let addr = c.args.addr in
@@ -26,7 +26,7 @@ invariant_of-self c =
       all = all_stay t.spans.items ss t.bytes.items kept addr out t.all k;
       below = free_stays t.spans.items ss t.bytes.items kept addr out t.all k 0 t.low 0 t.low t.below (omega arith) (omega arith) (λ p l h. before addr n p (omega (arith, h, e.below)));
       above = free_stays t.spans.items ss t.bytes.items kept addr out t.all k t.high (2 ^ 64) t.high (2 ^ 64) t.above (omega arith) (omega arith) (λ p l h. behind addr n p (omega (arith, l, e.above)));
-      free = free_stays t.spans.items ss t.bytes.items kept addr out t.all k t.free_from t.free_to t.free_from t.free_to t.free (omega arith) (omega arith) (λ p l h. e.apart p n l h refl);
+      free = free_stays t.spans.items ss t.bytes.items kept addr out t.all k t.free_from t.free_to t.free_from t.free_to t.free (omega arith) (omega arith) (λ p l h. e.apart p l h);
       inside = t.inside;
       roomy = omega (arith, t.roomy, c.push_reserved.ensures.capacity);
     }
