@@ -3,12 +3,14 @@
 
 ghost use Rattle.std.specs.Prelude.{◌≡◌, ◌≤◌, ◌<◌, ◌+◌, ℕ, Bool, List, [], IsTrue, Ok, None, true, false, length};
 ghost use Rattle.device_model.specs.Order.{of_seat};
+ghost use Rattle.device_model.specs.Events.{Event as AnEvent};
+ghost use Rattle.device_model.specs.Applies.{Applies};
 ghost use Rattle.device_model.specs.Parts.{Hand};
 ghost use Rattle.device_model.specs.Found.{HasHand};
 ghost use Rattle.device_steps.specs.Inner.Cursors.{TurnsFirstIn, TurnsFirstAlone, of_function, TurnsNextIn, FetchesOn, MayServe, IsReadyIn};
 ghost use Rattle.device_steps.specs.Inner.Cursors.{AtEach, FindsIn, NoStart, NoDirect, NoSeat, NoneBefore, NoneBeforeFetch, NoFetchBelow};
 ghost use Rattle.device_steps.specs.Inner.Cursors.{EntersNext, FetchesNext, LeavesNext};
-ghost use Rattle.device_steps.specs.Settling.{asks, asks_all};
+ghost use Rattle.device_steps.specs.Settling.{asks};
 ghost use Rattle.device_steps.specs.Apart.{standing, FitsIn, Stored};
 ghost use Rattle.device_steps.specs.Inner.Sound.{IsSound};
 
@@ -96,8 +98,9 @@ impl Device {
     }
 
     /// Takes the first event of the order that applies, from a place on. A host calls it in a phase that wrote nothing yet,
-    /// with room for 60 short reads, and a place before which nothing applies. Returns from where on to look then; `None` where none applies. `NoMemory`
-    /// where the first that applies was refused memory. What was stored are the writes of what was done.
+    /// with room for 60 short reads, and a place before which nothing applies. Returns from where on to look then; `None`
+    /// where none applies. `NoMemory` where the first that applies was refused memory. What was stored are the writes of what
+    /// was done.
     #[inline(always)]
     pub fn turn<M: WritableMemory>(
         &mut self,
@@ -279,7 +282,7 @@ impl Device {
         ensures reading { M.is_open memory.new }
         ensures size { M.extent memory.new ≡ M.extent memory.old }
     {
-        let first = self.first_fetch(memory);
+        let first = self.first_fetch(memory, queues);
         let _looked = memory.size();
         for number in first..self.bays.len() {
             match self.serve_queue(memory, number as u16, queues, most) {
@@ -293,21 +296,40 @@ impl Device {
         Ok(None)
     }
 
-    /// Returns the first queue that may have a chain, as far as the control queue and the event queue tell.
+    /// Returns true if a queue isn't asked, or has nothing to take.
     #[inline(always)]
-    fn first_fetch<M: WritableMemory>(&self, memory: &mut M) -> usize
+    fn is_silent_in<M: WritableMemory>(&self, memory: &mut M, number: u16, queues: u32) -> bool
+        requires reading { M.is_open memory.old }
+        requires room { M.has_room memory.old 1 }
+        requires fits { FitsIn (M.extent memory.old) self.now }
+        requires number { number < 32 }
+        ensures room { (n : ℕ) → M.has_room memory.old (n + 1) → M.has_room memory.new n }
+        ensures silent { (m : List ℕ) → M.may_be memory.new m → IsTrue result → asks queues number ≡ true
+            → Applies (standing M.shared m self.now) (AnEvent.Fetch number) → ⊥ }
+        ensures stays { (m : List ℕ) → M.may_be memory.new m → M.may_be memory.old m }
+        ensures stores { M.stored memory.new ≡ M.stored memory.old }
+        ensures reading { M.is_open memory.new }
+        ensures size { M.extent memory.new ≡ M.extent memory.old }
+    {
+        !is_asked(queues, number) || self.is_idle_in(memory, number)
+    }
+
+    /// Returns the first queue that may have a chain, as far as the control queue and the event queue tell, of those that
+    /// are asked.
+    #[inline(always)]
+    fn first_fetch<M: WritableMemory>(&self, memory: &mut M, queues: u32) -> usize
         requires reading { M.is_open memory.old }
         requires room { M.has_room memory.old 2 }
         requires fits { FitsIn (M.extent memory.old) self.now }
         ensures room { (n : ℕ) → M.has_room memory.old (n + 2) → M.has_room memory.new n }
-        ensures below { FindsIn M.shared (M.may_be memory.old) (M.may_be memory.new) (NoFetchBelow asks_all result) self.now }
+        ensures below { FindsIn M.shared (M.may_be memory.old) (M.may_be memory.new) (NoFetchBelow (asks queues) result) self.now }
         ensures stores { M.stored memory.new ≡ M.stored memory.old }
         ensures reading { M.is_open memory.new }
         ensures size { M.extent memory.new ≡ M.extent memory.old }
     {
         if self.bays.len() >= 2
-            && self.is_idle_in(memory, CONTROL_QUEUE)
-            && self.is_idle_in(memory, EVENT_QUEUE)
+            && self.is_silent_in(memory, CONTROL_QUEUE, queues)
+            && self.is_silent_in(memory, EVENT_QUEUE, queues)
         {
             FIRST_REQUEST_QUEUE as usize
         } else {
@@ -349,8 +371,7 @@ impl Device {
     }
 
     /// Takes the next chain of a queue that is asked, and does at once what may be done of it.
-    // Apart, so that a look at a silent queue costs no call.
-    #[inline(never)]
+    #[inline(always)]
     fn serve_next<M: WritableMemory>(
         &mut self,
         memory: &mut M,
@@ -384,6 +405,7 @@ impl Device {
     }
 
     /// Returns true if a request of a queue is served by the first seat and nothing stands between.
+    #[inline(always)]
     fn serves_at_once(&self, number: u16) -> bool
         requires working { 1 ≤ self.now.workers }
         ensures { (shared : Bool) (m : List ℕ) → IsTrue result → MayServe number (standing shared m self.now) }

@@ -25,7 +25,7 @@ loop-number-init g c =
       room = g.met.M.Memory.fewer look.new.memory 58 (58 - 3 * look.result) (omega arith) (look.ensures.room 58 (g.met.M.Memory.fewer c.args.memory.now 60 (58 + 2) (omega arith) c.requires.room));
       reading = look.ensures.reading;
       size = look.ensures.size;
-      below = λ m may. λ i lt asked. (look.ensures.below m may).1 i lt refl;
+      below = λ m may. (look.ensures.below m may).1;
       all = end ∙ ap (λ (z : PlainDevice). length z.queues) c.self.view_is;
     }
 
