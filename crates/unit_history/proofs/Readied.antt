@@ -8,17 +8,17 @@ use Rattle.block_store.specs.Blocks.{Blocks}
 use Rattle.block_commands.specs.declared.facts.UnitFacts.{UnitFacts}
 use Rattle.block_commands.specs.Inner.Told.{facts_of}
 use Rattle.unit_attention.specs.declared.code.Code.{Code}
-use Rattle.unit_history.specs.Inner.Performing.{Performs, PlainPerformed, told}
+use Rattle.unit_history.specs.Inner.Performing.{Performs, PlainPerformed}
 
 -- it ran as on the disk as it was
 pub readied : (keeps : Bool) (was now : UnitFacts) (pending pending' : List Code) (m n : ℕ) (command : Command) (bytes : List ℕ) (p : Option PlainPerformed)
-    (old ready new : Blocks) → now ≡ told was pending → n ≡ m → ready ≡ old →
-    Performs keeps (facts_of (told now pending) n) command bytes p ready new pending pending' →
-    Performs keeps (facts_of (told was pending) m) command bytes p old new pending pending'
+    (old ready new : Blocks) → now ≡ was → n ≡ m → ready ≡ old →
+    Performs keeps (facts_of now n) command bytes p ready new pending pending' →
+    Performs keeps (facts_of was m) command bytes p old new pending pending'
 readied keeps was now pending pending' m n command bytes p old ready new facts size blocks ran =
-    subst (λ (b : Blocks). Performs keeps (facts_of (told was pending) m) command bytes p b new pending pending') blocks
-    (subst (λ (k : ℕ). Performs keeps (facts_of (told was pending) k) command bytes p ready new pending pending') size
-    (subst (λ (f : UnitFacts). Performs keeps (facts_of (told f pending) n) command bytes p ready new pending pending') facts ran))
+    subst (λ (b : Blocks). Performs keeps (facts_of was m) command bytes p b new pending pending') blocks
+    (subst (λ (k : ℕ). Performs keeps (facts_of was k) command bytes p ready new pending pending') size
+    (subst (λ (f : UnitFacts). Performs keeps (facts_of f n) command bytes p ready new pending pending') facts ran))
 
 -- a disk that isn't backed has each block in memory
 pub holds_all : (d : Disk) → is_whole d ≡ true → (b : ℕ) → IsTrue (holds d b)

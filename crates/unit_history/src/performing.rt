@@ -198,7 +198,7 @@ pub fn run(
 fn run_prepared(
     alloc: Global,
     room: &mut Vec<u8>,
-    facts: &mut UnitFacts,
+    facts: &UnitFacts,
     attentions: &mut Attentions,
     store: &mut Disk,
     command: &Command,
@@ -208,18 +208,16 @@ fn run_prepared(
 ) -> Result<Reply, NoMemory>
     requires data { length bytes.now ≡ (need_of command.now).out }
     requires own { IfSome prepared (λ pages. IsOf command.now bytes.now (prepared_draft pages)) }
-    requires ready { met command.now (told facts.old attentions.old).pending ≡ None →
+    requires ready { met command.now facts.now.pending ≡ None →
         IsReady (⟦<Disk as Store>⟧.is_held store.old) (⟦<Disk as Store>⟧.has_room store.old) (⟦<Disk as Store>⟧.size store.old)
         command.now bytes.now }
-    ensures performed { Performs false (facts_of (told facts.old attentions.old) (⟦<Disk as Store>⟧.size store.old))
+    ensures performed { Performs false (facts_of facts.now (⟦<Disk as Store>⟧.size store.old))
         command.now bytes.now (unkept (plain_run result))
         (⟦<Disk as Store>⟧.block_at store.old) (⟦<Disk as Store>⟧.block_at store.new) attentions.old attentions.new }
-    ensures facts { facts.new ≡ told facts.old attentions.old }
     ensures size { ⟦<Disk as Store>⟧.size store.new ≡ ⟦<Disk as Store>⟧.size store.old }
     ensures kind { ⟦<Disk as Store>⟧.is_whole store.new ≡ ⟦<Disk as Store>⟧.is_whole store.old }
     ensures fits { IfOk result (λ r. length r.payload.items ≤ (need_of command.now).into) }
 {
-    tell_oldest(facts, attentions);
     let (reply, back) = exec_prepared(alloc, room, store, command, bytes, facts, prepared)?;
     *spare = back;
     clear_oldest(attentions, command);
@@ -233,7 +231,7 @@ fn run_prepared(
 pub fn perform(
     alloc: Global,
     room: &mut Vec<u8>,
-    facts: &mut UnitFacts,
+    facts: &UnitFacts,
     attentions: &mut Attentions,
     store: &mut Disk,
     command: &Command,
@@ -244,13 +242,12 @@ pub fn perform(
 ) -> Option<Performed>
     requires data { length bytes.now ≡ (need_of command.now).out }
     requires own { IfSome prepared (λ pages. IsOf command.now bytes.now (prepared_draft pages)) }
-    requires ready { met command.now (told facts.old attentions.old).pending ≡ None →
+    requires ready { met command.now facts.now.pending ≡ None →
         IsReady (⟦<Disk as Store>⟧.is_held store.old) (⟦<Disk as Store>⟧.has_room store.old) (⟦<Disk as Store>⟧.size store.old)
         command.now bytes.now }
-    ensures performed { Performs keeps_replies (facts_of (told facts.old attentions.old) (⟦<Disk as Store>⟧.size store.old))
+    ensures performed { Performs keeps_replies (facts_of facts.now (⟦<Disk as Store>⟧.size store.old))
         command.now bytes.now (option_map performed_of result)
         (⟦<Disk as Store>⟧.block_at store.old) (⟦<Disk as Store>⟧.block_at store.new) attentions.old attentions.new }
-    ensures facts { facts.new ≡ told facts.old attentions.old }
     ensures size { ⟦<Disk as Store>⟧.size store.new ≡ ⟦<Disk as Store>⟧.size store.old }
     ensures kind { ⟦<Disk as Store>⟧.is_whole store.new ≡ ⟦<Disk as Store>⟧.is_whole store.old }
     ensures fits { IfSome result (λ p. length p.reply.payload.items ≤ (need_of command.now).into) }
@@ -262,7 +259,6 @@ pub fn perform(
         .ok()?;
         return Some(Performed { reply, kept: None });
     }
-    tell_oldest(facts, attentions);
     let (reply, back) = exec_prepared(alloc, room, store, command, bytes, facts, prepared).ok()?;
     *spare = back;
     // A reply with data is that of a command that changes no block.

@@ -94,6 +94,52 @@ fn step_of_run(ticket: Ticket, ran: Result<RecordedReply, NoMemory>) -> Recorded
     }
 }
 
+/// Returns true if the command of a request may run on its disk as it stands, or as [`is_ready`] left it: at once where
+/// the disk isn't backed.
+#[inline(always)]
+fn may_run(
+    facts: &mut UnitFacts,
+    attentions: &Attentions,
+    store: &mut Disk,
+    arrival: &Arrival,
+) -> bool
+    ensures facts { facts.new ≡ record facts.old { pending = facts.new.pending } }
+    ensures ready { IsTrue result → met arrival.now.entry.command (told facts.old attentions.now).pending ≡ None →
+        IsReady (⟦<Disk as Store>⟧.is_held store.new) (⟦<Disk as Store>⟧.has_room store.new) (⟦<Disk as Store>⟧.size store.new)
+        arrival.now.entry.command arrival.now.entry.data_out }
+    ensures whole { IsTrue (⟦<Disk as Store>⟧.is_whole store.old) → IsTrue result }
+    ensures kind { ⟦<Disk as Store>⟧.is_whole store.new ≡ ⟦<Disk as Store>⟧.is_whole store.old }
+    ensures blocks { ⟦<Disk as Store>⟧.block_at store.new ≡ ⟦<Disk as Store>⟧.block_at store.old }
+    ensures size { ⟦<Disk as Store>⟧.size store.new ≡ ⟦<Disk as Store>⟧.size store.old }
+{
+    if store.is_resident() {
+        return true;
+    }
+    is_arrival_ready(facts, attentions, store, arrival)
+}
+
+/// Makes a disk ready for the command of a request as [`is_ready`] does. Not inlined: a request on a disk that isn't
+/// backed would pay for its locals.
+#[inline(never)]
+fn is_arrival_ready(
+    facts: &mut UnitFacts,
+    attentions: &Attentions,
+    store: &mut Disk,
+    arrival: &Arrival,
+) -> bool
+    ensures facts { facts.new ≡ told facts.old attentions.now }
+    ensures ready { IsTrue result → met arrival.now.entry.command (told facts.old attentions.now).pending ≡ None →
+        IsReady (⟦<Disk as Store>⟧.is_held store.new) (⟦<Disk as Store>⟧.has_room store.new) (⟦<Disk as Store>⟧.size store.new)
+        arrival.now.entry.command arrival.now.entry.data_out }
+    ensures whole { IsTrue (⟦<Disk as Store>⟧.is_whole store.old) → IsTrue result }
+    ensures kind { ⟦<Disk as Store>⟧.is_whole store.new ≡ ⟦<Disk as Store>⟧.is_whole store.old }
+    ensures blocks { ⟦<Disk as Store>⟧.block_at store.new ≡ ⟦<Disk as Store>⟧.block_at store.old }
+    ensures size { ⟦<Disk as Store>⟧.size store.new ≡ ⟦<Disk as Store>⟧.size store.old }
+{
+    let command = arrival.command();
+    is_ready(facts, attentions, store, &command, arrival.data())
+}
+
 impl UnitState {
     /// Serves a request to its end: its task enters, its command runs, its answer is written, and its task leaves.
     /// Returns true then, and the caller uses the chain. It does so only where no task is alive, the request names the
@@ -119,15 +165,7 @@ impl UnitState {
         if self.last_tickets.is_stale(ticket) {
             return false;
         }
-        let command = arrival.command();
-        let bytes = arrival.data();
-        if !is_ready(
-            &mut self.facts,
-            &self.attentions,
-            &mut self.store,
-            &command,
-            bytes,
-        ) {
+        if !may_run(&mut self.facts, &self.attentions, &mut self.store, arrival) {
             return false;
         }
         let Ok(()) = self.last_tickets.reserve(ticket.queue) else {
@@ -137,6 +175,8 @@ impl UnitState {
             return false;
         };
         self.last_tickets.came(ticket);
+        let command = arrival.command();
+        let bytes = arrival.data();
         self.changes
             .note_command(&command, bytes, self.store.capacity(), self.log.len() + 1);
         let ran = run_and_answer(

@@ -1,13 +1,13 @@
 use Rattle.std.proofs.Common.{◌≡◌, ap, sym, subst, ◌∙◌, refl}
 use Rattle.std.specs.Option.{option_map}
 use Rattle.backed_store.specs.Disks as disks
-use Rattle.unit_history.specs.Inner.Performing.{performed_of}
+use Rattle.unit_history.specs.Inner.Performing.{performed_of, told}
 use Rattle.unit_history.proofs.Readied.{readied}
 use Rattle.unit_history.proofs.performing.perform_if_ready.Goals as goal
 
 pub returns-in-Ready-clause-performed : goal.returns-in-Ready-clause-performed
 returns-in-Ready-clause-performed c =
-    readied c.args.keeps_replies c.args.facts.now c.ready_for.new.facts c.args.attentions.now c.perform.new.attentions
+    readied c.args.keeps_replies (told c.args.facts.now c.args.attentions.now) c.ready_for.new.facts c.args.attentions.now c.perform.new.attentions
     (disks.size_of c.args.store.now) (disks.size_of c.ready_for.new.store) c.args.command.now c.args.bytes.now
     (option_map performed_of c.perform.result)
     (disks.blocks_of c.args.store.now) (disks.blocks_of c.ready_for.new.store) (disks.blocks_of c.perform.new.store)

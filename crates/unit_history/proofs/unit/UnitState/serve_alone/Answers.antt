@@ -17,15 +17,15 @@ use Rattle.unit_history.proofs.unit.UnitState.serve_alone.Goals as goal
 pub invariant_of-self-2 : goal.invariant_of-self-2
 invariant_of-self-2 g c =
     let u = c.self.inside in
-    let size : disks.size_of c.is_ready.new.store ≡ disks.size_of c.self.inside.store = c.is_ready.ensures.size in
-    let blocks : disks.blocks_of c.is_ready.new.store ≡ disks.blocks_of c.self.inside.store = c.is_ready.ensures.blocks in
+    let size : disks.size_of c.may_run.new.store ≡ disks.size_of c.self.inside.store = c.may_run.ensures.size in
+    let blocks : disks.blocks_of c.may_run.new.store ≡ disks.blocks_of c.self.inside.store = c.may_run.ensures.blocks in
     let facts : c.run_and_answer-ran.new.facts ≡ told c.self.inside.facts c.self.inside.attentions =
-    c.run_and_answer-ran.ensures.facts ∙ ap (λ f. told f c.self.inside.attentions) c.is_ready.ensures.facts in
-    let performed = readied false c.self.inside.facts c.is_ready.new.facts c.self.inside.attentions c.run_and_answer-ran.new.attentions
-    (disks.size_of c.self.inside.store) (disks.size_of c.is_ready.new.store) c.args.arrival.now.entry.command c.args.arrival.now.entry.data_out
+    c.run_and_answer-ran.ensures.facts ∙ ap (λ f. told f c.self.inside.attentions) c.may_run.ensures.facts in
+    let performed = readied false (told c.self.inside.facts c.self.inside.attentions) (told c.may_run.new.facts c.self.inside.attentions) c.self.inside.attentions c.run_and_answer-ran.new.attentions
+    (disks.size_of c.self.inside.store) (disks.size_of c.may_run.new.store) c.args.arrival.now.entry.command c.args.arrival.now.entry.data_out
     (unkept c.run_and_answer-ran.result)
-    (disks.blocks_of c.self.inside.store) (disks.blocks_of c.is_ready.new.store) (disks.blocks_of c.run_and_answer-ran.new.store)
-    c.is_ready.ensures.facts size blocks c.run_and_answer-ran.ensures.performed in
+    (disks.blocks_of c.self.inside.store) (disks.blocks_of c.may_run.new.store) (disks.blocks_of c.run_and_answer-ran.new.store)
+    (ap (λ f. told f c.self.inside.attentions) c.may_run.ensures.facts) size blocks c.run_and_answer-ran.ensures.performed in
     let t = c.ticket-ticket.result in
     let own : t ≡ c.args.arrival.now.entry.ticket = c.ticket-ticket.ensures.entry in
     let le = subst (λ (n : Ticket). next_number n.queue c.self.inside.log.steps ≤ n.number) own
@@ -66,21 +66,21 @@ invariant_of-self-2 g c =
           _ _ _ _ c.self.invariant.noted refl
           (rw (c.command-command.ensures, c.data-bytes.ensures.data, c.len-2.ensures, c.in-Ok-make_way.ensures.steps) at c.note_command.ensures)
           (c.capacity.ensures ∙ size ∙ c.self.invariant.sized));
-      whole = c.run_and_answer-ran.ensures.kind ∙ c.is_ready.ensures.kind ∙ c.self.invariant.whole;
+      whole = c.run_and_answer-ran.ensures.kind ∙ c.may_run.ensures.kind ∙ c.self.invariant.whole;
     }
 
 pub returns-clause-serves : goal.returns-clause-serves
 returns-clause-serves g c =
     let u = c.self.inside in
-    let size : disks.size_of c.is_ready.new.store ≡ disks.size_of c.self.inside.store = c.is_ready.ensures.size in
-    let blocks : disks.blocks_of c.is_ready.new.store ≡ disks.blocks_of c.self.inside.store = c.is_ready.ensures.blocks in
+    let size : disks.size_of c.may_run.new.store ≡ disks.size_of c.self.inside.store = c.may_run.ensures.size in
+    let blocks : disks.blocks_of c.may_run.new.store ≡ disks.blocks_of c.self.inside.store = c.may_run.ensures.blocks in
     let facts : c.run_and_answer-ran.new.facts ≡ told c.self.inside.facts c.self.inside.attentions =
-    c.run_and_answer-ran.ensures.facts ∙ ap (λ f. told f c.self.inside.attentions) c.is_ready.ensures.facts in
-    let performed = readied false c.self.inside.facts c.is_ready.new.facts c.self.inside.attentions c.run_and_answer-ran.new.attentions
-    (disks.size_of c.self.inside.store) (disks.size_of c.is_ready.new.store) c.args.arrival.now.entry.command c.args.arrival.now.entry.data_out
+    c.run_and_answer-ran.ensures.facts ∙ ap (λ f. told f c.self.inside.attentions) c.may_run.ensures.facts in
+    let performed = readied false (told c.self.inside.facts c.self.inside.attentions) (told c.may_run.new.facts c.self.inside.attentions) c.self.inside.attentions c.run_and_answer-ran.new.attentions
+    (disks.size_of c.self.inside.store) (disks.size_of c.may_run.new.store) c.args.arrival.now.entry.command c.args.arrival.now.entry.data_out
     (unkept c.run_and_answer-ran.result)
-    (disks.blocks_of c.self.inside.store) (disks.blocks_of c.is_ready.new.store) (disks.blocks_of c.run_and_answer-ran.new.store)
-    c.is_ready.ensures.facts size blocks c.run_and_answer-ran.ensures.performed in
+    (disks.blocks_of c.self.inside.store) (disks.blocks_of c.may_run.new.store) (disks.blocks_of c.run_and_answer-ran.new.store)
+    (ap (λ f. told f c.self.inside.attentions) c.may_run.ensures.facts) size blocks c.run_and_answer-ran.ensures.performed in
     let t = c.ticket-ticket.result in
     let own : t ≡ c.args.arrival.now.entry.ticket = c.ticket-ticket.ensures.entry in
     let le = subst (λ (n : Ticket). next_number n.queue c.self.inside.log.steps ≤ n.number) own
@@ -111,9 +111,9 @@ pub invariant_of-self-in_default : goal.invariant_of-self-in_default
 invariant_of-self-in_default g c =
     let u = c.self.inside in
     let k = c.self.invariant.kept in
-    let size : disks.size_of c.is_ready.new.store ≡ disks.size_of u.store = c.is_ready.ensures.size in
-    let blocks : disks.blocks_of c.is_ready.new.store ≡ disks.blocks_of u.store = c.is_ready.ensures.blocks in
-    let facts : c.is_ready.new.facts ≡ told u.facts u.attentions = c.is_ready.ensures.facts in
+    let size : disks.size_of c.may_run.new.store ≡ disks.size_of u.store = c.may_run.ensures.size in
+    let blocks : disks.blocks_of c.may_run.new.store ≡ disks.blocks_of u.store = c.may_run.ensures.blocks in
+    let facts = c.may_run.ensures.facts in
     record {
       kept =
           rw facts
@@ -129,16 +129,16 @@ invariant_of-self-in_default g c =
       based = c.self.invariant.based;
       sized = rw facts (size ∙ c.self.invariant.sized);
       noted = rw facts c.self.invariant.noted;
-      whole = c.is_ready.ensures.kind ∙ c.self.invariant.whole;
+      whole = c.may_run.ensures.kind ∙ c.self.invariant.whole;
     }
 
 pub invariant_of-self-in_default-make_way : goal.invariant_of-self-in_default-make_way
 invariant_of-self-in_default-make_way g c =
     let u = c.self.inside in
     let k = c.self.invariant.kept in
-    let size : disks.size_of c.is_ready.new.store ≡ disks.size_of u.store = c.is_ready.ensures.size in
-    let blocks : disks.blocks_of c.is_ready.new.store ≡ disks.blocks_of u.store = c.is_ready.ensures.blocks in
-    let facts : c.is_ready.new.facts ≡ told u.facts u.attentions = c.is_ready.ensures.facts in
+    let size : disks.size_of c.may_run.new.store ≡ disks.size_of u.store = c.may_run.ensures.size in
+    let blocks : disks.blocks_of c.may_run.new.store ≡ disks.blocks_of u.store = c.may_run.ensures.blocks in
+    let facts = c.may_run.ensures.facts in
     let steps = c.make_way.ensures.steps in
     let more = c.in_default-make_way.ensures.kept in
     let enough = k.reserved in
@@ -157,5 +157,5 @@ invariant_of-self-in_default-make_way g c =
       based = rw steps (record { based = more.0 ∙ c.self.invariant.based.based; clear = c.make_way.ensures.clear c.self.invariant.based.clear });
       sized = rw (facts, steps) (size ∙ c.self.invariant.sized);
       noted = rw (facts, steps) c.self.invariant.noted;
-      whole = c.is_ready.ensures.kind ∙ c.self.invariant.whole;
+      whole = c.may_run.ensures.kind ∙ c.self.invariant.whole;
     }
