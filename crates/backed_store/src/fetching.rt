@@ -100,6 +100,31 @@ impl Cache {
         }
     }
 
+    /// Notes that the host can't read a page, which isn't wanted any longer. A page that is neither in memory nor about to
+    /// be changed gives its slot back.
+    pub(crate) fn fail(&mut self, page: u64)
+        ensures kept { IsKept self.old self.new }
+        ensures over { is_coming (mark_at self.new page) ≡ (state_at self.old page).held }
+        ensures reading { is_reading (mark_at self.new page) ≡ false }
+        ensures others { (p : ℕ) → p ≢ page → mark_at self.new p ≡ mark_at self.old p }
+        ensures room { (p : ℕ) → IsTrue (has_room (mark_at self.old p)) → IsTrue (has_room (mark_at self.new p)) }
+        ensures budget { self.new.budget ≡ self.old.budget }
+    {
+        let Some(mark) = self.slots.mark(page) else {
+            return;
+        };
+        let now = Mark {
+            wanted: false,
+            reading: false,
+            ..mark
+        };
+        if now.is_nothing() && !now.listed {
+            self.slots.remove(page);
+            return;
+        }
+        self.slots.set(page, now);
+    }
+
     /// Puts the bytes of a page that the host read in their place. `NoMemory` where memory was refused.
     pub(crate) fn load(&mut self, page: u64, bytes: &[u8]) -> Result<(), NoMemory>
         requires some { IsTrue (is_some (mark_at self.old page)) }

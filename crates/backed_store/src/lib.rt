@@ -4,7 +4,8 @@
 //!
 //! Each block is what the store holds of it, else what the host last said that it kept, whatever comes and goes. A page
 //! that isn't kept as it stands is never evicted. One that changed while it was written isn't clean. A load changes
-//! nothing that is held. At most as many pages are held as the budget allows. No unit of the device stands on it yet.
+//! nothing that is held. A page that the host can't read isn't on its way until it is asked for again. At most as many
+//! pages are held as the budget allows. No unit of the device stands on it yet.
 #![tactic(auto)]
 
 mod backed;

@@ -1,9 +1,9 @@
 //! Pages that come and go.
 
-ghost use Rattle.std.specs.Prelude.{◌≡◌, ◌≢◌, ℕ, ◌*◌, ◌/◌, ◌&&◌, true, false, length, IsTrue, IfOk, OnOk, OnErr, IfSome, IfNone, if◌then◌else◌};
+ghost use Rattle.std.specs.Prelude.{◌≡◌, ◌≢◌, ℕ, ◌*◌, ◌/◌, ◌&&◌, not, true, false, length, IsTrue, IfOk, OnOk, OnErr, IfSome, IfNone, if◌then◌else◌};
 ghost use Rattle.backed_store.specs.Backing.{with_page};
 ghost use Rattle.backed_store.specs.Spared.{is_spared};
-ghost use Rattle.backed_store.specs.Stores.{contents, holds, is_wanted, is_reading, is_writing, is_dirty, host_of, backing_of, IsPageOf, IsSame, IsHost};
+ghost use Rattle.backed_store.specs.Stores.{contents, holds, is_coming, has_room, is_wanted, is_reading, is_writing, is_dirty, host_of, backing_of, IsPageOf, IsSame, IsHost};
 
 use crate::backed::BackedStore;
 use crate::dealing::{Dealing, GivenPage};
@@ -49,6 +49,28 @@ impl BackedStore {
         }
         self.cache.load(page, bytes)?;
         Ok(true)
+    }
+
+    /// Notes that the host can't read a page that it was asked for. Until a command asks for the page again, it isn't on its
+    /// way. Returns true if a command may wait for it: the host was asked for it, and it isn't in memory. Then the caller
+    /// fails each command that waits for the page. Nothing else changes.
+    pub fn load_failed(&mut self, page: u64) -> bool
+        ensures same { IsSame self.old self.new }
+        ensures host { IsHost self.old self.new }
+        ensures held { (b : ℕ) → holds self.new b ≡ holds self.old b }
+        ensures failed { result ≡ (is_reading self.old page && not (holds self.old (8 * page))) }
+        ensures over { is_reading self.new page ≡ false }
+        ensures absent { IsTrue result → is_coming self.new (8 * page) ≡ false }
+        ensures others { (b : ℕ) → b / 8 ≢ page → is_coming self.new b ≡ is_coming self.old b }
+        ensures room { (b : ℕ) → IsTrue (has_room self.old b) → IsTrue (has_room self.new b) }
+    {
+        match self.cache.slots.mark(page) {
+            Some(mark) if mark.reading => {
+                self.cache.fail(page);
+                !mark.held
+            }
+            _ => false,
+        }
     }
 
     /// Gives the host the next page that it is to write; `None` where it has each dirty page already. The host says by
