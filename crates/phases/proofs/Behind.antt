@@ -10,7 +10,7 @@ use Rattle.device_model.specs.Phases.{AsksQueue}
 use Rattle.device_model.proofs.Seeing.{seen_as_left}
 use Rattle.virtqueue.specs.Completing.{SeenAs, SeenBehind}
 use Rattle.phases.specs.DoingQueue.{DoesQueue}
-use Rattle.phases.specs.InMemory.{EachSeen}
+use Rattle.phases.specs.InMemory.{EachSeen, ByOneReading}
 use Rattle.phases.specs.Inner.InMemory.{DoesQueueIn}
 
 -- memory that was left so is seen so
@@ -36,6 +36,18 @@ behind_both shared before middle after first then wrote behind =
 pub each_read : (shared : Bool) (before after : List ℕ → Type 0) (Does : List ℕ → List ℕ → List ℕ → Type 0)
     → ((m : List ℕ) → after m → before m) → ((m : List ℕ) → after m → Does m m m) → EachSeen shared before after Does
 each_read shared before after Does stays does = λ seen may. (seen, stays seen may, (seen, seen_as_left shared seen, does seen may))
+
+-- and so by one reading
+pub read_once : {X : Type 0} (shared : Bool) (may_be : X → List ℕ → Type 0) (x y : X) (Does : List ℕ → List ℕ → List ℕ → Type 0)
+    → ((m : List ℕ) → may_be y m → may_be x m) → ((m : List ℕ) → may_be y m → Does m m m)
+    → ByOneReading shared may_be x y Does
+read_once shared may_be x y Does stays does =
+    record {
+      read = y;
+      stays = stays;
+      each_seen = each_read shared (may_be y) (may_be y) Does (λ m may. may) does;
+      each_found = λ m may. (m, m, seen_as_left shared m, does m may);
+    }
 
 -- what follows for each
 pub each_maps : (shared : Bool) (before after : List ℕ → Type 0) (P Q : List ℕ → List ℕ → List ℕ → Type 0)

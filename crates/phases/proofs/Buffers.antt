@@ -1,5 +1,8 @@
 -- What a fetch from the event queue does, as transitions.
-use Rattle.std.proofs.Common.{◌≡◌, ℕ, List, Bool, true, false, ◌||◌, refl, ap, sym, ◌∙◌, subst}
+use Rattle.std.proofs.Common.{◌≡◌, ℕ, List, [], ◌∷◌, ◌++◌, length, Bool, true, false, ◌||◌, refl, ap, sym, ◌∙◌, subst, arith}
+use Rattle.std.specs.Prelude.{take, drop, min}
+use Rattle.std.proofs.lemmas.List.{length-append, length-take, length-drop}
+use Rattle.guest_mem.specs.Memory.{with_bytes}
 use Rattle.ring_core.specs.State.{RingState, PlainChain}
 use Rattle.ring_core.specs.Fetch.{Takes}
 use Rattle.ring_core.specs.Writes.{Write, all_written}
@@ -9,6 +12,7 @@ use Rattle.device_model.specs.Parts.{PlainFetch, IsSeen, Slot, answer_writes, is
 use Rattle.device_model.specs.Transitions.{Transition, completion_of}
 use Rattle.device_model.specs.Changing.{with_chain}
 use Rattle.device_model.specs.Event.Fetch.{spent_bytes}
+use Rattle.device_model.proofs.Seeing.{seen_as_left}
 use Rattle.virtqueue.specs.Queue.{BareQueue, completing}
 use Rattle.phases.specs.Queue.{with_slot}
 use Rattle.virtqueue.specs.Looking.{Breaks}
@@ -87,3 +91,51 @@ broken_at_port shared old new m s p b =
       sees = refl;
       port = refl;
     }
+
+-- The taking of a buffer by each memory that may have been found
+
+-- as many bytes are as many once the same was written
+with_alike : (m n : List ℕ) (at : ℕ) (bs : List ℕ) → length m ≡ length n → length (with_bytes m at bs) ≡ length (with_bytes n at bs)
+with_alike m n at bs e =
+    let rest : List ℕ → List ℕ = λ k. drop (length bs) (drop at k) in
+    let front : length (take at m) ≡ length (take at n) =
+    length-take at m ∙ ap (λ (i : ℕ). min at i) e ∙ sym (length-take at n) in
+    omega (
+      arith,
+      e,
+      front,
+      length-append (take at m) (bs ++ rest m),
+      length-append (take at n) (bs ++ rest n),
+      length-append bs (rest m),
+      length-append bs (rest n),
+      length-drop at m,
+      length-drop at n,
+      length-drop (length bs) (drop at m),
+      length-drop (length bs) (drop at n),
+    )
+
+written_alike : (m n : List ℕ) (ws : List Write) → length m ≡ length n → length (all_written m ws) ≡ length (all_written n ws)
+written_alike m n [] e = e
+written_alike m n (w ∷ ws) e =
+    written_alike (with_bytes m w.addr w.bytes) (with_bytes n w.addr w.bytes) ws (with_alike m n w.addr w.bytes e)
+
+-- what is seen behind writes into the one may be seen behind them into the other
+seen_alike : (shared : Bool) (m n left seen : List ℕ) (ws : List Write) → (shared ≡ false → m ≡ n) → length m ≡ length n
+    → left ≡ all_written m ws → IsSeen shared left seen → IsSeen shared (all_written n ws) seen
+seen_alike false m n left seen ws own long is h = h ∙ is ∙ ap (λ (k : List ℕ). all_written k ws) (own refl)
+seen_alike true m n left seen ws own long is h = h ∙ ap (λ (k : List ℕ). length k) is ∙ written_alike m n ws long
+
+-- where it was so of one that was found, it is so of another
+pub buffer_alike : (shared b : Bool) (c : PlainChain) (q : BareQueue) (found m : List ℕ) (p : PlainPort) (q' : BareQueue)
+    (left seen : List ℕ) (p' : PlainPort) → (shared ≡ false → found ≡ m) → length found ≡ length m → IsSeen shared left seen
+    → TakesBuffer b c q found p q' left seen p'
+    → (left' : List ℕ) × (seen' : List ℕ) × IsSeen shared left' seen' × TakesBuffer b c q m p q' left' seen' p'
+buffer_alike shared false c q found m p q' left seen p' own long is (stays, port) =
+    (m, m, seen_as_left shared m, (record { queue = stays.queue; memory = refl; seen = refl }, port))
+buffer_alike shared true c q found m p q' left seen p' own long is (uses, port) =
+    let ws = answer_writes q.ring c (spent_bytes c) in (
+      all_written m ws,
+      seen,
+      seen_alike shared found m left seen ws own long uses.memory is,
+      (record { memory = refl; queue = uses.queue }, port),
+    )

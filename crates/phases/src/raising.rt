@@ -9,9 +9,9 @@ ghost use Rattle.phases.specs.Queue.{with_slot};
 ghost use Rattle.phases.specs.Slots.{slot_of};
 ghost use Rattle.phases.specs.EventQueue.{FetchesEvent, RaisesNext, MayHold};
 ghost use Rattle.phases.specs.Inner.EventQueue.{MayRaise};
-ghost use Rattle.phases.specs.InMemory.{EachSeen};
+ghost use Rattle.phases.specs.InMemory.{EachSeen, ByOneReading};
 ghost use Rattle.phases.specs.Inner.Stored.{raised_writes, spent_writes};
-ghost use Rattle.phases.specs.Inner.EventsInMemory.{FetchesEventIn, LooksOnce, RaisesNextIn, LooksAtPort, IsHeldBy, UsesWith, TakesBufferOf, MayRaiseIn};
+ghost use Rattle.phases.specs.Inner.EventsInMemory.{FetchesEventIn, RaisesNextIn, LooksAtPort, IsHeldBy, UsesWith, TakesBufferOf, MayRaiseIn};
 
 use crate::slot::Slot;
 use event_queue::{EventBuffer, EventPort, WaitingEvents};
@@ -142,8 +142,8 @@ pub fn phase_fetch_event(
 
 /// Takes the next chain of the event queue from any memory, as [`phase_fetch_event`] does. Called in a phase of the
 /// memory that wrote nothing yet and has room for 4 short reads. Where nothing changed, it took one at most. Where it
-/// uses a chain, it begins a new phase behind that. It looks at the queue once: the chain is that of whatever memory may
-/// have been then.
+/// uses a chain, it begins a new phase behind that. It looks at the queue once, and does what it does by all that memory
+/// may be once it was read.
 #[inline(always)]
 pub fn phase_fetch_event_in<M: WritableMemory>(
     queue: &mut Queue,
@@ -159,8 +159,11 @@ pub fn phase_fetch_event_in<M: WritableMemory>(
         (λ ws. M.stored memory.new ≡ M.storing (M.stored memory.old) (stores_of ws))
         (with_slot (slot_of slot.now) queue.old) found port.old
         result (with_slot (slot_of slot.now) queue.new) left seen port.new) }
-    ensures once { LooksOnce M.shared M.may_be (slot_of slot.now) memory.old queue.old port.old result
-        memory.new queue.new port.new }
+    ensures once { ByOneReading M.shared M.may_be memory.old memory.new
+        (λ found left seen. FetchesEventIn M.shared
+        (λ ws. M.stored memory.new ≡ M.storing (M.stored memory.old) (stores_of ws))
+        (with_slot (slot_of slot.now) queue.old) found port.old
+        result (with_slot (slot_of slot.now) queue.new) left seen port.new) }
     ensures size { M.extent memory.new ≡ M.extent memory.old }
     ensures reading { M.is_open memory.new }
 {
@@ -170,6 +173,7 @@ pub fn phase_fetch_event_in<M: WritableMemory>(
         Ok(Fetch::Broke) => Ok(true),
         Ok(Fetch::Got(fetched)) => {
             take_buffer(queue, memory, port, fetched.chain);
+            let _bytes = memory.size();
             Ok(true)
         }
     }

@@ -22,7 +22,6 @@ use Rattle.phases.specs.Fetching.{IsFree, HasSome}
 use Rattle.phases.specs.EventQueue.{IsEventFetch, MayHold, port_after}
 use Rattle.phases.specs.Inner.InMemory.{as_seen, AtQueueIn, StaysQueueIn}
 use Rattle.phases.specs.Inner.Stored.{writes_of}
-use Rattle.phases.specs.InMemory.{EachSeen}
 use Rattle.phases.specs.EventsInMemory.{SeesBy}
 
 -- Fetch
@@ -113,28 +112,6 @@ TakesBuffer false c q found p q' left seen p' =
 
 abbrev pub TakesBufferOf : PlainChain → BareQueue → List ℕ → PlainPort → BareQueue → List ℕ → List ℕ → PlainPort → Type 0
 TakesBufferOf c q found p q' left seen p' = TakesBuffer (is_short c || p.missed) c q found p q' left seen p'
-
--- what followed a look: a chain was taken by a memory that may have been once it was read; else nothing more was done
-abbrev pub FollowsLook : Bool → (List ℕ → Type 0) → (List ℕ → Type 0) → Result Fetch NoMemory → BareQueue → PlainPort
-    → Result Bool NoMemory → BareQueue → PlainPort → Type 0
-FollowsLook shared before after (Ok (look.Got f)) q p r q' p' =
-    (r ≡ Ok true) × EachSeen shared before after (λ found left seen. TakesBufferOf f.chain q found p q' left seen p')
-FollowsLook shared before after (Ok look.Broke) q p r q' p' =
-    (r ≡ Ok true) × (q' ≡ q) × (p' ≡ p) × ((m : List ℕ) → after m → before m)
-FollowsLook shared before after (Ok look.Idle) q p r q' p' =
-    (r ≡ Ok false) × (q' ≡ q) × (p' ≡ p) × ((m : List ℕ) → after m → before m)
-FollowsLook shared before after (Err e) q p r q' p' =
-    (r ≡ Err e) × (q' ≡ q) × (p' ≡ p) × ((m : List ℕ) → after m → before m)
-
--- the queue was looked at once: what was found there is so of whatever memory may have been then; and the rest followed
-pub record LooksOnce {X : Type 0} (shared : Bool) (may_be : X → List ℕ → Type 0) (s : Slot) (x : X) (q : BareQueue)
-    (p : PlainPort) (r : Result Bool NoMemory) (y : X) (q' : BareQueue) (p' : PlainPort) : Type 0 where
-  pub read : X
-  pub looked : Result Fetch NoMemory
-  pub fetched : BareQueue
-  pub stays : (m : List ℕ) → may_be read m → may_be x m
-  pub looks : (m : List ℕ) → may_be read m → LooksAtPort s q m p looked fetched
-  pub follows : FollowsLook shared (may_be read) (may_be y) looked fetched p r q' p'
 
 -- the oldest buffer, if there is one, may be completed with a memory of this size
 abbrev pub MayRaiseIn : ℕ → List PlainChain → BareQueue → Type 0
