@@ -49,7 +49,8 @@ use Rattle.device_steps.proofs.Woken.{fetch_next, enter_next, seat_next}
 use Rattle.device_steps.proofs.Reached.{whole_by_step}
 use Rattle.device_steps.proofs.Sequences.{serves_none, serves_next}
 use Rattle.device_steps.proofs.InMemory.{NeedsNone, fetch_seen}
-use Rattle.device_steps.proofs.EachTurn.{noticed, seen_left}
+use Rattle.device_steps.proofs.Once.{seen_left}
+use Rattle.device_steps.proofs.EachTurn.{noticed, SeenToo}
 
 -- what is set stands there
 pub get_set : {X : Type 0} (xs : List X) (k : ℕ) (y : X) → k < length xs → slice_get (slice_set xs k y) k ≡ Some y
@@ -169,11 +170,6 @@ followed_next asked seen w v n c u h t =
       no_chain = (q.no_chain, h.no_chain);
       unwritten = none_more (writes_by h.serves.transitions) (action_of t.0).writes h.unwritten q.unwritten;
     }
-
--- one that is seen besides
-record SeenToo (stored : List Write → Type 0) (left seen : List ℕ) (t : Transition) : Type 0 where
-  sees : Sees stored left seen t
-  no_chain : TakesNoChain t
 
 -- behind what wrote nothing, its writes are all
 all_writes : (stored : List Write → Type 0) (us ws : List Write) → IsNone us → stored ws → stored (us ++ ws)

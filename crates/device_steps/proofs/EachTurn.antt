@@ -1,27 +1,30 @@
 -- What an event's turn in a memory that others may write too says of the order.
-use Rattle.std.proofs.Common.{◌≡◌, inl, inr, ℕ, ◌≤◌, Bool, true, false, List, Option, Some, None, Result, Ok, Err, refl, sym, ap, ◌∙◌, subst, [], arith}
+use Rattle.std.proofs.Common.{◌≡◌, inl, inr, ℕ, ◌≤◌, Bool, true, false, List, Option, Some, None, Result, Ok, Err, refl, sym, ap, ◌∙◌, subst, [], ◌∷◌, arith}
+use Rattle.std.specs.List.{AllByRecursion}
 use Rattle.foundation.specs.declared.NoMemory.{NoMemory}
 use Rattle.guest_mem.specs.Stores.{Store}
 use Rattle.ring_core.specs.Writes.{Write, stores_of}
 use Rattle.device_model.specs.Parts.{Completion}
 use Rattle.device_model.specs.World.{PlainWorld}
 use Rattle.device_model.specs.Events.{Event}
-use Rattle.device_model.specs.Transitions.{completion_of, action_of}
+use Rattle.device_model.specs.Transitions.{Transition, event_of, completion_of}
 use Rattle.device_model.specs.Happens.{MayWant}
 use Rattle.device_model.specs.Applies.{Applies}
+use Rattle.device_model.specs.Waking.{IsFetch}
 use Rattle.device_model.specs.Order.{IsFirstOf, IsQuietOf, NoneApplies}
-use Rattle.phases.specs.InMemory.{EachSeen}
+use Rattle.phases.specs.InMemory.{EachSeen, ByOneReading}
 use Rattle.phases.specs.EventsInMemory.{SeesBy}
 use Rattle.phases.proofs.Behind.{each_read}
 use Rattle.device_steps.specs.Settling.{order_for, MayWantFirst}
 use Rattle.device_steps.specs.Inner.Sound.{IsSound}
 use Rattle.device_steps.specs.Apart.{PlainDevice, standing, FitsIn, Stored, TurnsSeen, TurnsInOrWants}
 use Rattle.device_steps.specs.Inner.Apart.{TurnsIn, TurnsAlone}
-use Rattle.device_steps.specs.Serving.{IsNoticedBy, ServesSeen, ServesInPhase, writes_by}
+use Rattle.device_steps.specs.Serving.{IsNoticedBy, TakesNoChain, ServesSeen, FollowsSeen, ServesInPhase, writes_by}
 use Rattle.device_steps.specs.Inner.Cursors.{TurnsBy, TurnsFirst, StepsNext, Sees, IsNone, IsReadyIn, AtEach, FindsIn, TurnsFirstIn, TurnsFirstAlone, ServesNextIn, TurnsNextIn, FetchesOn}
 use Rattle.device_steps.specs.declared.cursor.Cursor.{Cursor}
 use Rattle.device_steps.specs.declared.cursor.Progress.{Progress}
 use Rattle.device_steps.proofs.InMemory.{each_before, each_from, NeedsNone, alone_seen}
+use Rattle.device_steps.proofs.Once.{once_from, once_behind, seen_left}
 use Rattle.device_steps.proofs.Choosing.{taken}
 use Rattle.device_steps.proofs.AnyMemory.{before_any}
 use Rattle.device_steps.proofs.Sequences.{serves_one}
@@ -46,6 +49,12 @@ device_of w =
 -- One event
 
 -- it changed something
+pub did_seen : (stored : List Write → Type 0) (left seen : List ℕ) (w : PlainWorld) (e : Event) (b : Bool) (w' : PlainWorld)
+    → b ≡ true → w'.memory ≡ left → TurnsSeen stored seen w e b w' → TurnsBy (Sees stored left seen) w e w'
+did_seen stored left seen w e true w' on is t =
+    (t.0, t.1, t.2, t.3, record { sees = subst (λ k. SeesBy (completion_of t.0) k seen) is t.4; stores = t.5 })
+did_seen stored left seen w e false w' on is t = absurd (cc)
+
 pub did_in : (shared : Bool) (before after : List ℕ → Type 0) (stored : List Write → Type 0) (d : PlainDevice) (e : Event)
     (b : Bool) (d' : PlainDevice) → b ≡ true → TurnsIn shared before after stored d e b d'
     → EachSeen shared before after
@@ -282,9 +291,6 @@ pub noticed : (left seen : List ℕ) (o : Option Completion) → SeesBy o left s
 noticed left seen (Some xs) h = h
 noticed left seen None h = tt
 
-pub seen_left : (left seen : List ℕ) (o : Option Completion) → SeesBy o left seen → o ≡ None → seen ≡ left
-seen_left left seen o h e = subst (λ z. SeesBy z left seen) e h
-
 pub one_seen : (asked : ℕ → Bool) (stored : List Write → Type 0) (w : PlainWorld) (c : Cursor) (w' : PlainWorld) (seen : List ℕ)
     → StepsNext asked (Sees stored w'.memory seen) w c w' → ServesSeen asked stored seen w 1 w'
 one_seen asked stored w c w' seen t =
@@ -298,12 +304,48 @@ one_seen asked stored w c w' seen t =
       stores = q.stores;
     }
 
+-- An event that takes no chain
+
+pub record SeenToo (stored : List Write → Type 0) (left seen : List ℕ) (t : Transition) : Type 0 where
+  pub sees : Sees stored left seen t
+  pub no_chain : TakesNoChain t
+
+pub by_other : (stored : List Write → Type 0) (left seen : List ℕ) (w : PlainWorld) (e : Event) (w' : PlainWorld)
+    → (IsFetch e → ⊥) → TurnsBy (Sees stored left seen) w e w' → TurnsBy (SeenToo stored left seen) w e w'
+by_other stored left seen w e w' none t =
+    (t.0, t.1, t.2, t.3, record { sees = t.4; no_chain = subst (λ k. IsFetch k → ⊥) (sym t.1) none })
+
+among : (w : PlainWorld) (xs : List Event) (e : Event) → AllByRecursion (λ x. IsFetch x → ⊥) xs → IsFirstOf w xs e → IsFetch e → ⊥
+among w [] e none is = absurd is
+among w (x ∷ xs) e none (inl is) = subst (λ k. IsFetch k → ⊥) is.1 none.0
+among w (x ∷ xs) e none (inr is) = among w xs e none.1 is.1
+
+pub first_other : (stored : List Write → Type 0) (left seen : List ℕ) (xs : List Event) (w w' : PlainWorld)
+    → AllByRecursion (λ x. IsFetch x → ⊥) xs → TurnsFirst (Sees stored left seen) xs w w'
+    → TurnsFirst (SeenToo stored left seen) xs w w'
+first_other stored left seen xs w w' none t =
+    (t.0, t.1, t.2, t.3, record { sees = t.4; no_chain = among w xs (event_of t.0) none t.2 })
+
+one_follows : (asked : ℕ → Bool) (stored : List Write → Type 0) (w : PlainWorld) (c : Cursor) (w' : PlainWorld) (seen : List ℕ)
+    → StepsNext asked (SeenToo stored w'.memory seen) w c w' → FollowsSeen asked stored seen w 1 w'
+one_follows asked stored w c w' seen t =
+    let q = t.5 in
+    record {
+      serves = serves_one asked (SeenToo stored w'.memory seen) w c w' t;
+      notices = record {
+        each = (noticed w'.memory seen (completion_of t.0) q.sees.sees, tt);
+        none = λ h. seen_left w'.memory seen (completion_of t.0) q.sees.sees h.0;
+      };
+      stores = q.sees.stores;
+      no_chain = (q.no_chain, tt);
+    }
+
 pub one_in : {X : Type 0} (shared : Bool) (may_be : X → List ℕ → Type 0)
     (stored : X → X → List Write → Type 0) (asked : ℕ → Bool) (most : ℕ) (x : X) (d : PlainDevice)
     (c : Cursor) (s : Progress) (y : X) (d' : PlainDevice) → 1 ≤ most → s ≡ record { next = c; steps = 1 }
     → ((m : List ℕ) × may_be y m)
     → EachSeen shared (may_be x) (may_be y)
-    (λ found left seen. StepsNext asked (Sees (stored x y) left seen) (standing shared found d) c (standing shared left d'))
+    (λ found left seen. StepsNext asked (SeenToo (stored x y) left seen) (standing shared found d) c (standing shared left d'))
     → ServesNextIn shared may_be stored asked most x d s y d'
 one_in shared may_be stored asked most x d c s y d' few is some t =
     subst (λ z. ServesNextIn shared may_be stored asked most x d z y d') (sym is)
@@ -313,12 +355,38 @@ one_in shared may_be stored asked most x d c s y d' few is some t =
       serves = inl (
         refl,
         each_from shared (may_be x) (may_be y)
-            (λ found left seen. StepsNext asked (Sees (stored x y) left seen) (standing shared found d) c (standing shared left d'))
-            (λ found left seen. ServesSeen asked (stored x y) seen (standing shared found d) 1 (standing shared left d'))
-            (λ found left seen was u. one_seen asked (stored x y) (standing shared found d) c (standing shared left d') seen u) t,
+            (λ found left seen. StepsNext asked (SeenToo (stored x y) left seen) (standing shared found d) c (standing shared left d'))
+            (λ found left seen. FollowsSeen asked (stored x y) seen (standing shared found d) 1 (standing shared left d'))
+            (λ found left seen was u. one_follows asked (stored x y) (standing shared found d) c (standing shared left d') seen u) t,
       );
       before = λ m.
           let (found, was, rest) = t some.0 some.1 in
+          let (left, so, u) = rest in before_any shared left m d' c u.4;
+    })
+
+-- A chain that is taken
+
+pub one_fetch : {X : Type 0} (shared : Bool) (may_be : X → List ℕ → Type 0)
+    (stored : X → X → List Write → Type 0) (asked : ℕ → Bool) (most : ℕ) (x : X) (d : PlainDevice)
+    (c : Cursor) (s : Progress) (y : X) (d' : PlainDevice) → 1 ≤ most → s ≡ record { next = c; steps = 1 }
+    → ((m : List ℕ) × may_be y m)
+    → ByOneReading shared may_be x y
+    (λ found left seen. StepsNext asked (Sees (stored x y) left seen) (standing shared found d) c (standing shared left d'))
+    → ServesNextIn shared may_be stored asked most x d s y d'
+one_fetch shared may_be stored asked most x d c s y d' few is some t =
+    subst (λ z. ServesNextIn shared may_be stored asked most x d z y d') (sym is)
+    (record {
+      some = omega arith;
+      few = few;
+      serves = inr (inl (
+        refl,
+        once_from shared may_be x y
+            (λ found left seen. StepsNext asked (Sees (stored x y) left seen) (standing shared found d) c (standing shared left d'))
+            (λ found left seen. ServesSeen asked (stored x y) seen (standing shared found d) 1 (standing shared left d'))
+            (λ found left seen was u. one_seen asked (stored x y) (standing shared found d) c (standing shared left d') seen u) t,
+      ));
+      before = λ m.
+          let (found, was, rest) = t.each_seen some.0 some.1 in
           let (left, so, u) = rest in before_any shared left m d' c u.4;
     })
 
@@ -347,11 +415,30 @@ pub phase_before : {X : Type 0} (shared : Bool) (may_be : X → List ℕ → Typ
 phase_before shared may_be stored asked x z d count y d' stays on (inl p) = inl (
   p.0,
   each_before shared (may_be x) (may_be z) (may_be y)
-      (λ found left seen. ServesSeen asked (stored x y) seen (standing shared found d) 1 (standing shared left d')) stays
-      (each_seen_on asked shared (may_be z) (may_be y) (stored z y) (stored x y) d d' (on y) p.1),
+      (λ found left seen. FollowsSeen asked (stored x y) seen (standing shared found d) 1 (standing shared left d')) stays
+      (each_from shared (may_be z) (may_be y)
+      (λ found left seen. FollowsSeen asked (stored z y) seen (standing shared found d) 1 (standing shared left d'))
+      (λ found left seen. FollowsSeen asked (stored x y) seen (standing shared found d) 1 (standing shared left d'))
+      (λ found left seen was h.
+      record {
+        serves = h.serves;
+        notices = h.notices;
+        stores = on y (writes_by h.serves.transitions) h.stores;
+        no_chain = h.no_chain;
+      }) p.1),
 )
-phase_before shared may_be stored asked x z d count y d' stays on (inr p) =
-    inr (record {
+phase_before shared may_be stored asked x z d count y d' stays on (inr (inl p)) = inr (inl (
+  p.0,
+  once_behind shared may_be x z y
+      (λ found left seen. ServesSeen asked (stored x y) seen (standing shared found d) 1 (standing shared left d')) stays
+      (once_from shared may_be z y
+      (λ found left seen. ServesSeen asked (stored z y) seen (standing shared found d) 1 (standing shared left d'))
+      (λ found left seen. ServesSeen asked (stored x y) seen (standing shared found d) 1 (standing shared left d'))
+      (λ found left seen was h.
+      record { serves = h.serves; notices = h.notices; stores = on y (writes_by h.serves.transitions) h.stores }) p.1),
+))
+phase_before shared may_be stored asked x z d count y d' stays on (inr (inr p)) =
+    inr (inr (record {
       read = p.read;
       taken = p.taken;
       later = p.later;
@@ -363,7 +450,7 @@ phase_before shared may_be stored asked x z d count y d' stays on (inr p) =
           (each_seen_on asked shared (may_be z) (may_be p.read) (stored z p.read) (stored x p.read) d p.taken (on p.read)
           p.takes);
       follows = p.follows;
-    })
+    }))
 
 pub serves_before : {X : Type 0} (shared : Bool) (may_be : X → List ℕ → Type 0)
     (stored : X → X → List Write → Type 0) (asked : ℕ → Bool) (most : ℕ) (x z : X)

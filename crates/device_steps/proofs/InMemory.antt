@@ -1,5 +1,5 @@
 -- An event in a memory that others may write too, and in one of the device's own.
-use Rattle.std.proofs.Common.{◌≡◌, ℕ, Bool, true, false, List, [], ◌∷◌, ◌++◌, length, Result, Ok, Err, refl, sym, ap, ◌∙◌, subst, append_assoc}
+use Rattle.std.proofs.Common.{◌≡◌, ℕ, Bool, true, false, List, [], ◌∷◌, ◌++◌, length, None, Result, Ok, Err, refl, sym, ap, ◌∙◌, subst, append_assoc}
 use Rattle.std.specs.Prelude.{⊤}
 use Rattle.foundation.specs.declared.NoMemory.{NoMemory}
 use Rattle.guest_mem.specs.Stores.{Store, stores_at}
@@ -99,7 +99,7 @@ number_of (Event.Fetch i) = i
 number_of e = 0
 
 -- no fetch but the event queue's completes a chain or writes
-unseen : (w w' : PlainWorld) (i : ℕ) (t : Transition) → (i ≡ 1 → ⊥) → event_of t ≡ Event.Fetch i → Happens t w
+pub unseen : (w w' : PlainWorld) (i : ℕ) (t : Transition) → (i ≡ 1 → ⊥) → event_of t ≡ Event.Fetch i → Happens t w
     → w' ≡ after t w → SeesBy (completion_of t) w'.memory w.memory
 unseen w w' i (Transition.UseBuffer f xs) other is h next = absurd (other (sym (ap number_of is) ∙ h.event))
 unseen w w' i (Transition.Direct c o xs) other is h next = absurd (no_direct is)
@@ -108,6 +108,15 @@ unseen w w' i (Transition.Respond c r xs) other is h next = absurd (no_respond i
 unseen w w' i (Transition.Give r c xs) other is h next = absurd (no_raise is)
 unseen w w' i (Transition.Poke x) other is h next = absurd (no_poke is)
 unseen w w' i t other is h next = sym (ap (λ (z : PlainWorld). z.memory) next)
+
+pub completes_none : (w : PlainWorld) (i : ℕ) (t : Transition) → (i ≡ 1 → ⊥) → event_of t ≡ Event.Fetch i → Happens t w
+    → completion_of t ≡ None
+completes_none w i (Transition.UseBuffer f xs) other is h = absurd (other (sym (ap number_of is) ∙ h.event))
+completes_none w i (Transition.Direct c o xs) other is h = absurd (no_direct is)
+completes_none w i (Transition.Answer k x o xs) other is h = absurd (no_answer is)
+completes_none w i (Transition.Respond c r xs) other is h = absurd (no_respond is)
+completes_none w i (Transition.Give r c xs) other is h = absurd (no_raise is)
+completes_none w i t other is h = refl
 
 unwritten : (w : PlainWorld) (i : ℕ) (t : Transition) → (i ≡ 1 → ⊥) → event_of t ≡ Event.Fetch i → Happens t w
     → (action_of t).writes ≡ []

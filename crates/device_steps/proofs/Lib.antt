@@ -6,6 +6,7 @@ pub mod Woken
 pub mod Reached
 pub mod Placing
 pub mod InMemory
+pub mod Once
 pub mod Memories
 pub mod Fetches
 pub mod Checks

@@ -1,6 +1,7 @@
 -- An item that is set where it stands, and what holds everywhere in the list then.
 use Rattle.std.proofs.Common.{◌≡◌, ◌<◌, ◌==◌, ℕ, true, false, arith, zero, suc, List, [], ◌∷◌, Some, sym, ap, ◌∙◌, subst}
 use Rattle.std.specs.Prelude.{slice_get, slice_set}
+use Rattle.std.proofs.lemmas.Bool.Decides.{nat_tests}
 use Rattle.device_model.specs.World.{change, Everywhere}
 use Rattle.device_model.proofs.Lists.{same, nothing}
 use Rattle.device_steps.proofs.Setting.{set_change}
@@ -29,3 +30,7 @@ everywhere_set P (suc k) (z ∷ xs) y h p (suc i) x at =
 pub some_there : (n : ℕ) → false ≡ (n == 0) → 0 < n
 some_there zero h = absurd (no_truth h)
 some_there (suc n) h = omega arith
+
+-- and one that is 0 is 0
+pub none_there : (n : ℕ) → true ≡ (n == 0) → n ≡ 0
+none_there n h = grind (arith, nat_tests, h)

@@ -1,5 +1,5 @@
 -- The device apart from its memory, and what an event does to it whatever stands there.
-use Rattle.std.specs.Prelude.{ℕ, ◌≡◌, Bool, true, false, List, [], Option, Result, Ok, Err}
+use Rattle.std.specs.Prelude.{ℕ, ◌≡◌, Bool, true, false, List, [], Option, Result, Ok, Err, ⊤}
 use Rattle.guest_mem.specs.Stores.{Store}
 use Rattle.foundation.specs.declared.NoMemory.{NoMemory}
 use Rattle.scsi_codec.specs.declared.lun.Address.{Address}
@@ -14,7 +14,7 @@ use Rattle.device_model.specs.Transitions.{Transition, event_of, action_of, comp
 use Rattle.device_model.specs.After.{after}
 use Rattle.device_model.specs.Happens.{Happens, MayWant}
 use Rattle.device_model.specs.Applies.{Applies}
-use Rattle.phases.specs.InMemory.{EachSeen}
+use Rattle.phases.specs.InMemory.{EachSeen, ByOneReading}
 use Rattle.phases.specs.EventsInMemory.{SeesBy}
 
 -- all of the device but memory
@@ -81,3 +81,12 @@ abbrev pub TurnsInOrWants : Bool → (List ℕ → Type 0) → (List ℕ → Typ
 TurnsInOrWants shared before after stored d e result d' =
     EachSeen shared before after
     (λ found left seen. TurnsSeenOrWants stored seen (standing shared found d) e result (standing shared left d'))
+
+-- a chain is fetched by one reading of memory
+abbrev pub FetchesOnce : {X : Type 0} → Bool → (X → List ℕ → Type 0) → (List Write → Type 0) → X → PlainDevice → Event
+    → Result Bool NoMemory → X → PlainDevice → Type 0
+FetchesOnce {X} shared may_be stored x d (Event.Fetch i) result y d' =
+    ByOneReading shared may_be x y
+    (λ found left seen.
+    TurnsSeenOrWants stored seen (standing shared found d) (Event.Fetch i) result (standing shared left d'))
+FetchesOnce {X} shared may_be stored x d e result y d' = ⊤

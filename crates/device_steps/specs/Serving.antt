@@ -6,7 +6,7 @@ use Rattle.device_model.specs.Parts.{Completion}
 use Rattle.device_model.specs.World.{PlainWorld}
 use Rattle.device_model.specs.Transitions.{Transition, event_of, action_of, completion_of}
 use Rattle.device_model.specs.Waking.{IsFetch}
-use Rattle.phases.specs.InMemory.{EachSeen}
+use Rattle.phases.specs.InMemory.{EachSeen, ByOneReading}
 use Rattle.device_steps.specs.Apart.{PlainDevice, standing}
 use Rattle.device_steps.specs.Settling.{ServesBy}
 
@@ -66,9 +66,11 @@ pub record TakesAndServes {X : Type 0} (shared : Bool) (may_be : X → List ℕ 
   pub takes : DoneIn shared (may_be x) (may_be read) (ServesSeen asked (stored x read)) d 1 taken
   pub follows : DoneIn shared (may_be read) (may_be y) (FollowsSeen asked (stored read y)) taken later d'
 
--- one event, or a request served at once
+-- one event that takes no chain; a chain taken by one reading; or a request served at once
 abbrev pub ServesInPhase : {X : Type 0} → Bool → (X → List ℕ → Type 0) → (X → X → List Write → Type 0) → (ℕ → Bool) → X
     → PlainDevice → ℕ → X → PlainDevice → Type 0
 ServesInPhase {X} shared may_be stored asked x d count y d' =
-    ((count ≡ 1) × DoneIn shared (may_be x) (may_be y) (ServesSeen asked (stored x y)) d 1 d')
+    ((count ≡ 1) × DoneIn shared (may_be x) (may_be y) (FollowsSeen asked (stored x y)) d 1 d')
+    ⊎ ((count ≡ 1) × ByOneReading shared may_be x y
+    (λ found left seen. ServesSeen asked (stored x y) seen (standing shared found d) 1 (standing shared left d')))
     ⊎ TakesAndServes shared may_be stored asked x d count y d'

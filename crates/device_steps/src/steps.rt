@@ -7,7 +7,7 @@ ghost use Rattle.device_model.specs.Events.{Event as AnEvent, plain_event};
 ghost use Rattle.device_model.specs.Applies.{Applies};
 ghost use Rattle.device_model.specs.Turns.{Turns};
 ghost use Rattle.device_steps.specs.Inner.Steps.{TurnsOrWants};
-ghost use Rattle.device_steps.specs.Apart.{PlainDevice, standing, Stored, TurnsInOrWants, FitsIn};
+ghost use Rattle.device_steps.specs.Apart.{PlainDevice, standing, Stored, TurnsInOrWants, FetchesOnce, FitsIn};
 ghost use Rattle.device_steps.specs.Inner.Apart.{TurnsAlone, TurnsAloneOrWants, TurnsIn, IsSoundIn, HasFew};
 ghost use Rattle.device_steps.specs.Sound.{AreFew, AreFitting};
 ghost use Rattle.device_steps.specs.Inner.Sound.{IsSound};
@@ -113,6 +113,8 @@ impl Device {
         requires few { HasFew self.old }
         ensures turns { TurnsInOrWants M.shared (M.may_be memory.old) (M.may_be memory.new)
             (Stored M.stored M.storing memory.old memory.new) self.old (AnEvent.Fetch number) result self.new }
+        ensures once { FetchesOnce M.shared M.may_be (Stored M.stored M.storing memory.old memory.new) memory.old self.old
+            (AnEvent.Fetch number) result memory.new self.new }
         ensures room { (n : ℕ) → result ≡ Ok false → M.has_room memory.old (n + 2) → M.has_room memory.new n }
         ensures reading { M.is_open memory.new }
         ensures size { M.extent memory.new ≡ M.extent memory.old }
@@ -140,6 +142,8 @@ impl Device {
         requires request { 2 ≤ number }
         ensures turns { TurnsInOrWants M.shared (M.may_be memory.old) (M.may_be memory.new)
             (Stored M.stored M.storing memory.old memory.new) self.old (AnEvent.Fetch number) result self.new }
+        ensures once { FetchesOnce M.shared M.may_be (Stored M.stored M.storing memory.old memory.new) memory.old self.old
+            (AnEvent.Fetch number) result memory.new self.new }
         ensures room { (n : ℕ) → result ≡ Ok false → M.has_room memory.old (n + 1) → M.has_room memory.new n }
         ensures reading { M.is_open memory.new }
         ensures size { M.extent memory.new ≡ M.extent memory.old }
@@ -160,6 +164,8 @@ impl Device {
         requires fits { FitsIn (M.extent memory.old) self.old }
         ensures turns { TurnsInOrWants M.shared (M.may_be memory.old) (M.may_be memory.new)
             (Stored M.stored M.storing memory.old memory.new) self.old (AnEvent.Fetch 0) result self.new }
+        ensures once { FetchesOnce M.shared M.may_be (Stored M.stored M.storing memory.old memory.new) memory.old self.old
+            (AnEvent.Fetch 0) result memory.new self.new }
         ensures room { (n : ℕ) → result ≡ Ok false → M.has_room memory.old (n + 1) → M.has_room memory.new n }
         ensures reading { M.is_open memory.new }
         ensures size { M.extent memory.new ≡ M.extent memory.old }
@@ -186,6 +192,8 @@ impl Device {
         requires few { HasFew self.old }
         ensures turns { TurnsInOrWants M.shared (M.may_be memory.old) (M.may_be memory.new)
             (Stored M.stored M.storing memory.old memory.new) self.old (AnEvent.Fetch 1) result self.new }
+        ensures once { FetchesOnce M.shared M.may_be (Stored M.stored M.storing memory.old memory.new) memory.old self.old
+            (AnEvent.Fetch 1) result memory.new self.new }
         ensures room { (n : ℕ) → result ≡ Ok false → M.has_room memory.old (n + 1) → M.has_room memory.new n }
         ensures reading { M.is_open memory.new }
         ensures size { M.extent memory.new ≡ M.extent memory.old }
@@ -550,6 +558,8 @@ impl Device {
         requires lists { length self.old.handed_off ≡ length self.old.seats }
         ensures turns { TurnsInOrWants M.shared (M.may_be memory.old) (M.may_be memory.new)
             (Stored M.stored M.storing memory.old memory.new) self.old (plain_event event.now) result self.new }
+        ensures once { FetchesOnce M.shared M.may_be (Stored M.stored M.storing memory.old memory.new) memory.old self.old
+            (plain_event event.now) result memory.new self.new }
         ensures size { M.extent memory.new ≡ M.extent memory.old }
     {
         match event {

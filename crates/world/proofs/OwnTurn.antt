@@ -20,9 +20,14 @@ one_more n later e = sym e
 serves_own : (stored : List ℕ → List ℕ → List Write → Type 0) (asked : ℕ → Bool) (x : List ℕ) (d : PlainDevice) (count : ℕ) (y : List ℕ) (d' : PlainDevice)
     → ServesInPhase false Own stored asked x d count y d' → ServesBy asked (standing false x d) count (standing false y d')
 serves_own stored asked x d count y d' (inl p) =
-    let h = each_own x y (λ found left seen. ServesSeen asked (stored x y) seen (standing false found d) 1 (standing false left d')) p.1 in
+    let h = each_own x y (λ found left seen. FollowsSeen asked (stored x y) seen (standing false found d) 1 (standing false left d')) p.1 in
     subst (λ n. ServesBy asked (standing false x d) n (standing false y d')) (sym p.0) h.serves
-serves_own stored asked x d count y d' (inr p) =
+serves_own stored asked x d count y d' (inr (inl p)) =
+    let h = each_own p.1.read y
+    (λ found left seen. ServesSeen asked (stored x y) seen (standing false found d) 1 (standing false left d')) p.1.each_seen in
+    subst (λ n. ServesBy asked (standing false x d) n (standing false y d')) (sym p.0)
+    (subst (λ m. ServesBy asked (standing false m d) 1 (standing false y d')) (p.1.stays p.1.read refl) h.serves)
+serves_own stored asked x d count y d' (inr (inr p)) =
     let first = each_own x p.read
     (λ found left seen. ServesSeen asked (stored x p.read) seen (standing false found d) 1 (standing false left p.taken)) p.takes in
     let then = each_own p.read y

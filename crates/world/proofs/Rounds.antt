@@ -54,7 +54,13 @@ module _ {X : Type 0} (asked : ℕ → Bool) (shared : Bool) (size : ℕ) (store
       let long : length left ≡ size = sym (seen_long shared left some.0 is) ∙ sized' some.0 some.1 in
       subst (λ k. P y (n + k) d') (sym p.0)
       (step x y n 1 found left d d' (sized found was) long h did.serves did.stores)
-  phase_keeps may_be x d count y d' sized sized' some (inr p) n h =
+  phase_keeps may_be x d count y d' sized sized' some (inr (inl p)) n h =
+      let (found, was, rest) = p.1.each_seen some.0 some.1 in
+      let (left, is, did) = rest in
+      let long : length left ≡ size = sym (seen_long shared left some.0 is) ∙ sized' some.0 some.1 in
+      subst (λ k. P y (n + k) d') (sym p.0)
+      (step x y n 1 found left d d' (sized found (p.1.stays found was)) long h did.serves did.stores)
+  phase_keeps may_be x d count y d' sized sized' some (inr (inr p)) n h =
       let (found, was, rest) = p.follows some.0 some.1 in
       let (left, is, did) = rest in
       let long : length left ≡ size = sym (seen_long shared left some.0 is) ∙ sized' some.0 some.1 in

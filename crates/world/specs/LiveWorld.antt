@@ -15,7 +15,7 @@ use Rattle.device_model.specs.Happens.{Occurrence, Reached}
 use Rattle.device_model.specs.Turns.{count_changes}
 use Rattle.device_model.specs.Promise.{IsPromised}
 use Rattle.device_model.specs.Live.{IsRefilled}
-use Rattle.device_steps.specs.Apart.{PlainDevice, standing, TurnsInOrWants}
+use Rattle.device_steps.specs.Apart.{PlainDevice, standing, TurnsInOrWants, FetchesOnce}
 use Rattle.device_steps.specs.Opening.{IsOpeningApart, AreDisksFor, over_disks}
 use Rattle.world.specs.Steps.{events_of}
 use Rattle.device_steps.specs.Sound.{IsReached, IsSteady}
@@ -77,13 +77,14 @@ IsReachedIn shared size d = (m : List ℕ) → length m ≡ size → IsReached (
 
 -- What a call did
 
--- one event in a phase that began with it, or what it asks the host for was refused. Of the memory it is said what a new
--- phase has of it, what it may be, and what was stored
+-- one event in a phase that began with it, or what it asks the host for was refused; a chain is fetched by one reading. Of
+-- the memory it is said what a new phase has of it, what it may be, and what was stored
 abbrev pub StepsLive : {X : Type 0} → Bool → (X → X → Type 0) → (X → List ℕ → Type 0) → (X → X → List Write → Type 0)
     → PlainLive X → Event → Result Bool NoMemory → PlainLive X → Type 0
 StepsLive {X} shared begins may_be stored x e r y =
     (begun : X) × begins x.memory begun
     × TurnsInOrWants shared (may_be begun) (may_be y.memory) (stored x.memory y.memory) x.device e r y.device
+    × FetchesOnce shared may_be (stored x.memory y.memory) begun x.device e r y.memory y.device
 
 -- each of these events had its step, the newest first, and so many changed something
 abbrev pub StepsEach : {X : Type 0} → (X → Event → Result Bool NoMemory → X → Type 0) → X → List Event → ℕ → X → Type 0

@@ -1,16 +1,17 @@
-use Rattle.std.proofs.Common.{◌<◌, ℕ, List, refl, arith}
+use Rattle.std.proofs.Common.{◌<◌, ◌≤◌, ℕ, List, length, refl, arith}
 use Rattle.std.specs.Prelude.{slice_set}
-use Rattle.std.proofs.lemmas.Option.{slice_get_read}
+use Rattle.std.proofs.lemmas.Option.{slice_get_read, slice_get_within}
 use Rattle.device_model.specs.Events.{Event}
 use Rattle.phases.specs.Slots.{slot_of}
 use Rattle.phases.specs.Queue.{with_slot}
 use Rattle.ring_core.specs.Writes.{Write}
-use Rattle.device_steps.specs.Apart.{standing, Stored, TurnsSeenOrWants}
+use Rattle.device_steps.specs.Apart.{PlainDevice, standing, Stored, TurnsSeenOrWants}
 use Rattle.device_steps.specs.contracts.device.Device.{the_view}
 use Rattle.device_steps.proofs.Fetches.{control_turns, with_both}
-use Rattle.device_steps.proofs.Placing.{some_there}
+use Rattle.device_steps.proofs.Placing.{some_there, none_there}
 use Rattle.device_steps.proofs.Setting.{sound_seen}
 use Rattle.device_steps.proofs.InMemory.{fetch_seen, fits_at, none_known}
+use Rattle.device_steps.proofs.Once.{other_once, idle_once}
 use Rattle.phases.proofs.Behind.{each_read}
 use Rattle.device_steps.proofs.device.Device.fetch_control.Goals as goal
 
@@ -41,3 +42,23 @@ returns-clause-turns g c =
     (control_turns (standing shared m (the_view d)) k _ _ _ fetch.result
     (sound_seen shared m _ _ c.self.view_is (c.requires.sound m was)) refl here (fits k _ here)
     (fetch.ensures.fetches m may))))
+
+pub returns-clause-once : goal.returns-clause-once
+returns-clause-once g c =
+    let x = c.args.memory.now in
+    let fetch = c.phase_fetch_control_in in
+    let q' = with_slot (slot_of fetch.new.slot) fetch.new.queue in
+    let v = the_view c.self.inside in
+    let v' : PlainDevice = record v { queues = slice_set v.queues 0 q'; function = fetch.new.function } in
+    other_once g.M.Memory.shared g.M.Memory.may_be (Stored g.M.Memory.stored g.M.Memory.storing x fetch.new.memory) x
+    c.args.self.now 0 fetch.result fetch.new.memory v' (λ one. omega (arith, one)) fetch.ensures.stays (returns-clause-turns g c)
+
+pub returns-then-is_empty-clause-once : goal.returns-then-is_empty-clause-once
+returns-then-is_empty-clause-once g c =
+    let d = c.self.inside in
+    let x = c.args.memory.now in
+    let none : length d.bays.items ≤ 0 = omega (arith, none_there d.bays.len c.if-is_empty.ensures, d.bays.ok.0) in
+    rw (← c.self.view_is)
+    (idle_once g.M.Memory.shared g.M.Memory.may_be (Stored g.M.Memory.stored g.M.Memory.storing x x) x (the_view d) 0 x
+    (none_known g.M.Memory.stored g.M.Memory.storing g.met.M.Memory.none x x refl) (λ m may. may)
+    (λ m may h. omega (arith, slice_get_within d.bays.items 0 h.queue h.there, none)))

@@ -1,15 +1,16 @@
-use Rattle.std.proofs.Common.{◌<◌, List, arith}
+use Rattle.std.proofs.Common.{◌<◌, ◌≤◌, List, length, refl, arith}
 use Rattle.std.specs.Prelude.{slice_set}
-use Rattle.std.proofs.lemmas.Option.{slice_get_read}
+use Rattle.std.proofs.lemmas.Option.{slice_get_read, slice_get_within}
 use Rattle.device_model.specs.Events.{Event}
 use Rattle.phases.specs.Slots.{slot_of}
 use Rattle.phases.specs.Queue.{with_slot}
 use Rattle.ring_core.specs.Writes.{Write}
-use Rattle.device_steps.specs.Apart.{standing, Stored, TurnsSeenOrWants}
+use Rattle.device_steps.specs.Apart.{PlainDevice, standing, Stored, TurnsSeenOrWants}
 use Rattle.device_steps.specs.contracts.device.Device.{the_view}
 use Rattle.device_steps.proofs.Fetches.{request_turns, with_queues}
 use Rattle.device_steps.proofs.Setting.{sound_seen}
 use Rattle.device_steps.proofs.InMemory.{fetch_seen, fits_at, none_known}
+use Rattle.device_steps.proofs.Once.{other_once, idle_once}
 use Rattle.phases.proofs.Behind.{each_read}
 use Rattle.device_steps.proofs.device.Device.fetch_request.Goals as goal
 
@@ -40,3 +41,26 @@ returns-clause-turns g c =
     (request_turns (standing shared m (the_view d)) k _ _ fetch.result
     (sound_seen shared m _ _ c.self.view_is (c.requires.sound m was)) c.requires.request here (fits k _ here)
     (fetch.ensures.fetches m may))))
+
+pub returns-clause-once : goal.returns-clause-once
+returns-clause-once g c =
+    let k = c.args.number in
+    let x = c.args.memory.now in
+    let fetch = c.phase_fetch_in in
+    let q' = with_slot (slot_of fetch.new.slot) fetch.new.queue in
+    let v = the_view c.self.inside in
+    let v' : PlainDevice = record v { queues = slice_set v.queues k q' } in
+    other_once g.M.Memory.shared g.M.Memory.may_be (Stored g.M.Memory.stored g.M.Memory.storing x fetch.new.memory) x
+    c.args.self.now k fetch.result fetch.new.memory v' (λ one. omega (arith, one, c.requires.request)) fetch.ensures.stays
+    (returns-clause-turns g c)
+
+pub returns-then-at-len-clause-once : goal.returns-then-at-len-clause-once
+returns-then-at-len-clause-once g c =
+    let d = c.self.inside in
+    let k = c.args.number in
+    let x = c.args.memory.now in
+    let many : length d.bays.items ≤ k = omega (arith, c.if-at-len.true, c.len.ensures, d.bays.ok.0) in
+    rw (← c.self.view_is)
+    (idle_once g.M.Memory.shared g.M.Memory.may_be (Stored g.M.Memory.stored g.M.Memory.storing x x) x (the_view d) k x
+    (none_known g.M.Memory.stored g.M.Memory.storing g.met.M.Memory.none x x refl) (λ m may. may)
+    (λ m may h. omega (arith, slice_get_within d.bays.items k h.queue h.there, many)))

@@ -8,7 +8,7 @@ use Rattle.device_steps.proofs.Choosing.{and_next}
 use Rattle.device_steps.specs.declared.cursor.Cursor.TheVariants as cursor
 use Rattle.device_steps.specs.Settling.{asks}
 use Rattle.device_steps.proofs.InMemory.{each_before, each_from, still_known, on_known, turn_known}
-use Rattle.device_steps.proofs.EachTurn.{did_in, idle_in, one_in, still_ready, turns_before}
+use Rattle.device_steps.proofs.EachTurn.{did_in, idle_in, SeenToo, by_other, one_in, still_ready, turns_before}
 use Rattle.device_steps.proofs.Woken.{directs_from, directs_past, direct_next}
 use Rattle.device_steps.proofs.device.Device.from_direct.Goals as goal
 
@@ -57,15 +57,16 @@ returns-then-answered-clause-turns g c =
     c.size-bytes.ensures.some
     (each_before shared before middle after
     (λ found left seen.
-    StepsNext asked (Sees (stored x y) left seen) (standing shared found d) (cursor.Direct n) (standing shared left d')) inv.stays
+    StepsNext asked (SeenToo (stored x y) left seen) (standing shared found d) (cursor.Direct n) (standing shared left d')) inv.stays
     (each_from shared middle after
     (λ found left seen. TurnsBy (Sees (stored x y) left seen) (standing shared found d) (Event.Direct n) (standing shared left d'))
     (λ found left seen.
-    StepsNext asked (Sees (stored x y) left seen) (standing shared found d) (cursor.Direct n) (standing shared left d'))
+    StepsNext asked (SeenToo (stored x y) left seen) (standing shared found d) (cursor.Direct n) (standing shared left d'))
     (λ found left seen was t.
-    direct_next asked (Sees (stored x y) left seen) (standing shared found d) (standing shared left d') n
+    direct_next asked (SeenToo (stored x y) left seen) (standing shared found d) (standing shared left d') n
     (c.requires.start found (inv.stays found was)) (inv.below found was)
-    (omega (arith, c.loop-number-test.true, inv.all)) t)
+    (omega (arith, c.loop-number-test.true, inv.all))
+    (by_other (stored x y) left seen (standing shared found d) (Event.Direct n) (standing shared left d') (λ is. is) t))
     (did_in shared middle after (stored x y) d (Event.Direct n) call.result d' c.if-answered.true turn)))
 
 pub loop-number-preserved : goal.loop-number-preserved

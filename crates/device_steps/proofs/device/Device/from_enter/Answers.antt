@@ -3,11 +3,11 @@ use Rattle.device_model.specs.Events.{Event}
 use Rattle.device_model.specs.Applies.{Applies}
 use Rattle.phases.proofs.Behind.{each_read}
 use Rattle.device_steps.specs.Apart.{PlainDevice, standing, Stored}
-use Rattle.device_steps.specs.Inner.Cursors.{NoneBeforeFetch, NoEnterBelow, enter_from, StepsNext, Sees}
+use Rattle.device_steps.specs.Inner.Cursors.{NoneBeforeFetch, NoEnterBelow, enter_from, StepsNext}
 use Rattle.device_steps.specs.Settling.{asks}
 use Rattle.device_steps.proofs.Choosing.{and_next}
 use Rattle.device_steps.proofs.InMemory.{none_known}
-use Rattle.device_steps.proofs.EachTurn.{sees_any, alone_did, alone_idle, one_in, still_ready, turns_before}
+use Rattle.device_steps.proofs.EachTurn.{sees_any, alone_did, alone_idle, SeenToo, by_other, one_in, still_ready, turns_before}
 use Rattle.device_steps.proofs.Woken.{enters_from, enters_past, enter_next}
 use Rattle.device_steps.proofs.device.Device.from_enter.Goals as goal
 
@@ -51,14 +51,15 @@ returns-then-enter-clause-turns g c =
     one_in shared g.M.Memory.may_be stored asked c.args.most x d next c.one.result x d' c.requires.most c.one.ensures
     c.requires.ready.some
     (each_read shared may_be may_be
-    (λ found left seen. StepsNext asked (Sees (stored x x) left seen) (standing shared found d) next (standing shared left d'))
+    (λ found left seen. StepsNext asked (SeenToo (stored x x) left seen) (standing shared found d) next (standing shared left d'))
     (λ m may. may)
     (λ m may.
-    enter_next asked (Sees (stored x x) m m) (standing shared m d) (standing shared m d') n next (c.requires.start m may)
+    enter_next asked (SeenToo (stored x x) m m) (standing shared m d) (standing shared m d') n next (c.requires.start m may)
     (c.requires.direct m may) (c.requires.seat m may) (inv.below m may) (omega (arith, c.loop-number-test.true, inv.all))
+    (by_other (stored x x) m m (standing shared m d) (Event.Enter n) (standing shared m d') (λ is. is)
     (sees_any (stored x x) m m (standing shared m d) (Event.Enter n) (standing shared m d') nothing
     (alone_did shared m d c.loop-number.self (Event.Enter n) c.enter.result d' c.if-enter.true inv.same tt
-    (c.requires.ready.sound m may) c.enter.ensures))
+    (c.requires.ready.sound m may) c.enter.ensures)))
     (c.after_enter.ensures shared m)))
 
 pub loop-number-preserved : goal.loop-number-preserved

@@ -6,7 +6,7 @@ use Rattle.device_steps.specs.Inner.Cursors.{of_function, NoStart, StepsNext, Se
 use Rattle.device_steps.specs.declared.cursor.Cursor.TheVariants as cursor
 use Rattle.device_steps.specs.Settling.{asks}
 use Rattle.device_steps.proofs.InMemory.{each_before, each_from, still_known, on_known, turn_known}
-use Rattle.device_steps.proofs.EachTurn.{did_in, idle_in, firsts_in, none_in, one_in, still_ready, turns_before}
+use Rattle.device_steps.proofs.EachTurn.{did_in, idle_in, firsts_in, none_in, SeenToo, by_other, first_other, one_in, still_ready, turns_before}
 use Rattle.device_steps.proofs.Woken.{function_next, raise_next}
 use Rattle.device_steps.proofs.device.Device.from_function.Goals as goal
 
@@ -26,9 +26,11 @@ returns-then-turned-clause-turns g c =
     c.size-function.ensures.some
     (each_from shared before after
     (λ found left seen. TurnsFirst (Sees (stored x y) left seen) of_function (standing shared found d) (standing shared left d'))
-    (λ found left seen. StepsNext asked (Sees (stored x y) left seen) (standing shared found d) cursor.Start (standing shared left d'))
+    (λ found left seen. StepsNext asked (SeenToo (stored x y) left seen) (standing shared found d) cursor.Start (standing shared left d'))
     (λ found left seen was t.
-    function_next asked (Sees (stored x y) left seen) (standing shared found d) (standing shared left d') t)
+    function_next asked (SeenToo (stored x y) left seen) (standing shared found d) (standing shared left d')
+    (first_other (stored x y) left seen of_function (standing shared found d) (standing shared left d')
+    ((λ is. is), ((λ is. is), ((λ is. is), tt))) t))
     (firsts_in shared before after (stored x y) of_function d call.result d' c.if-turned.true call.ensures.turns))
 
 pub raise_in-raised-requires : goal.raise_in-raised-requires
@@ -67,13 +69,14 @@ returns-then-raised-clause-turns g c =
     one_in shared g.M.Memory.may_be stored asked c.args.most x d cursor.Start c.one-then-raised.result y d' c.requires.most
     c.one-then-raised.ensures c.size-event.ensures.some
     (each_before shared before middle after
-    (λ found left seen. StepsNext asked (Sees (stored x y) left seen) (standing shared found d) cursor.Start (standing shared left d'))
+    (λ found left seen. StepsNext asked (SeenToo (stored x y) left seen) (standing shared found d) cursor.Start (standing shared left d'))
     (λ m may. (first.1 m may).0)
     (each_from shared middle after
     (λ found left seen. TurnsBy (Sees (stored x y) left seen) (standing shared found d) Event.Raise (standing shared left d'))
-    (λ found left seen. StepsNext asked (Sees (stored x y) left seen) (standing shared found d) cursor.Start (standing shared left d'))
+    (λ found left seen. StepsNext asked (SeenToo (stored x y) left seen) (standing shared found d) cursor.Start (standing shared left d'))
     (λ found left seen was t.
-    raise_next asked (Sees (stored x y) left seen) (standing shared found d) (standing shared left d') (first.1 found was).1 t)
+    raise_next asked (SeenToo (stored x y) left seen) (standing shared found d) (standing shared left d') (first.1 found was).1
+    (by_other (stored x y) left seen (standing shared found d) Event.Raise (standing shared left d') (λ is. is) t))
     (did_in shared middle after (stored x y) d Event.Raise raise.result d' c.if-raised.true turn)))
 
 pub from_direct-requires : goal.from_direct-requires

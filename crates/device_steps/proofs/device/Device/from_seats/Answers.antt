@@ -7,7 +7,7 @@ use Rattle.device_steps.specs.Inner.Cursors.{NoStart, NoneBefore, NoDirect, NoSe
 use Rattle.device_steps.proofs.Choosing.{and_next}
 use Rattle.device_steps.specs.Settling.{asks}
 use Rattle.device_steps.proofs.InMemory.{each_before, each_from, still_known, on_known}
-use Rattle.device_steps.proofs.EachTurn.{firsts_in, first_known, none_in, one_in, still_ready, turns_before}
+use Rattle.device_steps.proofs.EachTurn.{firsts_in, first_known, none_in, SeenToo, first_other, one_in, still_ready, turns_before}
 use Rattle.device_steps.proofs.Woken.{seats_from, seats_past, seat_next}
 use Rattle.device_steps.proofs.device.Device.from_seats.Goals as goal
 
@@ -57,14 +57,16 @@ returns-then-turned-clause-turns g c =
     one_in shared g.M.Memory.may_be stored asked c.args.most x d next c.one.result y d' c.requires.most c.one.ensures
     c.size-bytes.ensures.some
     (each_before shared before middle after
-    (λ found left seen. StepsNext asked (Sees (stored x y) left seen) (standing shared found d) next (standing shared left d')) inv.stays
+    (λ found left seen. StepsNext asked (SeenToo (stored x y) left seen) (standing shared found d) next (standing shared left d')) inv.stays
     (each_from shared middle after
     (λ found left seen. TurnsFirst (Sees (stored x y) left seen) (of_seat n) (standing shared found d) (standing shared left d'))
-    (λ found left seen. StepsNext asked (Sees (stored x y) left seen) (standing shared found d) next (standing shared left d'))
+    (λ found left seen. StepsNext asked (SeenToo (stored x y) left seen) (standing shared found d) next (standing shared left d'))
     (λ found left seen was t.
-    seat_next asked (Sees (stored x y) left seen) (standing shared found d) (standing shared left d') n next
+    seat_next asked (SeenToo (stored x y) left seen) (standing shared found d) (standing shared left d') n next
     (c.requires.start found (inv.stays found was)) (c.requires.direct found (inv.stays found was)) (inv.below found was)
-    (omega (arith, c.loop-number-test.true, inv.all)) t (c.after_seat.ensures shared left))
+    (omega (arith, c.loop-number-test.true, inv.all))
+    (first_other (stored x y) left seen (of_seat n) (standing shared found d) (standing shared left d')
+    ((λ is. is), ((λ is. is), ((λ is. is), ((λ is. is), ((λ is. is), tt))))) t) (c.after_seat.ensures shared left))
     (firsts_in shared middle after (stored x y) (of_seat n) d call.result d' c.if-turned.true turn)))
 
 pub loop-number-preserved : goal.loop-number-preserved

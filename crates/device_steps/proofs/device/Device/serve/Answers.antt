@@ -4,7 +4,7 @@ use Rattle.std.proofs.lemmas.Option.{slice_get_read, slice_get_within}
 use Rattle.std.proofs.lemmas.List.{length-map}
 use Rattle.device_model.specs.World.{PlainQueue}
 use Rattle.device_model.specs.Parts.{Slot, Hand}
-use Rattle.phases.proofs.Behind.{each_read}
+use Rattle.phases.proofs.Behind.{each_read, read_once}
 use Rattle.phases.specs.Slots.{slot_of}
 use Rattle.phases.specs.Queue.{with_slot}
 use Rattle.phases.specs.Inner.ServingInMemory.{ServesIn}
@@ -28,7 +28,7 @@ use Rattle.device_steps.proofs.Handing.{begins}
 use Rattle.device_steps.proofs.Leave.{seat_with}
 use Rattle.device_steps.proofs.InMemory.{each_from, fits_at, none_known}
 use Rattle.device_steps.proofs.AnyMemory.{before_any}
-use Rattle.device_steps.proofs.EachTurn.{device_of, one_in, one_seen}
+use Rattle.device_steps.proofs.EachTurn.{device_of, one_fetch, one_seen}
 use Rattle.device_steps.proofs.AtOnce.{bare, get_set, set_all, fetches_only, takes_next, seat_bare, has_room, serves_keeps, later_of, steps_are, some_steps, few_steps, ServedKept, serves_kept}
 use Rattle.device_steps.proofs.device.Device.serve.Goals as goal
 
@@ -129,9 +129,9 @@ returns-in-Ok-Other-clause-turns g c =
     let nothing : made [] = none_known g.M.Memory.stored g.M.Memory.storing g.met.M.Memory.none c.args.memory.now take.new.memory
     take.ensures.stores in
     rw (← c.self.view_is)
-    (one_in shared g.M.Memory.may_be stored asked c.args.most c.args.memory.now v cursor.Start c.one.result take.new.memory v'
+    (one_fetch shared g.M.Memory.may_be stored asked c.args.most c.args.memory.now v cursor.Start c.one.result take.new.memory v'
     (omega (arith, c.requires.most)) c.one.ensures c.size-read.ensures.some
-    (each_read shared (g.M.Memory.may_be c.args.memory.now) (g.M.Memory.may_be take.new.memory)
+    (read_once shared g.M.Memory.may_be c.args.memory.now take.new.memory
     (λ found left seen. StepsNext asked (Sees made left seen) (standing shared found v) cursor.Start (standing shared left v'))
     take.ensures.stays
     (λ m may.
@@ -173,9 +173,9 @@ returns-then-place-len-clause-turns g c =
     let nothing : made [] = none_known g.M.Memory.stored g.M.Memory.storing g.met.M.Memory.none c.args.memory.now take.new.memory
     take.ensures.stores in
     rw (← c.self.view_is)
-    (one_in shared g.M.Memory.may_be stored asked c.args.most c.args.memory.now v cursor.Start c.one-then-place-len.result
+    (one_fetch shared g.M.Memory.may_be stored asked c.args.most c.args.memory.now v cursor.Start c.one-then-place-len.result
     take.new.memory v' (omega (arith, c.requires.most)) c.one-then-place-len.ensures c.size-read.ensures.some
-    (each_read shared (g.M.Memory.may_be c.args.memory.now) (g.M.Memory.may_be take.new.memory)
+    (read_once shared g.M.Memory.may_be c.args.memory.now take.new.memory
     (λ found left seen. StepsNext asked (Sees made left seen) (standing shared found v) cursor.Start (standing shared left v'))
     take.ensures.stays
     (λ m may.
@@ -361,7 +361,7 @@ returns-else-place-len-clause-turns g c =
     (record {
       some = subst (λ (j : ℕ). 1 ≤ j) (sym steps) (some_steps done.result);
       few = subst (λ (j : ℕ). j ≤ c.args.most) (sym steps) (few_steps done.result c.args.most c.requires.most);
-      serves = inr (record {
+      serves = inr (inr (record {
         read = mid;
         taken = v1;
         later = later_of done.result;
@@ -377,7 +377,7 @@ returns-else-place-len-clause-turns g c =
             (λ found left seen.
             FollowsSeen asked later seen (standing shared found v1) (later_of done.result) (standing shared left v'))
             (λ found left seen was h. (kept_at found left seen was h).follows) done.ensures.serves;
-      });
+      }));
       before = λ m. before_any shared left.0 m v' next last_kept.before;
     }))
 

@@ -1,9 +1,10 @@
 use Rattle.device_model.specs.Events.{Event}
-use Rattle.device_steps.specs.Apart.{standing, Stored}
-use Rattle.device_steps.specs.Inner.Cursors.{StepsNext, Sees, TurnsBy}
+use Rattle.std.proofs.Common.{◌≡◌, true, refl}
+use Rattle.device_steps.specs.Apart.{standing, Stored, TurnsSeen}
+use Rattle.device_steps.specs.Inner.Cursors.{StepsNext, Sees}
 use Rattle.device_steps.specs.Settling.{asks}
-use Rattle.device_steps.proofs.InMemory.{each_from}
-use Rattle.device_steps.proofs.EachTurn.{did_in, idle_in, wants_in, one_in}
+use Rattle.device_steps.proofs.Once.{once_from}
+use Rattle.device_steps.proofs.EachTurn.{did_seen, idle_in, wants_in, one_fetch}
 use Rattle.device_steps.proofs.Woken.{fetch_next}
 use Rattle.device_steps.proofs.device.Device.serve_next.Goals as goal
 
@@ -16,19 +17,21 @@ returns-in-Ok-true-clause-turns g c =
     let d = c.args.self.now in
     let d' = call.new.self in
     let next = c.after_fetch.result in
-    let before = g.M.Memory.may_be c.args.memory.now in
-    let after = g.M.Memory.may_be call.new.memory in
     let stored = Stored g.M.Memory.stored g.M.Memory.storing in
     let sees = Sees (stored c.args.memory.now call.new.memory) in
-    one_in shared g.M.Memory.may_be stored asked c.args.most c.args.memory.now d next c.one.result call.new.memory d' c.requires.most
+    let on : c.in-Ok-true.field-0 ≡ true = c.in-Ok-true.field-0-test in
+    one_fetch shared g.M.Memory.may_be stored asked c.args.most c.args.memory.now d next c.one.result call.new.memory d' c.requires.most
     c.one.ensures c.size-bytes.ensures.some
-    (each_from shared before after
-    (λ found left seen. TurnsBy (sees left seen) (standing shared found d) (Event.Fetch i) (standing shared left d'))
+    (once_from shared g.M.Memory.may_be c.args.memory.now call.new.memory
+    (λ found left seen. TurnsSeen (stored c.args.memory.now call.new.memory) seen (standing shared found d) (Event.Fetch i)
+    c.in-Ok-true.field-0 (standing shared left d'))
     (λ found left seen. StepsNext asked (sees left seen) (standing shared found d) next (standing shared left d'))
     (λ found left seen was t.
     fetch_next asked (sees left seen) (standing shared found d) (standing shared left d') i next (c.requires.before found was)
-    (c.requires.below found was) c.requires.there c.requires.asked t (c.after_fetch.ensures shared left))
-    (did_in shared before after (Stored g.M.Memory.stored g.M.Memory.storing c.args.memory.now call.new.memory) d (Event.Fetch i) c.in-Ok-true.field-0 d' c.in-Ok-true.field-0-test c.in-Ok-true.ensures.turns))
+    (c.requires.below found was) c.requires.there c.requires.asked
+    (did_seen (stored c.args.memory.now call.new.memory) left seen (standing shared found d) (Event.Fetch i) c.in-Ok-true.field-0
+    (standing shared left d') on refl t) (c.after_fetch.ensures shared left))
+    c.in-Ok-true.ensures.once)
 
 pub returns-in-Ok-false-clause-turns : goal.returns-in-Ok-false-clause-turns
 returns-in-Ok-false-clause-turns g c =

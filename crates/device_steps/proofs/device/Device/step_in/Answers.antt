@@ -102,3 +102,51 @@ returns-in-Raise-clause-turns g c = rw (c.in-Raise.is) c.raise_in.ensures.turns
 pub returns-in-Poke-clause-turns : goal.returns-in-Poke-clause-turns
 returns-in-Poke-clause-turns g c =
     rw (c.in-Poke.is) (rw (c.as_slice.ensures.value) at (c.poke_in.ensures.turns c.args.self.now))
+
+pub returns-in-Poke-clause-once : goal.returns-in-Poke-clause-once
+returns-in-Poke-clause-once g c = rw (c.in-Poke.is) tt
+
+pub returns-in-Enter-clause-once : goal.returns-in-Enter-clause-once
+returns-in-Enter-clause-once g c = rw (c.in-Enter.is) tt
+
+pub returns-in-Direct-clause-once : goal.returns-in-Direct-clause-once
+returns-in-Direct-clause-once g c = rw (c.in-Direct.is) tt
+
+pub returns-in-Put-clause-once : goal.returns-in-Put-clause-once
+returns-in-Put-clause-once g c = rw (c.in-Put.is) tt
+
+pub returns-in-Take-clause-once : goal.returns-in-Take-clause-once
+returns-in-Take-clause-once g c = rw (c.in-Take.is) tt
+
+pub returns-in-Prepare-clause-once : goal.returns-in-Prepare-clause-once
+returns-in-Prepare-clause-once g c = rw (c.in-Prepare.is) tt
+
+pub returns-in-Commit-clause-once : goal.returns-in-Commit-clause-once
+returns-in-Commit-clause-once g c = rw (c.in-Commit.is) tt
+
+pub returns-in-Answer-clause-once : goal.returns-in-Answer-clause-once
+returns-in-Answer-clause-once g c = rw (c.in-Answer.is) tt
+
+pub returns-in-Leave-clause-once : goal.returns-in-Leave-clause-once
+returns-in-Leave-clause-once g c = rw (c.in-Leave.is) tt
+
+pub returns-in-Mark-clause-once : goal.returns-in-Mark-clause-once
+returns-in-Mark-clause-once g c = rw (c.in-Mark.is) tt
+
+pub returns-in-Check-clause-once : goal.returns-in-Check-clause-once
+returns-in-Check-clause-once g c = rw (c.in-Check.is) tt
+
+pub returns-in-AnswerTmf-clause-once : goal.returns-in-AnswerTmf-clause-once
+returns-in-AnswerTmf-clause-once g c = rw (c.in-AnswerTmf.is) tt
+
+pub returns-in-Hard-clause-once : goal.returns-in-Hard-clause-once
+returns-in-Hard-clause-once g c = rw (c.in-Hard.is) tt
+
+pub returns-in-Resize-clause-once : goal.returns-in-Resize-clause-once
+returns-in-Resize-clause-once g c = rw (c.in-Resize.is) tt
+
+pub returns-in-Raise-clause-once : goal.returns-in-Raise-clause-once
+returns-in-Raise-clause-once g c = rw (c.in-Raise.is) tt
+
+pub returns-in-Fetch-clause-once : goal.returns-in-Fetch-clause-once
+returns-in-Fetch-clause-once g c = rw (c.in-Fetch.is) c.fetch_in.ensures.once

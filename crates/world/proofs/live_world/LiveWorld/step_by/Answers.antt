@@ -2,6 +2,7 @@ use Rattle.std.proofs.Common.{◌≡◌, ◌∙◌, ℕ, List, length, sym, subs
 use Rattle.device_model.specs.Events.{plain_event}
 use Rattle.device_steps.specs.Apart.{FitsIn, Stored}
 use Rattle.device_steps.proofs.InMemory.{turns_begun}
+use Rattle.device_steps.proofs.Once.{fetch_known}
 use Rattle.world.proofs.Lively.{steady_live, sound_live, fits_live, few_live, step_ran}
 use Rattle.world.proofs.live_world.LiveWorld.step_by.Goals as goal
 
@@ -55,6 +56,9 @@ returns-clause-steps g c =
       c.begin.ensures.begun,
       turns_begun g.M.Memory.stored g.M.Memory.storing c.self.inside.memory now later g.M.Memory.shared (g.M.Memory.may_be now)
           (g.M.Memory.may_be later) c.self.inside.device (plain_event c.args.event.now) c.step_in-stepped.result c.step_in-stepped.new.self c.begin.ensures.stores c.step_in-stepped.ensures.turns,
+      fetch_known g.M.Memory.stored g.M.Memory.storing c.self.inside.memory now later g.M.Memory.shared g.M.Memory.may_be now
+          c.self.inside.device (plain_event c.args.event.now) c.step_in-stepped.result c.step_in-stepped.new.self
+          c.begin.ensures.stores c.step_in-stepped.ensures.once,
     )
 
 pub returns-clause-ran : goal.returns-clause-ran

@@ -32,6 +32,7 @@ returns-clause-steps g c =
       c.begin.ensures.begun,
       turns_begun g.M.Memory.stored g.M.Memory.storing c.self.inside.memory now later g.M.Memory.shared (g.M.Memory.may_be now)
           (g.M.Memory.may_be later) c.self.inside.device (Event.Poke (record { addr = c.args.addr; bytes = c.args.bytes.now })) (Ok c.poke_in-wrote.result) c.self.inside.device c.begin.ensures.stores (c.poke_in-wrote.ensures.turns c.self.inside.device),
+      tt,
     )
 
 pub returns-clause-ran : goal.returns-clause-ran
