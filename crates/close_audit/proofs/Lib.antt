@@ -12,3 +12,4 @@ pub mod Sourcing
 pub mod Summing
 pub mod Keeping
 pub mod Crossing
+pub mod Undirected

@@ -5,4 +5,5 @@ pub mod Closed
 pub mod Views
 pub mod Rooms
 pub mod Keeping
+pub mod Undirected
 pub mod Inner

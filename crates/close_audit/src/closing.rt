@@ -6,26 +6,27 @@ ghost use Rattle.close_audit.specs.Keeping.{receipts_of, receipts_in, receipts_o
 
 use crate::examining::examine;
 use crate::fault::CloseFault;
-use crate::kept::{Kept, reply_out};
+use crate::kept::Kept;
+use crate::replies::reply_out;
 use crate::report::Report;
 use command_model::Reply;
+use foundation::Record;
 use guest_mem::GuestMem;
-use phases::Note;
+use phases::{Note, Slot};
 use request_intake::UnitSpec;
 use std::alloc::{AllocError, Global};
-use std::sync::Mutex;
 use unit_history::{BareReceipt, Receipt, UnitState};
 use virtqueue::Queue;
 
-/// Returns the values that stood under locks.
-fn out_of_locks<T: Drop>(alloc: Global, locks: Vec<Mutex<T>>) -> Result<Vec<T>, AllocError>
-    ensures { IfOk result (λ v. vec_len v ≡ vec_len locks) }
-{
-    let mut values = Vec::with_capacity(alloc, locks.len())?;
-    for lock in locks {
-        values.push_reserved(lock.into_inner());
-    }
-    Ok(values)
+/// The queues of a host, as they stood under their locks.
+#[derive(Drop)]
+pub struct ClosedQueues {
+    /// The queues.
+    pub queues: Vec<Queue>,
+    /// The notes Direct of their requests.
+    pub notes: Vec<Note>,
+    /// What each fetch of a request left, for each queue.
+    pub fetched: Vec<Record<Slot>>,
 }
 
 /// Appends receipts, each with its reply where that is kept.
@@ -56,6 +57,7 @@ fn append(kept: Kept, receipts: &mut Vec<Receipt>, notes: &mut Vec<Note>) -> Res
         receipts: bare,
         replies,
         notes: all,
+        ..
     } = kept;
     append_receipts(bare, replies, receipts)?;
     for note in all {
@@ -66,14 +68,17 @@ fn append(kept: Kept, receipts: &mut Vec<Receipt>, notes: &mut Vec<Note>) -> Res
     Ok(())
 }
 
-/// Returns all receipts, and all notes.
-fn together(alloc: Global, kept: Vec<Kept>) -> Result<(Vec<Receipt>, Vec<Note>), AllocError>
+/// Returns all receipts, and all notes behind those that are given.
+fn together(
+    alloc: Global,
+    mut notes: Vec<Note>,
+    kept: Vec<Kept>,
+) -> Result<(Vec<Receipt>, Vec<Note>), AllocError>
     ensures receipts { IfOk result (λ r. r.0.items ≡ receipts_of_all kept.items) }
-    ensures notes { IfOk result (λ r. r.1.items ≡ notes_of_all kept.items) }
+    ensures notes { IfOk result (λ r. r.1.items ≡ notes.items ++ notes_of_all kept.items) }
     ensures counted { IfOk result (λ r. vec_len r.0 ≡ receipts_kept kept.items) }
 {
     let mut receipts = Vec::new(alloc);
-    let mut notes = Vec::new(alloc);
     for one in kept {
         append(one, &mut receipts, &mut notes)?;
     }
@@ -94,30 +99,33 @@ pub fn report_closed(
     alloc: Global,
     specs: &[UnitSpec],
     units: Vec<UnitState>,
-    queues: Vec<Mutex<Queue>>,
-    memory: Mutex<GuestMem>,
+    closed: ClosedQueues,
+    memory: GuestMem,
     kept: Vec<Kept>,
 ) -> Result<Report, CloseFault>
-    requires few { vec_len queues ≤ 65536 }
+    requires few { vec_len closed.queues ≤ 65536 }
     ensures report { IfOk result (λ r. IsReport specs.now r.units.items r.queues.items r.receipts.items r.notes.items) }
     ensures units { IfOk result (λ r. r.units.items ≡ units.items) }
     ensures receipts { IfOk result (λ r. r.receipts.items ≡ receipts_of_all kept.items) }
-    ensures notes { IfOk result (λ r. r.notes.items ≡ notes_of_all kept.items) }
+    ensures notes { IfOk result (λ r. r.notes.items ≡ closed.notes.items ++ notes_of_all kept.items) }
     ensures counted { IfOk result (λ r. vec_len r.receipts ≡ receipts_kept kept.items) }
-    ensures queues { IfOk result (λ r. vec_len r.queues ≡ vec_len queues) }
+    ensures queues { IfOk result (λ r. (r.queues ≡ closed.queues) × (r.fetched ≡ closed.fetched)) }
 {
-    let Ok(queues) = out_of_locks(alloc, queues) else {
-        return Err(CloseFault::NoMemory);
-    };
-    let Ok((receipts, notes)) = together(alloc, kept) else {
+    let ClosedQueues {
+        queues,
+        notes,
+        fetched,
+    } = closed;
+    let Ok((receipts, notes)) = together(alloc, notes, kept) else {
         return Err(CloseFault::NoMemory);
     };
     let report = Report {
         units,
         queues,
-        memory: memory.into_inner(),
+        memory,
         receipts,
         notes,
+        fetched,
     };
     examine(alloc, specs, report)
 }

@@ -14,11 +14,12 @@ mod fault;
 mod kept;
 mod least;
 mod reading;
+mod replies;
 mod report;
 mod tables;
 mod tally;
 
-pub use closing::report_closed;
+pub use closing::{ClosedQueues, report_closed};
 pub use examining::examine;
 pub use fault::CloseFault;
 pub use kept::Kept;

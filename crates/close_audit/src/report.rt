@@ -3,8 +3,9 @@
 ghost use Rattle.std.specs.Prelude.{◌≡◌, is_some};
 ghost use Rattle.std.specs.List.{list_any};
 
+use foundation::Record;
 use guest_mem::GuestMem;
-use phases::Note;
+use phases::{Note, Slot};
 use ring_core::QueueLog;
 use unit_history::{Receipt, UnitState};
 use virtqueue::Queue;
@@ -29,8 +30,11 @@ pub struct Report {
     /// its latest [`unit_history::LATEST_KEPT`] steps that have at most [`unit_history::LONGEST_KEPT`] bytes of data.
     /// Where a host has threads, the latest 4,096 receipts of each seat have a reply, unless its data are longer.
     pub receipts: Vec<Receipt>,
-    /// The notes of all other requests.
+    /// The notes of all other requests. Where a host has threads, those that are Direct come first.
     pub notes: Vec<Note>,
+    /// What each fetch of a request left in the slot of its queue, in order, for each queue. It takes no bytes for a
+    /// fetch: proofs alone read it.
+    pub fetched: Vec<Record<Slot>>,
 }
 
 impl Report {

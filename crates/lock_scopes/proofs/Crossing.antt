@@ -60,6 +60,8 @@ use Rattle.ring_core.specs.contracts.log.QueueLog.{the_row as log_row}
 use Rattle.ring_core.specs.contracts.log.QueueLog.TheInside as log
 use Rattle.std.specs.declared.sync.ledger.Ledger.{Ghosts}
 use Rattle.std.proofs.sync.ledger.Share.TheSendSync as share
+use Rattle.phases.proofs.note.Note.TheSendSync as note
+use Rattle.lock_scopes.specs.contracts.kept_queue.KeptQueue.{the_row as kept_queue_row, the_field as kept_queue_field, the_type as kept_queue_type}
 use Rattle.lock_scopes.specs.contracts.counted.CountedUnit.{the_row as counted_unit_row, the_field as counted_unit_field, the_type as counted_unit_type}
 use Rattle.lock_scopes.specs.contracts.part.Part.{the_field as part_field, the_type as part_type}
 
@@ -173,6 +175,12 @@ queue_fields = recorded_send queue.the_field.row _ _ queue.the_type.to_one
 
 pub queue_sends : IsSend queue_row
 queue_sends = search (sendable, queue_fields)
+
+kept_queue_fields : IsSend kept_queue_field.row
+kept_queue_fields = struct_send (shape kept_queue_type) (queue_sends, (search (crosses, note.the_send), (search crosses depth 30, tt)))
+
+pub kept_queue_sends : IsSend kept_queue_row
+kept_queue_sends = recorded_send kept_queue_field.row _ _ kept_queue_type.to_one kept_queue_fields
 
 pub part_sends : (L : RattleType) (l : Ghosts L.Denot) → IsSend (part_field L l).row
 part_sends L l = struct_send (shape (part_type L l)) (share.the_send L l, tt)

@@ -1,2 +1,3 @@
 -- No public clause of the device, of its hosts or of the library for C, and no law, rests on these.
 pub mod Acts
+pub mod Fetches

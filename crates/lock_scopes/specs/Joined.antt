@@ -1,7 +1,8 @@
 -- What two or three phases do that share one hold: each of them its own part, with nothing between.
-use Rattle.std.specs.Prelude.{ℕ, ◌≡◌, Bool, true, List, [], ◌∷◌, length, Some, Result}
+use Rattle.std.specs.Prelude.{ℕ, ◌≡◌, Bool, true, List, [], ◌∷◌, length, Option, Some, is_some, IfSome, Result, Ok, Err}
 use Rattle.foundation.specs.declared.NoMemory.{NoMemory}
 use Rattle.scsi_codec.specs.declared.lun.Address.{Address}
+use Rattle.ring_core.specs.declared.log.Ticket.{Ticket}
 use Rattle.unit_model.specs.Jobs.{PlainJob, Jobs}
 use Rattle.unit_model.specs.Unit.{PlainUnit}
 use Rattle.virtqueue.specs.Queue.{BareQueue}
@@ -11,17 +12,35 @@ use Rattle.phases.specs.Queue.{with_slot}
 use Rattle.phases.specs.Parts.{hand_of, committing_unit}
 use Rattle.phases.specs.Fetching.{FetchesRequest}
 use Rattle.phases.specs.Answering.{Answers}
+use Rattle.phases.specs.Direct.{Directs}
 use Rattle.phases.specs.Units.{Enters, Commits, Leaves}
 use Rattle.phases.specs.Giving.{KeepsOutcome}
+use Rattle.lock_scopes.specs.Fetches.{ticket_in}
 use Rattle.lock_scopes.specs.declared.joined_unit.NextJob.{NextJob}
 use Rattle.lock_scopes.specs.declared.joined_unit.NextJob.TheVariants.{Listed, Taken, Committed}
 
--- own: the job in the hand is answered, and then the queue's next chain is taken
-pub record AnswersFetches (inventory : List Address) (h : Hand) (s : Slot) (q : BareQueue) (m : List ℕ)
-    (answered : Bool) (fetched : Result Bool NoMemory) (q' : BareQueue) (m' : List ℕ) (h' : Hand) (s' : Slot) : Type 0 where
+-- own: a queue's next chain comes into its empty slot; or memory was refused, for the chain or for its note, and nothing
+-- changed
+abbrev pub Fills : List Address → List ℕ → BareQueue → Result Bool NoMemory → BareQueue → Slot → Type 0
+Fills inventory m q (Ok did) q' s' = FetchesRequest inventory m (with_slot Slot.Empty q) (Ok did) (with_slot s' q')
+Fills inventory m q (Err refused) q' s' = (q' ≡ q) × (s' ≡ Slot.Empty)
+
+-- own: so it is taken, and answered at once where its answer was decided: then its ticket is told
+pub record Takes (inventory : List Address) (q : BareQueue) (m : List ℕ) (fetched : Result Bool NoMemory)
+    (told : Option Ticket) (q' : BareQueue) (m' : List ℕ) (s' : Slot) : Type 0 where
   pub between : BareQueue
-  pub answers : Answers h q m answered between m' h'
-  pub fetches : FetchesRequest inventory m' (with_slot s between) fetched (with_slot s' q')
+  pub left : Slot
+  pub fetches : Fills inventory m q fetched between left
+  pub directs : Directs left between m (is_some told) q' m' s'
+  pub of_chain : IfSome told (λ t. ticket_in left ≡ Some t)
+
+-- own: the job in the hand is answered, and then the queue's next chain is taken
+pub record AnswersTakes (inventory : List Address) (h : Hand) (q : BareQueue) (m : List ℕ) (answered : Bool)
+    (fetched : Result Bool NoMemory) (told : Option Ticket) (q' : BareQueue) (m' : List ℕ) (h' : Hand) (s' : Slot) : Type 0 where
+  pub queue : BareQueue
+  pub memory : List ℕ
+  pub answers : Answers h q m answered queue memory h'
+  pub takes : Takes inventory queue memory fetched told q' m' s'
 
 -- own: the task in the hand leaves, and then the request that arrived enters
 pub record LeavesEnters (h : Hand) (s : Slot) (u : PlainUnit) (out : Jobs)

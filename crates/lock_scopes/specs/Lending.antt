@@ -15,6 +15,12 @@ pub record IsQueue (q : BareQueue) : Type 0 where
 abbrev pub IsMemory : List ℕ → Type 0
 IsMemory m = length m ≤ 2 ^ 28
 
+-- own: what was done to a queue takes no chain of a request queue (queues 2 and up, VIRTIO 1.2, 5.6.2), and the queue
+-- has its number
+pub record TakesNone (q r : BareQueue) : Type 0 where
+  pub number : r.ring.queue ≡ q.ring.queue
+  pub accepted : 2 ≤ q.ring.queue → r.ring.log.accepted ≡ q.ring.log.accepted
+
 -- own: a closure, called once at a `&mut` to x and one to y, may give r and leave x' and y' there
 pub record OnceAtTwo {F T S R : Type 0}
     (g : Once F (MutBor T × (MutBor S × Unit {0})) (R × (MutBor T × (MutBor S × Unit {0}))))
@@ -70,3 +76,11 @@ pub record OnceAtFour {F T S U V R : Type 0}
   pub second_leaves : second_left.now ≡ y'
   pub third_leaves : third_left.now ≡ z'
   pub fourth_leaves : fourth_left.now ≡ w'
+
+-- own: a closure takes no chain of a request queue
+abbrev pub TakesNoRequest : {F S U R : Type 0}
+    (g : Once F (MutBor BareQueue × (MutBor (List ℕ) × (MutBor S × (MutBor U × Unit {0}))))
+    (R × (MutBor BareQueue × (MutBor (List ℕ) × (MutBor S × (MutBor U × Unit {0}))))))
+    → F → Type 0
+TakesNoRequest {F} {S} {U} {R} g f = (q r : BareQueue) (m n : List ℕ) (x x' : S) (y y' : U) (a : R)
+    → OnceAtFour g f q m x y a r n x' y' → TakesNone q r

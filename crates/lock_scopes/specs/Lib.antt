@@ -1,4 +1,5 @@
 pub mod Acts
+pub mod Fetches
 pub mod Joined
 pub mod Ledgers
 pub mod Lending

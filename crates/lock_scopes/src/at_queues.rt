@@ -18,7 +18,7 @@ use event_queue::{EventPort, WaitingEvents};
 use foundation::NoMemory;
 use phases::{
     Hand, Note, OpenFunction, ReceiptOrNote, Slot, phase_answer, phase_answer_tmf, phase_direct,
-    phase_fetch, phase_fetch_control, phase_fetch_event, phase_raise,
+    phase_fetch_control, phase_fetch_event, phase_raise,
 };
 use request_intake::Inventory;
 
@@ -36,15 +36,7 @@ pub fn fetch_on<B: QueueLender>(
         × B.keeps_queue lender.old at r m lender.new }
     ensures queues { B.queues lender.new ≡ B.queues lender.old }
 {
-    lender.queue(
-        at,
-        slot,
-        &mut (),
-        move |queue, memory, slot, _nothing| -> Result<bool, NoMemory>
-            ensures { FetchesRequest inventory.entry.now memory.old (with_slot (slot_of slot.old) queue.old)
-                result (with_slot (slot_of slot.new) queue.new) × (memory.new ≡ memory.old) }
-        { phase_fetch(queue, slot, memory, inventory) },
-    )
+    lender.fetch(at, slot, inventory)
 }
 
 /// Takes the next chain of the control queue (`phase_fetch_control`), in one hold of it and of the memory. The queue's

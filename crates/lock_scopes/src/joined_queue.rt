@@ -1,64 +1,66 @@
-//! Two phases on a queue with the memory that share one hold.
+//! Two or three phases on a queue with the memory that share one hold, of what threads share.
 
 ghost use Rattle.std.specs.Prelude.{◌≡◌, ◌<◌, List, ℕ, length, is_some, IfSome, Some};
 ghost use Rattle.virtqueue.specs.Queue.{BareQueue};
+ghost use Rattle.device_model.specs.Parts as plain;
 ghost use Rattle.phases.specs.Slots.{slot_of};
 ghost use Rattle.phases.specs.Parts.{hand_of};
 ghost use Rattle.phases.specs.Giving.{given_in};
-ghost use Rattle.lock_scopes.specs.Joined.{AnswersFetches};
+ghost use Rattle.lock_scopes.specs.Lending.{IsQueue};
+ghost use Rattle.lock_scopes.specs.Joined.{Takes, AnswersTakes};
 
-use crate::lend::QueueLender;
-use foundation::NoMemory;
-use guest_mem::GuestMem;
-use phases::{Hand, ReceiptOrNote, Slot, phase_answer, phase_fetch};
+use crate::holding::hold;
+use crate::kept_queue::NextChain;
+use crate::locked::LockedQueues;
+use phases::{Hand, ReceiptOrNote, Slot};
 use request_intake::Inventory;
-use virtqueue::Queue;
+use std::sync::Wait;
 
-/// Runs `phase_answer` and then `phase_fetch`.
-fn answer_fetch(
-    queue: &mut Queue,
-    memory: &mut GuestMem,
-    hand: &mut Hand,
+/// Takes the next chain of a request queue into an empty slot (`phase_fetch`), in one hold of it and of the memory.
+/// Where its answer is decided there, the chain is answered in that hold (`phase_direct`), and its note stays with the
+/// queue. The queue's owner calls.
+pub fn take_on<R: Wait>(
+    queues: &LockedQueues<'_, R>,
+    at: usize,
     slot: &mut Slot,
     inventory: &Inventory,
-) -> (Option<ReceiptOrNote>, Result<bool, NoMemory>)
-    ensures did { AnswersFetches inventory.now (hand_of hand.old) (slot_of slot.old) queue.old memory.old
-        (is_some result.0) result.1 queue.new memory.new (hand_of hand.new) (slot_of slot.new) }
-    ensures gives { IfSome result.0 (λ given. given_in hand.old ≡ Some given) }
-    ensures size { length memory.new ≡ length memory.old }
+) -> NextChain
+    requires there { at < length queues.now.queues.now }
+    requires empty { slot_of slot.old ≡ plain.Slot.Empty }
+    ensures { (q : BareQueue) × (m : List ℕ) × (r : BareQueue) × (n : List ℕ) × IsQueue q
+        × Takes inventory.now q m result.fetched result.answered r n (slot_of slot.new)
+        × (length n ≡ length m) × IsQueue r }
 {
-    let given = phase_answer(queue, memory, hand);
-    let fetched = phase_fetch(queue, slot, memory, inventory);
-    (given, fetched)
+    let mut held = hold(queues.rt, &queues.queues[at]);
+    let mut held_memory = hold(queues.rt, queues.memory);
+    let queue = &mut *held;
+    let memory = &mut *held_memory;
+    queue.take(memory, slot, inventory)
 }
 
 /// Answers the job in the hand whose commit is over (`phase_answer`), in one hold of its queue and of the memory. Then
-/// takes the next chain of the same queue in that hold (`phase_fetch`). The queue's owner calls, which has the hand.
-/// Returns what `answer_on` and then `fetch_on` would return.
-pub fn answer_fetch_on<B: QueueLender>(
-    lender: &mut B,
+/// takes the next chain of the same queue in that hold, as [`take_on`] does. The queue's owner calls, which has the
+/// hand. Returns what `answer_on` would return, and then what `take_on` would.
+pub fn answer_take_on<R: Wait>(
+    queues: &LockedQueues<'_, R>,
     at: usize,
     hand: &mut Hand,
     slot: &mut Slot,
     inventory: &Inventory,
-) -> (Option<ReceiptOrNote>, Result<bool, NoMemory>)
-    requires there { at < B.queues lender.old }
-    ensures did { (q : BareQueue) × (m : List ℕ) × (r : BareQueue) × (n : List ℕ) × B.lends_queue lender.old at q m
-        × AnswersFetches inventory.now (hand_of hand.old) (slot_of slot.old) q m (is_some result.0) result.1
+) -> (Option<ReceiptOrNote>, NextChain)
+    requires there { at < length queues.now.queues.now }
+    requires empty { slot_of slot.old ≡ plain.Slot.Empty }
+    ensures did { (q : BareQueue) × (m : List ℕ) × (r : BareQueue) × (n : List ℕ) × IsQueue q
+        × AnswersTakes inventory.now (hand_of hand.old) q m (is_some result.0) result.1.fetched result.1.answered
         r n (hand_of hand.new) (slot_of slot.new)
-        × (length n ≡ length m) × B.keeps_queue lender.old at r n lender.new }
+        × (length n ≡ length m) × IsQueue r }
     ensures gives { IfSome result.0 (λ given. given_in hand.old ≡ Some given) }
-    ensures queues { B.queues lender.new ≡ B.queues lender.old }
 {
-    lender.queue(
-        at,
-        hand,
-        slot,
-        move |queue, memory, hand, slot| -> (Option<ReceiptOrNote>, Result<bool, NoMemory>)
-            ensures { AnswersFetches inventory.entry.now (hand_of hand.old) (slot_of slot.old) queue.old memory.old
-                (is_some result.0) result.1 queue.new memory.new (hand_of hand.new) (slot_of slot.new)
-                × (length memory.new ≡ length memory.old)
-                × IfSome result.0 (λ given. given_in hand.old ≡ Some given) }
-        { answer_fetch(queue, memory, hand, slot, inventory) },
-    )
+    let mut held = hold(queues.rt, &queues.queues[at]);
+    let mut held_memory = hold(queues.rt, queues.memory);
+    let queue = &mut *held;
+    let memory = &mut *held_memory;
+    let given = queue.answer(memory, hand);
+    let next = queue.take(memory, slot, inventory);
+    (given, next)
 }

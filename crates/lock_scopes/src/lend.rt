@@ -3,10 +3,16 @@
 ghost use Rattle.std.specs.Prelude.{◌≡◌, ◌<◌, List, ℕ};
 ghost use Rattle.unit_model.specs.Unit.{PlainUnit};
 ghost use Rattle.virtqueue.specs.Queue.{BareQueue};
-ghost use Rattle.lock_scopes.specs.Lending.{OnceAtTwo, OnceAtThree, OnceAtFour};
+ghost use Rattle.phases.specs.Queue.{with_slot};
+ghost use Rattle.phases.specs.Slots.{slot_of};
+ghost use Rattle.phases.specs.Fetching.{FetchesRequest};
+ghost use Rattle.lock_scopes.specs.Lending.{OnceAtTwo, OnceAtThree, OnceAtFour, TakesNoRequest};
 ghost use Rattle.lock_scopes.specs.Ledgers.{CountsCommits};
 
+use foundation::NoMemory;
 use guest_mem::GuestMem;
+use phases::Slot;
+use request_intake::Inventory;
 use unit_history::UnitState;
 use virtqueue::Queue;
 
@@ -70,8 +76,16 @@ pub trait QueueLender {
     fn queue_count(&self) -> usize
         ensures { result ≡ queues self.now };
 
+    /// Takes the next chain of a request queue into a slot (`phase_fetch`), with the memory.
+    fn fetch(&mut self, at: usize, slot: &mut Slot, inventory: &Inventory) -> Result<bool, NoMemory>
+        requires there { at < queues self.old }
+        ensures did { (q : BareQueue) × (m : List ℕ) × (r : BareQueue) × lends_queue self.old at q m
+            × FetchesRequest inventory.now m (with_slot (slot_of slot.old) q) result (with_slot (slot_of slot.new) r)
+            × keeps_queue self.old at r m self.new }
+        ensures queues { queues self.new ≡ queues self.old };
+
     /// Runs a phase on the queue of a number, with the memory, and on two values of the caller, which stay where they
-    /// are.
+    /// are. The phase takes no chain of a request queue.
     fn queue<T, X, Y, F: FnOnce(&mut Queue, &mut GuestMem, &mut X, &mut Y) -> T>(
         &mut self,
         at: usize,
@@ -81,6 +95,7 @@ pub trait QueueLender {
     ) -> T
         requires there { at < queues self.old }
         requires phase { F.IsAlwaysCallable phase }
+        requires takes_none { TakesNoRequest F.FnOnce phase }
         ensures did { (q : BareQueue) × (m : List ℕ) × (r : BareQueue) × (n : List ℕ) × lends_queue self.old at q m
             × OnceAtFour F.FnOnce phase q m one.old other.old result r n one.new other.new
             × keeps_queue self.old at r n self.new }

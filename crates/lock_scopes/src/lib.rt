@@ -8,6 +8,10 @@
 //! they come back. No clause says that it is the one that the lock held before. Whenever a unit's lock is free, its
 //! history has all Commits and acts of the operator that were counted for it. Phases that share a hold do each
 //! their part on what the one before left.
+//!
+//! Whenever a queue's lock is free, each request that it accepted has one fetch, and each note Direct that it has is of
+//! a request whose fetch decided its answer. Nothing but a fetch and the answer in its hold adds to either: that rests
+//! on visibility.
 #![tactic(auto)]
 
 mod acting;
@@ -20,6 +24,7 @@ mod gate;
 mod holding;
 mod joined_queue;
 mod joined_unit;
+mod kept_queue;
 mod lend;
 mod locked;
 mod part;
@@ -35,8 +40,9 @@ pub use at_units::{check_on, commit_on, enter_on, leave_on, mark_on, prepare_on}
 pub use counted::CountedUnit;
 pub use gate::{Gate, Open, Point};
 pub use holding::hold;
-pub use joined_queue::answer_fetch_on;
+pub use joined_queue::{answer_take_on, take_on};
 pub use joined_unit::{NextJob, leave_enter_commit_on, leave_enter_on};
+pub use kept_queue::{KeptQueue, NextChain};
 pub use lend::{QueueLender, UnitLender};
 pub use locked::{LockedQueues, LockedUnits};
 pub use part::Part;

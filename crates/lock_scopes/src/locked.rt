@@ -6,9 +6,13 @@ ghost use Rattle.lock_scopes.specs.Lending.{IsQueue, IsMemory};
 
 use crate::counted::CountedUnit;
 use crate::holding::hold;
+use crate::kept_queue::KeptQueue;
 use crate::lend::{QueueLender, UnitLender};
 use crate::part::Part;
+use foundation::NoMemory;
 use guest_mem::GuestMem;
+use phases::Slot;
+use request_intake::Inventory;
 use std::sync::ledger::Ledger;
 use std::sync::{Mutex, Wait};
 use unit_history::UnitState;
@@ -58,13 +62,14 @@ impl<'a, R: Wait, C: Ledger, W: Ledger> UnitLender for LockedUnits<'a, R, C, W> 
 /// The queues and the memory that threads share, each under a lock of its own, which is held while one phase runs, or
 /// two. A queue's lock has the memory's inside it, and the memory's is also held alone; a unit's is held with neither.
 /// So no thread waits for a lock that waits for one of its own. No clause says what a lock held at a moment. But
-/// whenever it is free, a queue's log is lawful, and the memory has at most 2^28 bytes.
+/// whenever it is free, a queue's log is lawful, the notes Direct that it has are of requests whose fetch decided their
+/// answer, and the memory has at most 2^28 bytes.
 #[derive(Drop)]
 pub struct LockedQueues<'a, R: Wait> {
     /// The leave to wait, which a thread needs for a lock.
     pub rt: &'a R,
     /// The queues by their numbers.
-    pub queues: &'a [Mutex<Queue>],
+    pub queues: &'a [Mutex<KeptQueue>],
     /// The memory.
     pub memory: &'a Mutex<GuestMem>,
 }
@@ -84,6 +89,19 @@ impl<'a, R: Wait> QueueLender for LockedQueues<'a, R> {
         self.queues.len()
     }
 
+    fn fetch(
+        &mut self,
+        at: usize,
+        slot: &mut Slot,
+        inventory: &Inventory,
+    ) -> Result<bool, NoMemory> {
+        let mut held = hold(self.rt, &self.queues[at]);
+        let mut held_memory = hold(self.rt, self.memory);
+        let queue = &mut *held;
+        let memory = &mut *held_memory;
+        queue.fetch(memory, slot, inventory)
+    }
+
     fn queue<T, X, Y, F: FnOnce(&mut Queue, &mut GuestMem, &mut X, &mut Y) -> T>(
         &mut self,
         at: usize,
@@ -95,10 +113,7 @@ impl<'a, R: Wait> QueueLender for LockedQueues<'a, R> {
         let mut held_memory = hold(self.rt, self.memory);
         let queue = &mut *held;
         let memory = &mut *held_memory;
-        let _before = queue.log();
-        let answer = phase(queue, memory, one, other);
-        let _behind = queue.log();
-        answer
+        queue.run(memory, one, other, phase)
     }
 
     fn memory<T, F: FnOnce(&mut GuestMem, &mut [u8]) -> T>(

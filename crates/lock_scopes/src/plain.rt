@@ -3,7 +3,10 @@
 ghost use Rattle.std.specs.Prelude.{◌≡◌, Some, slice_get, slice_set, length, ⊤};
 
 use crate::lend::{QueueLender, UnitLender};
+use foundation::NoMemory;
 use guest_mem::GuestMem;
+use phases::{Slot, phase_fetch};
+use request_intake::Inventory;
 use unit_history::UnitState;
 use virtqueue::Queue;
 
@@ -58,6 +61,15 @@ impl<'a> QueueLender for Plain<'a> {
 
     fn queue_count(&self) -> usize {
         self.queues.len()
+    }
+
+    fn fetch(
+        &mut self,
+        at: usize,
+        slot: &mut Slot,
+        inventory: &Inventory,
+    ) -> Result<bool, NoMemory> {
+        phase_fetch(&mut self.queues[at], slot, self.memory, inventory)
     }
 
     fn queue<T, X, Y, F: FnOnce(&mut Queue, &mut GuestMem, &mut X, &mut Y) -> T>(

@@ -20,7 +20,7 @@ use Rattle.block_store.proofs.edges.Prepared.TheSendSync as spare
 use Rattle.phases.specs.contracts.job_in_hand.JobInHand.{the_row as held_row}
 use Rattle.phases.specs.contracts.job_in_hand.JobInHand.TheInside as held
 use Rattle.phases.specs.contracts.hand.Hand.{the_field as hand_field, the_type as hand_type}
-use Rattle.lock_scopes.proofs.Crossing.{counted_unit_sends, part_sends, queue_sends}
+use Rattle.lock_scopes.proofs.Crossing.{counted_unit_sends, part_sends, kept_queue_sends}
 use Rattle.guest_mem.proofs.memory.GuestMem.TheSendSync as memory
 use Rattle.worker_steps.proofs.bell.Bell.TheSendSync as bell
 use Rattle.crossbeam_utils.proofs.cache_padded.CachePadded.TheSendSync as padded
@@ -98,7 +98,7 @@ pub shared_syncs : (G C W : RattleType) (c : Ghosts C.Denot) (w : Ghosts W.Denot
 shared_syncs G C W c w gate = declared_sync (shared_type G C W c w) (
   search (crosses, counted_unit_sends C W c w) depth 20,
   (
-    search (crosses, queue_sends),
+    search (crosses, kept_queue_sends),
     (
       search (crosses, port_sends),
       (
@@ -132,7 +132,7 @@ pub shared_sends : (G C W : RattleType) (c : Ghosts C.Denot) (w : Ghosts W.Denot
 shared_sends G C W c w gate = declared_send (shared_type G C W c w) (
   Vec-send (mutex_row (counted_unit_row C W c w)) (search (crosses, counted_unit_sends C W c w)),
   (
-    search (crosses, queue_sends),
+    search (crosses, kept_queue_sends),
     (
       search (crosses, port_sends),
       (

@@ -17,6 +17,7 @@ use Rattle.phases.specs.declared.hand.Hand as declared
 use Rattle.phases.specs.declared.hand.Hand.TheVariants as hand
 use Rattle.close_audit.specs.Keeping.{KeepsGiven}
 use Rattle.close_audit.specs.declared.kept.Kept.{Kept}
+use Rattle.close_audit.specs.Undirected.{IsUndirected}
 use Rattle.lock_scopes.specs.Ledgers.{receipts_due, receipts_made, receipts_run}
 use Rattle.lock_scopes.specs.Joined.{LeavesEnters, RunsNext, LeavesEntersRuns}
 use Rattle.lock_scopes.specs.declared.joined_unit.NextJob.{NextJob}
@@ -127,6 +128,22 @@ given_more (hand.Job held) g kept kept' e keeps = by_outcome held.outcome e
         → kept_by kept' ≡ kept_by kept + (if is_reply o then 1 else 0)
     by_outcome None e = cc
     by_outcome (Some o) e = kept_more o held.job.chain.ticket kept kept' (subst (λ z. KeepsGiven kept z kept') (sym (some_is e)) keeps)
+
+-- what the job in a hand gives is no note Direct
+pub given_undirected : (h : declared.Hand) (g : ReceiptOrNote) → given_in h ≡ Some g → IsUndirected g
+given_undirected hand.Empty g e = cc
+given_undirected (hand.Answered place t) g e = cc
+given_undirected (hand.Job held) g e = by_outcome held.outcome e
+  where
+    of_outcome : (o : answers.Outcome) → IsUndirected (given_for held.job.chain.ticket o)
+    of_outcome (outcome.Reply receipt) = tt
+    of_outcome (outcome.Aborted why) = λ e. cc
+    of_outcome outcome.Busy = λ e. cc
+    of_outcome outcome.Unknown = λ e. cc
+
+    by_outcome : (o : Option answers.Outcome) → option_map (given_for held.job.chain.ticket) o ≡ Some g → IsUndirected g
+    by_outcome None e = cc
+    by_outcome (Some o) e = subst IsUndirected (some_is e) (of_outcome o)
 
 answers_none : (h : Hand) (q : BareQueue) (m : List ℕ) (r : BareQueue) (n : List ℕ) (h' : Hand) → Answers h q m true r n h' → HasNone h'
 answers_none (Hand.Done x o) q m r n h' (did, is) = answered_none h' x.unit x.chain.ticket is

@@ -2,15 +2,17 @@
 
 ghost use Rattle.std.specs.Prelude.{◌≡◌, ◌<◌, vec_len};
 ghost use Rattle.std.specs.Bool.{OnFalse};
+ghost use Rattle.device_model.specs.Parts as plain;
+ghost use Rattle.phases.specs.Slots.{slot_of};
 ghost use Rattle.close_audit.specs.Rooms.{HasRoomForOne};
 ghost use Rattle.worker_steps.specs.Tallying.{Tallies};
 ghost use Rattle.worker_steps.specs.Inner.Tallying.{HasNoJob};
 
 use crate::post::{Post, commit, is_long, leave, pass, serve_hand, take_own, ticket_in};
-use crate::requests::{direct, fetch_next};
+use crate::requests::{direct, fetch_next, pass_answered};
 use crate::shared::Shared;
 use lock_scopes::{
-    Gate, NextJob, Point, answer_fetch_on, enter_on, leave_enter_commit_on, leave_enter_on,
+    Gate, NextJob, Point, answer_take_on, enter_on, leave_enter_commit_on, leave_enter_on,
 };
 use phases::{Hand, Slot};
 use ring_core::Ticket;
@@ -123,7 +125,8 @@ pub(crate) fn turn<R: Wait, G: Gate + Drop, C: Ledger, W: Ledger>(
     }
 }
 
-/// Answers the job in the hand and takes the next chain of its queue, in one hold. Keeps what the job leaves.
+/// Answers the job in the hand and takes the next chain of its queue into an empty slot, in one hold. Keeps what the
+/// job leaves.
 fn answer_and_fetch<R: Wait, G: Gate + Drop, C: Ledger, W: Ledger>(
     rt: &R,
     shared: &Shared<G, C, W>,
@@ -132,6 +135,7 @@ fn answer_and_fetch<R: Wait, G: Gate + Drop, C: Ledger, W: Ledger>(
     post: &mut Post<W>,
 )
     requires at { at < vec_len shared.now.queues }
+    requires empty { slot_of slot.old ≡ plain.Slot.Empty }
     requires room { HasRoomForOne post.old.kept }
     requires tally { Tallies post.old.lost post.old.part.share.amount post.old.kept post.old.hand }
     ensures seat { post.new.seat ≡ post.old.seat }
@@ -141,8 +145,8 @@ fn answer_and_fetch<R: Wait, G: Gate + Drop, C: Ledger, W: Ledger>(
         return;
     };
     // The next round fetches again where this fetch was refused memory.
-    let (given, _fetched) = answer_fetch_on(
-        &mut shared.queues(rt),
+    let (given, next) = answer_take_on(
+        &shared.queues(rt),
         at,
         &mut post.hand,
         slot,
@@ -153,6 +157,7 @@ fn answer_and_fetch<R: Wait, G: Gate + Drop, C: Ledger, W: Ledger>(
         None => post.lost = Some(ticket),
     }
     pass(&shared.gate, Point::Answered, &post.hand);
+    pass_answered(&shared.gate, next.answered);
 }
 
 /// Makes room for what one request leaves. Room for two was made before the first of them was answered, so it is found

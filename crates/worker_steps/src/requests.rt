@@ -1,7 +1,9 @@
 //! The request queues that a worker owns, and how it serves them.
 
 ghost use Rattle.std.specs.Prelude.{◌≡◌, ◌<◌, vec_len};
+ghost use Rattle.std.specs.Bool.{OnFalse};
 ghost use Rattle.handoff.specs.Seats.{IsSeatOf, IsSameSeat};
+ghost use Rattle.phases.specs.declared.note.Cause.TheVariants as cause;
 ghost use Rattle.close_audit.specs.Rooms.{HasRoomForOne};
 ghost use Rattle.worker_steps.specs.Tallying.{Tallies};
 
@@ -9,15 +11,24 @@ use crate::in_a_row::{has_one_job, serve_and_fetch, turn};
 use crate::post::{Post, drain};
 use crate::progress::Progress;
 use crate::shared::Shared;
-use lock_scopes::{Gate, Point, direct_on, fetch_on};
-use phases::{ReceiptOrNote, Slot};
+use lock_scopes::{Gate, Point, direct_on, take_on};
+use phases::{Cause, Note, ReceiptOrNote, Slot};
+use ring_core::Ticket;
 use std::sync::Wait;
 use std::sync::ledger::Ledger;
 
 /// A worker serves at most so many requests of one queue in a row.
 const IN_A_ROW: usize = 16;
 
-/// Answers the chain that is ready in the slot, where one is there, and keeps the note of why it got no receipt.
+/// Tells the gate that a chain was answered in the hold of its fetch, if one was.
+pub(crate) fn pass_answered<G: Gate>(gate: &G, answered: Option<Ticket>) {
+    if let Some(ticket) = answered {
+        gate.pass(Point::Answered, ticket);
+    }
+}
+
+/// Answers the request in the slot that its unit refused, where one is there, and keeps the note of why it got no
+/// receipt. An answer that was decided at the fetch is given in the hold of that, so a note Direct never comes here.
 pub(crate) fn direct<R: Wait, G: Gate + Drop, C: Ledger, W: Ledger>(
     rt: &R,
     shared: &Shared<G, C, W>,
@@ -34,10 +45,35 @@ pub(crate) fn direct<R: Wait, G: Gate + Drop, C: Ledger, W: Ledger>(
     if slot.is_empty() {
         return;
     }
-    if let Some(note) = direct_on(&mut shared.queues(rt), at, slot) {
-        let ticket = note.ticket();
+    let Some(note) = direct_on(&mut shared.queues(rt), at, slot) else {
+        return;
+    };
+    let ticket = note.ticket();
+    keep_note(post, note);
+    shared.gate.pass(Point::Answered, ticket);
+}
+
+/// Returns true if a note is Direct.
+fn is_direct(note: &Note) -> bool
+    ensures { OnFalse result (note.now.cause ≡ cause.Direct → ⊥) }
+{
+    match note.cause() {
+        Cause::Direct => true,
+        Cause::Aborted | Cause::Full | Cause::Busy | Cause::Stale | Cause::Unknown => false,
+    }
+}
+
+/// Keeps a note that isn't Direct. A seat that would keep another has lost the request, and `close` gives no report.
+fn keep_note<W: Ledger>(post: &mut Post<W>, note: Note)
+    requires room { HasRoomForOne post.old.kept }
+    requires tally { Tallies post.old.lost post.old.part.share.amount post.old.kept post.old.hand }
+    ensures seat { post.new.seat ≡ post.old.seat }
+    ensures tally { Tallies post.new.lost post.new.part.share.amount post.new.kept post.new.hand }
+{
+    if is_direct(&note) {
+        post.lost = Some(note.ticket());
+    } else {
         post.kept.keep(ReceiptOrNote::Note(note));
-        shared.gate.pass(Point::Answered, ticket);
     }
 }
 
@@ -58,7 +94,9 @@ pub(crate) fn fetch_next<R: Wait, G: Gate + Drop, C: Ledger, W: Ledger>(
         return None;
     }
     let mut slot = Slot::Empty;
-    let is_some = fetch_on(&mut shared.queues(rt), at, &mut slot, &shared.inventory).ok()?;
+    let next = take_on(&shared.queues(rt), at, &mut slot, &shared.inventory);
+    let is_some = next.fetched.ok()?;
+    pass_answered(&shared.gate, next.answered);
     turn(rt, shared, &mut slot, post);
     direct(rt, shared, at, &mut slot, post);
     Some(is_some)

@@ -7,19 +7,18 @@ use crossbeam_utils::CachePadded;
 use event_queue::EventPort;
 use guest_mem::GuestMem;
 use handoff::Handoff;
-use lock_scopes::{CountedUnit, Gate, LockedQueues, LockedUnits, Part};
+use lock_scopes::{CountedUnit, Gate, KeptQueue, LockedQueues, LockedUnits, Part};
 use request_intake::Inventory;
 use std::sync::atomic::{AtomicBool, AtomicU64, Ordering};
 use std::sync::ledger::Ledger;
 use std::sync::{Mutex, Wait};
-use virtqueue::Queue;
 
 /// The parts of a device that threads share: its units, its queues and the memory, each under a lock. The event port
 /// has one that is taken round that of the event queue. The inventory never changes.
 #[derive(Drop)]
 pub struct Parts<C: Ledger, W: Ledger> {
     pub units: Vec<Mutex<CountedUnit<C, W>>>,
-    pub queues: Vec<Mutex<Queue>>,
+    pub queues: Vec<Mutex<KeptQueue>>,
     pub memory: Mutex<GuestMem>,
     pub port: Mutex<EventPort>,
     pub inventory: Inventory,
@@ -35,7 +34,7 @@ pub struct Parts<C: Ledger, W: Ledger> {
 #[derive(Drop)]
 pub struct Shared<G: Gate + Drop, C: Ledger, W: Ledger> {
     pub units: Vec<Mutex<CountedUnit<C, W>>>,
-    pub queues: Vec<Mutex<Queue>>,
+    pub queues: Vec<Mutex<KeptQueue>>,
     pub(crate) port: Mutex<EventPort>,
     pub inventory: Inventory,
     pub handoff: Handoff,

@@ -1,13 +1,15 @@
-//! The parts of the ledgers, handed out and gathered.
+//! What stood under locks and what seats kept, with the parts of the ledgers, handed out and gathered.
 
-ghost use Rattle.std.specs.Prelude.{◌≡◌, ◌+◌, ◌*◌, ◌≤◌, vec_len, IfOk, OnOk};
+ghost use Rattle.std.specs.Prelude.{◌≡◌, ◌+◌, ◌*◌, ◌≤◌, ◌++◌, vec_len, IfOk, OnOk};
 ghost use Rattle.close_audit.specs.Keeping.{receipts_kept};
 ghost use Rattle.lock_scopes.specs.Ledgers.{most_commits};
+ghost use Rattle.workers.specs.Inner.Fetches.{AreGathered};
 ghost use Rattle.workers.specs.Ledgers.{commits_in, acts_in};
 
 use crate::tallied::{BlankPart, Tallied};
-use close_audit::{CloseFault, Kept};
-use lock_scopes::{CountedUnit, Part};
+use close_audit::{CloseFault, ClosedQueues, Kept};
+use lock_scopes::{CountedUnit, KeptQueue, Part};
+use phases::Note;
 use std::alloc::{AllocError, Global};
 use std::sync::Mutex;
 use std::sync::ledger::{Ledger, Share};
@@ -94,4 +96,50 @@ pub(crate) fn kept_of<W: Ledger>(
         share.merge(counted);
     }
     Ok(all)
+}
+
+/// Appends notes.
+fn append(theirs: Vec<Note>, notes: &mut Vec<Note>) -> Result<(), AllocError>
+    ensures { OnOk result (notes.new.items ≡ notes.old.items ++ theirs.items) }
+{
+    for note in theirs {
+        if notes.push(note).is_err() {
+            return Err(AllocError);
+        }
+    }
+    Ok(())
+}
+
+/// Takes queues out of their locks, with their notes Direct and what their fetches left. `Outstanding` where an answer
+/// was decided and not given in the hold of its fetch, which never happens; `NoMemory` where a growth was refused.
+pub(crate) fn queues_of(
+    alloc: Global,
+    locks: Vec<Mutex<KeptQueue>>,
+) -> Result<ClosedQueues, CloseFault>
+    ensures count { IfOk result (λ closed. vec_len closed.queues ≡ vec_len locks) }
+    ensures gathered { IfOk result (λ closed. AreGathered closed.queues.items closed.fetched.items closed.notes.items) }
+{
+    let (Ok(mut queues), Ok(mut fetched)) = (
+        Vec::with_capacity(alloc, locks.len()),
+        Vec::with_capacity(alloc, locks.len()),
+    ) else {
+        return Err(CloseFault::NoMemory);
+    };
+    let mut notes = Vec::new(alloc);
+    for lock in locks {
+        let (queue, theirs, left, unanswered) = lock.into_inner().into_parts();
+        if let Some(ticket) = unanswered {
+            return Err(CloseFault::Outstanding(ticket));
+        }
+        let Ok(()) = append(theirs, &mut notes) else {
+            return Err(CloseFault::NoMemory);
+        };
+        queues.push_reserved(queue);
+        fetched.push_reserved(left);
+    }
+    Ok(ClosedQueues {
+        queues,
+        notes,
+        fetched,
+    })
 }

@@ -9,7 +9,7 @@ ghost use Rattle.workers.specs.Ledgers.{Opens};
 
 use crate::alone::unshared;
 use crate::crew::{Crew, hire};
-use crate::gathering::{kept_of, split_off, units_of};
+use crate::gathering::{kept_of, queues_of, split_off, units_of};
 use crate::hired::{Begins, Worked, Works};
 use crate::opening::{Ledgers, open_parts};
 use crate::operating::{reset, resize};
@@ -207,6 +207,7 @@ impl<G: Gate + Drop, C: Ledger, W: Ledger> Host<G, C, W> {
     ghost use Rattle.workers.specs.Resetting.{WasReset};
     ghost use Rattle.workers.specs.Resizing.{ResizeFails, WasResized};
     ghost use Rattle.request_intake.specs.Inventory.{address_of};
+    ghost use Rattle.workers.specs.Fetches.{AreDecided};
     ghost use Rattle.workers.specs.Ledgers.{Opens, commits_in, acts_in};
     ghost use Rattle.workers.specs.Extent.{address_at, with_act};
     ghost use Rattle.lock_scopes.specs.Acts.{reset_of, resize_of};
@@ -335,11 +336,12 @@ impl<G: Gate + Drop, C: Ledger, W: Ledger> Host<G, C, W> {
     {
         let queue = self.shared.queues.get(queue as usize)?;
         let held = hold(rt, queue);
+        let queue = held.queue();
         Some(Seen {
-            accepted: held.log().accepted(),
-            used: held.log().used(),
-            notices: held.notices(),
-            broken: held.fault(),
+            accepted: queue.log().accepted(),
+            used: queue.log().used(),
+            notices: queue.notices(),
+            broken: queue.fault(),
         })
     }
 
@@ -352,6 +354,7 @@ impl<G: Gate + Drop, C: Ledger, W: Ledger> Host<G, C, W> {
         ensures queues { IfOk result (λ r. vec_len r.queues ≡ self.queues) }
         ensures even { IfOk result (λ r. commits_in r.units.items ≡ vec_len r.receipts) }
         ensures acts { IfOk result (λ r. acts_in r.units.items ≡ length self.acts) }
+        ensures direct { IfOk result (λ r. AreDecided r.queues.items r.fetched.items r.notes.items) }
     {
         self.shared.abandon();
         self.close(rt)
@@ -370,12 +373,17 @@ impl<G: Gate + Drop, C: Ledger, W: Ledger> Host<G, C, W> {
     /// The Commits of all units are as many as the receipts, and the hard resets and resizes in their histories as many as
     /// the operator's acts. The two ledgers prove that, where no look at the report could tell. So no unit's lock was
     /// given a history with fewer Commits or acts than it had lent.
+    ///
+    /// The notes Direct are exactly those of the requests for which their fetch decided the answer. So no request that
+    /// was to enter its unit is answered without it and passes as decided. The report tells in proofs what each fetch
+    /// left.
     pub fn close<R: Threads + Wait>(self, rt: &R) -> Result<Report, CloseFault>
         ensures report { IfOk result (λ r. IsReport self.units r.units.items r.queues.items r.receipts.items r.notes.items) }
         ensures units { IfOk result (λ r. vec_len r.units ≡ length self.units) }
         ensures queues { IfOk result (λ r. vec_len r.queues ≡ self.queues) }
         ensures even { IfOk result (λ r. commits_in r.units.items ≡ vec_len r.receipts) }
         ensures acts { IfOk result (λ r. acts_in r.units.items ≡ length self.acts) }
+        ensures direct { IfOk result (λ r. AreDecided r.queues.items r.fetched.items r.notes.items) }
     {
         let Host {
             alloc,
@@ -413,7 +421,8 @@ impl<G: Gate + Drop, C: Ledger, W: Ledger> Host<G, C, W> {
         let kept = kept_of(alloc, all, &mut receipts)?;
         acts.audit(&mut counted);
         book.audit(&mut receipts);
-        let memory = memory.into_inner();
-        report_closed(alloc, specs.as_slice(), units, queues, memory, kept)
+        let closed = queues_of(alloc, queues)?;
+        let memory = memory.into_inner().into_inner();
+        report_closed(alloc, specs.as_slice(), units, closed, memory, kept)
     }
 }

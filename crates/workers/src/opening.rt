@@ -10,7 +10,7 @@ use config::{Config, MOST_DESCRIPTORS, form};
 use event_queue::EventPort;
 use foundation::NoMemory;
 use guest_mem::GuestMem;
-use lock_scopes::{CountedUnit, Part};
+use lock_scopes::{CountedUnit, KeptQueue, Part};
 use request_intake::{Inventory, UnitSpec};
 use ring_core::{Form, Layout};
 use std::alloc::Global;
@@ -80,7 +80,7 @@ fn open_queues(
     features: u64,
     layouts: &[Layout],
     memory: &GuestMem,
-) -> Result<Vec<Mutex<Queue>>, NoMemory>
+) -> Result<Vec<Mutex<KeptQueue>>, NoMemory>
     requires few { length layouts.now ≤ 18 }
     requires placed { list_all (is_queue form (length memory.now)) layouts.now ≡ true }
     ensures { IfOk result (λ queues. vec_len queues ≡ length layouts.now) }
@@ -95,7 +95,7 @@ fn open_queues(
             features,
             memory,
         )?;
-        queues.push_reserved(Mutex::new(queue));
+        queues.push_reserved(Mutex::new(KeptQueue::new(alloc, queue)));
     }
     Ok(queues)
 }

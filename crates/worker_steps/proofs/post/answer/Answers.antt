@@ -1,6 +1,6 @@
 use Rattle.std.proofs.Common.{refl, sym, subst}
 use Rattle.worker_steps.specs.Tallying.{Tallies}
-use Rattle.worker_steps.proofs.Tallying.{answer_tallies}
+use Rattle.worker_steps.proofs.Tallying.{answer_tallies, given_undirected}
 use Rattle.worker_steps.proofs.post.answer.Goals as goal
 use Rattle.worker_steps.proofs.post.answer.Goals.{in-Some-answer_on, in-None}
 
@@ -14,3 +14,7 @@ returns-clause-tally g c = elim c.match-answer_on.branch [
       subst (λ p. Tallies p.lost p.part.share.amount p.kept p.hand) (sym w.post-is) even
   | in-None w ↦ subst (λ p. Tallies p.lost p.part.share.amount p.kept p.hand) (sym w.post-is) refl
 ]
+
+-- it is what the hand had to give
+pub keep-requires-clause-undirected : goal.keep-requires-clause-undirected
+keep-requires-clause-undirected g c = given_undirected _ _ c.in-Some-answer_on.ensures.gives

@@ -1,6 +1,6 @@
 use Rattle.std.proofs.Common.{◌≡◌, ℕ, ◌≤◌, slice_get, vec_len}
 use Rattle.close_audit.specs.Keeping.{reply_in}
-use Rattle.close_audit.proofs.kept.make_slots.Given as goal
+use Rattle.close_audit.proofs.replies.make_slots.Given as goal
 
 abbrev pub invariant-loop-number : goal.invariant-loop-number
 invariant-loop-number l =

@@ -2,7 +2,7 @@ use Rattle.std.proofs.Common.{◌≡◌, ℕ, ◌%◌, List, length, set, sym, �
 use Rattle.unit_model.specs.Receipts.{Receipt}
 use Rattle.close_audit.specs.Keeping.{receipts_of, KeepsReceipt}
 use Rattle.close_audit.proofs.Keeping.{keeps_one}
-use Rattle.close_audit.proofs.kept.keep_receipt.Goals as goal
+use Rattle.close_audit.proofs.replies.keep_receipt.Goals as goal
 
 pub returns : goal.returns
 returns c =
