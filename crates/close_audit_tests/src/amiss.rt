@@ -195,6 +195,7 @@ pub(crate) fn fault_of(alloc: Global, amiss: Amiss) -> Option<Option<CloseFault>
         memory: closed.parts.memory,
         receipts: closed.receipts,
         notes: closed.notes,
+        fetched: Vec::new(alloc),
     };
     if report.queues.len() > 65536 {
         return None;

@@ -1,6 +1,7 @@
 -- Which phases take a chain of a request queue, and what is known of the fetches behind them.
 use Rattle.std.proofs.Common.{◌≡◌, ℕ, zero, suc, ◌+◌, ◌<◌, ◌≤◌, Bool, true, false, List, [], ◌∷◌, ◌++◌, length, map, Option, Some, None, slice_get, Result, Ok, Err, refl, sym, subst, ap, ◌∙◌, inl, inr, ◌⊎◌, arith}
-use Rattle.std.proofs.lemmas.List.{map-append, length-map}
+use Rattle.std.proofs.lemmas.List.{map-append, length-map, append-nil}
+use Rattle.std.proofs.lemmas.List.Elements.{filter_map-append}
 use Rattle.foundation.specs.declared.NoMemory.{NoMemory}
 use Rattle.scsi_codec.specs.declared.lun.Address.{Address}
 use Rattle.scsi_codec.specs.declared.event_queue.Event.{Event as EventRecord}
@@ -16,7 +17,7 @@ use Rattle.phases.specs.declared.slot.Slot as declared_slot
 use Rattle.phases.specs.declared.slot.Slot.TheVariants as slot
 use Rattle.phases.specs.declared.note.Cause.TheVariants as cause
 use Rattle.phases.specs.Notes.{PlainNote, note_of}
-use Rattle.phases.specs.DirectChain.{note_in}
+use Rattle.phases.specs.DirectChain.{note_in, cause_for}
 use Rattle.phases.specs.Slots.{slot_of, is_direct}
 use Rattle.phases.specs.Queue.{with_slot}
 use Rattle.phases.specs.DoingQueue.{DoesQueue}
@@ -25,7 +26,7 @@ use Rattle.phases.specs.Direct.{Directs, Responds, RespondsWhere}
 use Rattle.phases.specs.Answering.{Answers}
 use Rattle.phases.specs.EventQueue.{FetchesEvent, IsEventFetch, DoesAtPort, RaisesTo, RaisesNext}
 use Rattle.lock_scopes.specs.Lending.{TakesNone}
-use Rattle.lock_scopes.specs.Fetches.{ticket_in, ticket_left, ticket_of, IsDecided, KeepsFetches, AreNoted}
+use Rattle.lock_scopes.specs.Fetches.{ticket_in, ticket_left, ticket_of, note_left, notes_left, IsDecided, KeepsFetches, AreNoted}
 use Rattle.lock_scopes.specs.Inner.Fetches.{Loses, with_left, with_fetch, with_note, with_answer}
 use Rattle.lock_scopes.specs.Joined.{Fills}
 
@@ -139,10 +140,11 @@ push_here : {X : Type 0} (xs : List X) (y : X) → slice_get (xs ++ y ∷ []) (l
 push_here [] y = refl
 push_here (x ∷ xs) y = push_here xs y
 
-push_before : {X : Type 0} (xs : List X) (y x : X) (k : ℕ) → slice_get xs k ≡ Some x → slice_get (xs ++ y ∷ []) k ≡ Some x
-push_before [] y x k e = cc
-push_before (z ∷ xs) y x zero e = e
-push_before (z ∷ xs) y x (suc k) e = push_before xs y x k e
+left_before : (xs : List declared_slot.Slot) (y : declared_slot.Slot) (n : PlainNote) (k : ℕ) → note_left (slice_get xs k) ≡ Some n
+    → note_left (slice_get (xs ++ y ∷ []) k) ≡ Some n
+left_before [] y n k e = cc
+left_before (z ∷ xs) y n zero e = e
+left_before (z ∷ xs) y n (suc k) e = left_before xs y n k e
 
 at_push : {X : Type 0} (xs : List X) (y x : X) (k : ℕ) → slice_get (xs ++ y ∷ []) k ≡ Some x → (slice_get xs k ≡ Some x) ⊎ (x ≡ y)
 at_push [] y x zero e = inr cc
@@ -210,8 +212,9 @@ module _ (q r : BareQueue) (fetched : List declared_slot.Slot) (notes : List Pla
             ∙ ap (λ (z : Option Ticket). map ticket_of q.ring.log.accepted ++ z ∷ []) f.ticket
             ∙ sym (map-append ticket_of q.ring.log.accepted (next_ticket q.ring ∷ []))
             ∙ ap (map ticket_of) (sym f.accepted);
-        decided = λ i n there. let d = k.decided i n there in
-            record { direct = d.direct; slot = d.slot; left = push_before fetched s d.slot n.ticket.number d.left; decided = d.decided };
+        decided = λ i n there.
+            let d = k.decided i n there in
+            record { direct = d.direct; decided = left_before fetched s n n.ticket.number d.decided };
         of_queue = λ i n there. k.of_queue i n there ∙ sym f.number;
       }
 
@@ -230,9 +233,7 @@ module _ (q r : BareQueue) (fetched : List declared_slot.Slot) (notes : List Pla
       let is = f.noted n e in
       record {
         direct = ap (λ (z : PlainNote). z.cause) is;
-        slot = s;
-        left = ap (λ (i : ℕ). slice_get (fetched ++ s ∷ []) i) (ap (λ (z : PlainNote). z.ticket.number) is ∙ sym as_many) ∙ push_here fetched s;
-        decided = e;
+        decided = ap note_left (ap (λ (i : ℕ). slice_get (fetched ++ s ∷ []) i) (ap (λ (z : PlainNote). z.ticket.number) is ∙ sym as_many) ∙ push_here fetched s) ∙ e;
       }
 
 -- nor where it took none
@@ -336,53 +337,76 @@ fills inventory m q r s s' (Err refused) empty e =
     same_bare q r s s' e = ap (λ (z : PlainQueue). record { ring = z.ring; notices = z.notices }) e
 
 -- The notes of what was decided, too.
-noted_more : (lost after : Option Ticket) (fetched : List declared_slot.Slot) (notes : List PlainNote) (n : PlainNote) → AreNoted lost fetched notes
-    → (after ≡ None → lost ≡ None) → AreNoted after fetched (notes ++ n ∷ [])
-noted_more lost after fetched notes n old loses none i s m there e =
-    let (j, at) = old (loses none) i s m there e in
-    (j, push_before notes n m j at)
+abbrev left_of : declared_slot.Slot → Option PlainNote
+left_of s = note_in (slot_of s)
 
-noted_note : (lost after : Option Ticket) (fetched : List declared_slot.Slot) (notes : List PlainNote) (o : Option PlainNote) → AreNoted lost fetched notes
-    → (after ≡ None → lost ≡ None) → AreNoted after fetched (with_note o notes)
-noted_note lost after fetched notes None old loses none = old (loses none)
-noted_note lost after fetched notes (Some n) old loses none = noted_more lost after fetched notes n old loses none
-
-noted_answer : (lost after : Option Ticket) (fetched : List declared_slot.Slot) (notes : List PlainNote) (a : Bool) (s : Slot) → AreNoted lost fetched notes
-    → (after ≡ None → lost ≡ None) → AreNoted after fetched (with_answer a s notes)
-noted_answer lost after fetched notes true s old loses none = noted_note lost after fetched notes (note_in s) old loses none
-noted_answer lost after fetched notes false s old loses none = old (loses none)
-
--- one more fetch, of which the note is there if it has one
-noted_one : (after : Option Ticket) (fetched : List declared_slot.Slot) (notes : List PlainNote) (s : declared_slot.Slot) → AreNoted after fetched notes
-    → (after ≡ None → (n : PlainNote) → note_in (slot_of s) ≡ Some n → (j : ℕ) × (slice_get notes j ≡ Some n))
-    → AreNoted after (fetched ++ s ∷ []) notes
-noted_one after fetched notes s old new none i o n there e = by_place (at_push fetched s o i there)
-  where
-    by_place : (slice_get fetched i ≡ Some o) ⊎ (o ≡ s) → (j : ℕ) × (slice_get notes j ≡ Some n)
-    by_place (inl was) = old none i o n was e
-    by_place (inr is) = new none n (ap (λ (z : declared_slot.Slot). note_in (slot_of z)) (sym is) ∙ e)
-
+-- a chain that a fetch left has its note where it was answered
 noted_left : (lost after : Option Ticket) (fetched : List declared_slot.Slot) (notes : List PlainNote) (a : Bool) (s : declared_slot.Slot)
     → AreNoted lost fetched notes → Loses lost (is_direct (slot_of s)) a after
-    → AreNoted after (with_left s fetched) (with_answer a (slot_of s) notes)
-noted_left lost after fetched notes a slot.Empty old loses =
-    noted_answer lost after fetched notes a (slot_of slot.Empty) old (λ none. (loses none).0)
-noted_left lost after fetched notes a (slot.Arrived x) old loses =
-    noted_one after fetched (with_answer a (slot_of (slot.Arrived x)) notes) (slot.Arrived x)
-    (noted_answer lost after fetched notes a (slot_of (slot.Arrived x)) old (λ none. (loses none).0))
-    (λ none n e. cc)
-noted_left lost after fetched notes true (slot.Direct c) old loses =
-    noted_one after fetched (with_answer true (slot_of (slot.Direct c)) notes) (slot.Direct c)
-    (noted_answer lost after fetched notes true (slot_of (slot.Direct c)) old (λ none. (loses none).0))
-    (λ none n e. (length notes, push_here notes _ ∙ e))
+    → (after ≡ None → with_answer a (slot_of s) notes ≡ notes_left (with_left s fetched))
+noted_left lost after fetched notes true slot.Empty old loses none = old (loses none).0
+noted_left lost after fetched notes false slot.Empty old loses none = old (loses none).0
+noted_left lost after fetched notes true (slot.Arrived x) old loses none =
+    old (loses none).0 ∙ sym (append-nil (notes_left fetched)) ∙ sym (filter_map-append left_of fetched (slot.Arrived x ∷ []))
+noted_left lost after fetched notes false (slot.Arrived x) old loses none =
+    old (loses none).0 ∙ sym (append-nil (notes_left fetched)) ∙ sym (filter_map-append left_of fetched (slot.Arrived x ∷ []))
+noted_left lost after fetched notes true (slot.Direct c) old loses none =
+    ap (λ (z : List PlainNote). z ++ note_of c.chain.ticket (cause_for c.outcome) ∷ []) (old (loses none).0)
+    ∙ sym (filter_map-append left_of fetched (slot.Direct c ∷ []))
 noted_left lost after fetched notes false (slot.Direct c) old loses none = absurd (unlike ((loses none).1 refl))
   where
     unlike : false ≡ true → ⊥
     unlike e = cc
 
-pub noted_fetch : (lost after : Option Ticket) (fetched : List declared_slot.Slot) (notes : List PlainNote) (a : Bool) (s : declared_slot.Slot)
-    (b : Result Bool NoMemory) → AreNoted lost fetched notes → Loses lost (is_direct (slot_of s)) a after
-    → AreNoted after (with_fetch b s fetched) (with_answer a (slot_of s) notes)
-noted_fetch lost after fetched notes a s (Ok true) old loses = noted_left lost after fetched notes a s old loses
-noted_fetch lost after fetched notes a s (Ok false) old loses = noted_answer lost after fetched notes a (slot_of s) old (λ none. (loses none).0)
-noted_fetch lost after fetched notes a s (Err refused) old loses = noted_answer lost after fetched notes a (slot_of s) old (λ none. (loses none).0)
+-- where nothing was fetched, nothing is answered
+noted_none : (lost after : Option Ticket) (fetched : List declared_slot.Slot) (notes : List PlainNote) (a : Bool) (s : Slot) (q r : BareQueue)
+    (m n : List ℕ) (s' : Slot) → AreNoted lost fetched notes → (after ≡ None → lost ≡ None) → s ≡ Slot.Empty → Directs s q m a r n s'
+    → (after ≡ None → with_answer a s notes ≡ notes_left fetched)
+noted_none lost after fetched notes true s q r m n s' old loses empty did none = absurd (answers_no_empty s q m r n s' empty did)
+noted_none lost after fetched notes false s q r m n s' old loses empty did none = old (loses none)
+
+pub noted_take : (inventory : List Address) (lost after : Option Ticket) (fetched : List declared_slot.Slot) (notes : List PlainNote) (a : Bool)
+    (s : declared_slot.Slot) (b : Result Bool NoMemory) (q p r : BareQueue) (m n : List ℕ) (s' : Slot) → AreNoted lost fetched notes
+    → Loses lost (is_direct (slot_of s)) a after → FetchesRequest inventory m (with_slot Slot.Empty q) b (with_slot (slot_of s) p)
+    → Directs (slot_of s) p m a r n s' → AreNoted after (with_fetch b s fetched) (with_answer a (slot_of s) notes)
+noted_take inventory lost after fetched notes a s (Ok true) q p r m n s' old loses e did = noted_left lost after fetched notes a s old loses
+noted_take inventory lost after fetched notes a s (Ok false) q p r m n s' old loses e did =
+    noted_none lost after fetched notes a (slot_of s) p r m n s' old (λ none. (loses none).0) (ap (λ (z : PlainQueue). z.slot) e.0) did
+noted_take inventory lost after fetched notes a s (Err refused) q p r m n s' old loses e did =
+    noted_none lost after fetched notes a (slot_of s) p r m n s' old (λ none. (loses none).0) (ap (λ (z : PlainQueue). z.slot) e.0) did
+
+pub noted_fetch : (lost after : Option Ticket) (fetched : List declared_slot.Slot) (notes : List PlainNote) (s : declared_slot.Slot)
+    (b : Result Bool NoMemory) → AreNoted lost fetched notes → Loses lost (is_direct (slot_of s)) false after
+    → AreNoted after (with_fetch b s fetched) notes
+noted_fetch lost after fetched notes s (Ok true) old loses none = noted_left lost after fetched notes false s old loses none
+noted_fetch lost after fetched notes s (Ok false) old loses none = old (loses none).0
+noted_fetch lost after fetched notes s (Err refused) old loses none = old (loses none).0
+
+-- What a fetch left, once it was recorded.
+pub fetch_kept : (inventory : List Address) (m : List ℕ) (q r : BareQueue) (fetched fetched' : List declared_slot.Slot) (notes : List PlainNote)
+    (lost after : Option Ticket) (s : Slot) (s' : declared_slot.Slot) (b : Result Bool NoMemory) (direct : Bool) → KeepsFetches q fetched notes
+    → AreNoted lost fetched notes → FetchesRequest inventory m (with_slot s q) b (with_slot (slot_of s') r)
+    → fetched' ≡ with_fetch b s' fetched → direct ≡ is_direct (slot_of s') → Loses lost direct false after
+    → KeepsFetches r fetched' notes × AreNoted after fetched' notes
+fetch_kept inventory m q r fetched fetched' notes lost after s s' b direct k old e recorded is loses = (
+  subst (λ (z : List declared_slot.Slot). KeepsFetches r z notes) (sym recorded) (keeps_fetch inventory m q r fetched notes s s' b k e),
+  subst (λ (z : List declared_slot.Slot). AreNoted after z notes) (sym recorded)
+      (noted_fetch lost after fetched notes s' b old (subst (λ (z : Bool). Loses lost z false after) is loses)),
+)
+
+-- and once it was answered, too
+pub take_kept : (inventory : List Address) (m n : List ℕ) (q p r : BareQueue) (fetched fetched' : List declared_slot.Slot)
+    (notes room notes' : List PlainNote) (lost after : Option Ticket) (s : Slot) (left : declared_slot.Slot) (s' : Slot)
+    (b : Result Bool NoMemory) (a direct told : Bool) → s ≡ Slot.Empty → KeepsFetches q fetched notes → AreNoted lost fetched notes
+    → FetchesRequest inventory m (with_slot s q) b (with_slot (slot_of left) p) → Directs (slot_of left) p m a r n s'
+    → fetched' ≡ with_fetch b left fetched → room ≡ notes → notes' ≡ with_answer a (slot_of left) room → direct ≡ is_direct (slot_of left)
+    → told ≡ a → Loses lost direct told after → KeepsFetches r fetched' notes' × AreNoted after fetched' notes'
+take_kept inventory m n q p r fetched fetched' notes room notes' lost after s left s' b a direct told empty k old e did recorded same noted is is_told loses =
+    let fetches = subst (λ (z : Slot). FetchesRequest inventory m (with_slot z q) b (with_slot (slot_of left) p)) empty e in
+    let now : notes' ≡ with_answer a (slot_of left) notes = noted ∙ ap (λ (z : List PlainNote). with_answer a (slot_of left) z) same in
+    let losing = subst (λ (z : Bool). Loses lost z a after) is (subst (λ (z : Bool). Loses lost direct z after) is_told loses) in (
+      subst (λ (z : List declared_slot.Slot). KeepsFetches r z notes') (sym recorded)
+          (subst (λ (z : List PlainNote). KeepsFetches r (with_fetch b left fetched) z) (sym now) (keeps_take q p r fetched notes m n s' k inventory a left b fetches did)),
+      subst (λ (z : List declared_slot.Slot). AreNoted after z notes') (sym recorded)
+          (subst (λ (z : List PlainNote). AreNoted after (with_fetch b left fetched) z) (sym now) (noted_take inventory lost after fetched notes a left b q p r m n s' old losing fetches did)),
+    )

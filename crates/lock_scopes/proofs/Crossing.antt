@@ -61,6 +61,7 @@ use Rattle.ring_core.specs.contracts.log.QueueLog.TheInside as log
 use Rattle.std.specs.declared.sync.ledger.Ledger.{Ghosts}
 use Rattle.std.proofs.sync.ledger.Share.TheSendSync as share
 use Rattle.phases.proofs.note.Note.TheSendSync as note
+use Rattle.ring_core.specs.contracts.log.Ticket.{the_row as ticket_row}
 use Rattle.lock_scopes.specs.contracts.kept_queue.KeptQueue.{the_row as kept_queue_row, the_field as kept_queue_field, the_type as kept_queue_type}
 use Rattle.lock_scopes.specs.contracts.counted.CountedUnit.{the_row as counted_unit_row, the_field as counted_unit_field, the_type as counted_unit_type}
 use Rattle.lock_scopes.specs.contracts.part.Part.{the_field as part_field, the_type as part_type}
@@ -177,7 +178,7 @@ pub queue_sends : IsSend queue_row
 queue_sends = search (sendable, queue_fields)
 
 kept_queue_fields : IsSend kept_queue_field.row
-kept_queue_fields = struct_send (shape kept_queue_type) (queue_sends, (search (crosses, note.the_send), (search crosses depth 30, tt)))
+kept_queue_fields = struct_send (shape kept_queue_type) (queue_sends, (search (crosses, note.the_send), (search crosses depth 30, (option_sends ticket_row (search sendable depth 20), tt))))
 
 pub kept_queue_sends : IsSend kept_queue_row
 kept_queue_sends = recorded_send kept_queue_field.row _ _ kept_queue_type.to_one kept_queue_fields

@@ -1,5 +1,6 @@
 -- What the fetches of a queue left in its slot, and the notes Direct of its requests.
 use Rattle.std.specs.Prelude.{ℕ, ◌≡◌, ◌≤◌, List, map, Option, Some, None, slice_get}
+use Rattle.std.specs.List.{filter_map}
 use Rattle.ring_core.specs.declared.log.Ticket.{Ticket}
 use Rattle.virtqueue.specs.Queue.{BareQueue}
 use Rattle.device_model.specs.Parts.{Slot}
@@ -21,12 +22,15 @@ ticket_left s = ticket_in (slot_of s)
 abbrev pub ticket_of : Ticket → Option Ticket
 ticket_of t = Some t
 
--- own: a note is Direct, and of the chain of its number: the fetch of that left it in the slot with its answer decided
+-- own: the note of the chain that a fetch left with its answer, if there is one
+abbrev pub note_left : Option declared_slot.Slot → Option PlainNote
+note_left None = None
+note_left (Some s) = note_in (slot_of s)
+
+-- own: a note is Direct, and of the chain of its number: the fetch of that left it with its answer decided
 pub record IsDecided (fetched : List declared_slot.Slot) (n : PlainNote) : Type 0 where
   pub direct : n.cause ≡ cause.Direct
-  pub slot : declared_slot.Slot
-  pub left : slice_get fetched n.ticket.number ≡ Some slot
-  pub decided : note_in (slot_of slot) ≡ Some n
+  pub decided : note_left (slice_get fetched n.ticket.number) ≡ Some n
 
 -- own: each accepted chain of a request queue (queues 2 and up, VIRTIO 1.2, 5.6.2) is fetched once, and in order; each
 -- note Direct is of a chain of this queue, for which the fetch of that chain decided the answer
@@ -35,8 +39,10 @@ pub record KeepsFetches (q : BareQueue) (fetched : List declared_slot.Slot) (not
   pub decided : (k : ℕ) (n : PlainNote) → slice_get notes k ≡ Some n → IsDecided fetched n
   pub of_queue : (k : ℕ) (n : PlainNote) → slice_get notes k ≡ Some n → n.ticket.queue ≡ q.ring.queue
 
--- own: unless a ticket is lost, each chain for which its fetch decided the answer has its note
+-- own: the notes of what fetches left with its answer, in order
+abbrev pub notes_left : List declared_slot.Slot → List PlainNote
+notes_left fetched = filter_map (λ (s : declared_slot.Slot). note_in (slot_of s)) fetched
+
+-- own: unless a ticket is lost, each chain for which its fetch decided the answer has its note, and there is no other
 abbrev pub AreNoted : Option Ticket → List declared_slot.Slot → List PlainNote → Type 0
-AreNoted lost fetched notes =
-    lost ≡ None → (k : ℕ) (s : declared_slot.Slot) (n : PlainNote) → slice_get fetched k ≡ Some s
-    → note_in (slot_of s) ≡ Some n → (j : ℕ) × (slice_get notes j ≡ Some n)
+AreNoted lost fetched notes = lost ≡ None → notes ≡ notes_left fetched

@@ -11,6 +11,9 @@
 //! at a unit. An act is counted in the hold in which that unit's history goes on by it; by visibility, only
 //! `hard_on` and `resize_on` of `lock_scopes` add one. A report has as many hard resets and resizes, of all units
 //! together, as acts were made. A function never makes a hard reset.
+//!
+//! The notes Direct of a report are exactly those of the requests for which their own fetch decided the answer. So
+//! none is of a request that was to enter its unit.
 #![tactic(auto)]
 
 mod alone;

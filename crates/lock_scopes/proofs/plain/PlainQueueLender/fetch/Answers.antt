@@ -4,7 +4,7 @@ use Rattle.lock_scopes.proofs.plain.PlainQueueLender.fetch.Goals as goal
 
 -- what the fetch did to the queue
 pub returns-clause-did : goal.returns-clause-did
-returns-clause-did g c = (
+returns-clause-did c = (
   _,
   _,
   _,
