@@ -1,11 +1,13 @@
 -- What is gathered of queues, and what a report has of that.
 use Rattle.std.proofs.Common.{◌≡◌, ℕ, zero, suc, ◌+◌, ◌<◌, ◌≤◌, List, [], ◌∷◌, ◌++◌, length, map, Option, Some, None, slice_get, Result, Ok, Err, refl, sym, subst, ap, ◌∙◌, inl, inr, ◌⊎◌, arith}
 use Rattle.std.specs.Prelude.{IfOk}
-use Rattle.std.proofs.lemmas.List.{length-append, append-nil}
+use Rattle.std.specs.List.{cons_option}
+use Rattle.std.proofs.lemmas.List.{length-append}
 use Rattle.std.proofs.lemmas.Option.{slice_get_within}
 use Rattle.foundation.specs.declared.record.Record.{Record}
 use Rattle.ring_core.specs.declared.log.Ticket.{Ticket}
 use Rattle.request_intake.specs.declared.inventory.UnitSpec.{UnitSpec}
+use Rattle.unit_model.specs.Jobs.{PlainJob}
 use Rattle.virtqueue.specs.Queue.{BareQueue}
 use Rattle.phases.specs.declared.slot.Slot.{Slot}
 use Rattle.phases.specs.declared.slot.Slot.TheVariants as slot
@@ -13,7 +15,7 @@ use Rattle.phases.specs.Slots.{slot_of}
 use Rattle.phases.specs.Notes.{PlainNote}
 use Rattle.phases.specs.DirectChain.{note_in}
 use Rattle.phases.specs.declared.note.Cause.TheVariants as cause
-use Rattle.lock_scopes.specs.Fetches.{ticket_left, ticket_of, IsDecided, KeepsFetches, AreNoted}
+use Rattle.lock_scopes.specs.Fetches.{ticket_left, ticket_of, note_left, notes_left, IsDecided, KeepsFetches, AreNoted}
 use Rattle.close_audit.specs.Keeping.{notes_of_all}
 use Rattle.close_audit.specs.Undirected.{AreUndirected}
 use Rattle.close_audit.specs.Opened.{AreInPlace}
@@ -62,6 +64,17 @@ within (x ∷ xs) (suc k) e = within xs k (omega (arith, e))
 
 some_is : {X : Type 0} {x y : X} → Some x ≡ Some y → x ≡ y
 some_is e = cc
+
+-- the note of what a fetch left is among those of all
+in_left : (fetched : List Slot) (i : ℕ) (s : Slot) (n : PlainNote) → slice_get fetched i ≡ Some s → note_in (slot_of s) ≡ Some n
+    → (j : ℕ) × (slice_get (notes_left fetched) j ≡ Some n)
+in_left [] i s n there e = cc
+in_left (l ∷ fetched) zero s n there e = (zero, ap (λ (z : Option PlainNote). slice_get (cons_option z (notes_left fetched)) zero) (ap (λ (z : Slot). note_in (slot_of z)) (some_is there) ∙ e))
+in_left (l ∷ fetched) (suc i) s n there e = let (j, at) = in_left fetched i s n there e in further (note_in (slot_of l)) j at
+  where
+    further : (o : Option PlainNote) (j : ℕ) → slice_get (notes_left fetched) j ≡ Some n → (k : ℕ) × (slice_get (cons_option o (notes_left fetched)) k ≡ Some n)
+    further None j at = (j, at)
+    further (Some m) j at = (suc j, at)
 
 -- One more queue is gathered.
 module _ (qs : List BareQueue) (fs : List (Record Slot)) (ns : List PlainNote) (q : BareQueue) (f : Record Slot) (ms : List PlainNote)
@@ -113,8 +126,8 @@ module _ (qs : List BareQueue) (fs : List (Record Slot)) (ns : List PlainNote) (
       by_place : (slice_get fs p ≡ Some h) ⊎ ((p ≡ length fs) × (h ≡ f)) → (j : ℕ) × (slice_get (ns ++ ms) j ≡ Some n)
       by_place (inl was) = let (j, at) = g.noted p i h s n was there e in (j, before ns ms n j at)
       by_place (inr is) =
-          let (j, at) = noted refl i s n (subst (λ (z : Record Slot). slice_get z.items i ≡ Some s) is.1 there) e in
-          behind ns ms n j at
+          let (j, at) = in_left f.items i s n (subst (λ (z : Record Slot). slice_get z.items i ≡ Some s) is.1 there) e in
+          behind ns ms n j (ap (λ (z : List PlainNote). slice_get z j) (noted refl) ∙ at)
 
   pub one_gathered : AreGathered (qs ++ q ∷ []) (fs ++ f ∷ []) (ns ++ ms)
   one_gathered =
@@ -154,12 +167,16 @@ module _ (qs : List BareQueue) (fs : List (Record Slot)) (ns : List PlainNote) (
       (f, left, g.each k q f there left (omega (arith, number, two)))
 
   left_there : (n : PlainNote) → IsOfOne qs fs n → (s : Slot) × (left_at fs n.ticket ≡ Some s) × (note_in (slot_of s) ≡ Some n)
-  left_there n o =
-      let place : n.ticket.queue ≡ o.place = o.of_queue ∙ in_place o.place o.queue o.there in (
-        o.decided.slot,
-        ap (λ (z : Option (Record Slot)). left_in z n.ticket.number) (ap (slice_get fs) place ∙ o.left) ∙ o.decided.left,
-        o.decided.decided,
-      )
+  left_there n o = by_slot (slice_get o.fetches.items n.ticket.number) refl o.decided.decided
+    where
+      place : n.ticket.queue ≡ o.place
+      place = o.of_queue ∙ in_place o.place o.queue o.there
+
+      by_slot : (l : Option Slot) → slice_get o.fetches.items n.ticket.number ≡ l → note_left l ≡ Some n
+          → (s : Slot) × (left_at fs n.ticket ≡ Some s) × (note_in (slot_of s) ≡ Some n)
+      by_slot None is e = cc
+      by_slot (Some s) is e =
+          (s, ap (λ (z : Option (Record Slot)). left_in z n.ticket.number) (ap (slice_get fs) place ∙ o.left) ∙ is, e)
 
   decided_there : (j : ℕ) (n : PlainNote) → slice_get (ns ++ notes_of_all all) j ≡ Some n → n.cause ≡ cause.Direct
       → (s : Slot) × (left_at fs n.ticket ≡ Some s) × (note_in (slot_of s) ≡ Some n)
@@ -192,7 +209,7 @@ module _ (qs : List BareQueue) (fs : List (Record Slot)) (ns : List PlainNote) (
             arrived_not n x (ap (λ (z : Slot). note_in (slot_of z)) (some_is (sym left ∙ at)) ∙ e);
       }
     where
-      arrived_not : (n : PlainNote) (x : _) → note_in (slot_of (slot.Arrived x)) ≡ Some n → ⊥
+      arrived_not : (n : PlainNote) (x : PlainJob) → note_in (slot_of (slot.Arrived x)) ≡ Some n → ⊥
       arrived_not n x e = cc
 
 -- and so of a report, if there is one

@@ -2,6 +2,7 @@
 use Rattle.std.specs.Prelude.{ℕ, ◌≡◌, ◌≤◌, List, map, Option, Some, None, slice_get}
 use Rattle.foundation.specs.declared.record.Record.{Record}
 use Rattle.ring_core.specs.declared.log.Ticket.{Ticket}
+use Rattle.unit_model.specs.Jobs.{PlainJob}
 use Rattle.virtqueue.specs.Queue.{BareQueue}
 use Rattle.phases.specs.declared.slot.Slot.{Slot}
 use Rattle.phases.specs.declared.slot.Slot.TheVariants as slot
@@ -32,5 +33,5 @@ pub record AreDecided (queues : List BareQueue) (fetched : List (Record Slot)) (
   pub noted : (t : Ticket) (s : Slot) (n : PlainNote) → left_at fetched t ≡ Some s → note_in (slot_of s) ≡ Some n
       → (j : ℕ) × (slice_get notes j ≡ Some n)
   -- so a request that was to enter its unit has no note Direct
-  pub arrived : (j : ℕ) (n : PlainNote) (x : _) → slice_get notes j ≡ Some n
+  pub arrived : (j : ℕ) (n : PlainNote) (x : PlainJob) → slice_get notes j ≡ Some n
       → left_at fetched n.ticket ≡ Some (slot.Arrived x) → n.cause ≡ cause.Direct → ⊥
