@@ -138,6 +138,20 @@ module _ (qs : List BareQueue) (fs : List (Record Slot)) (ns : List PlainNote) (
         noted = noted_more;
       }
 
+none_left : {X : Type 0} (o : Option X) → ((x : X) → o ≡ Some x → ⊥) → o ≡ None
+none_left None without = refl
+none_left (Some x) without = absurd (without x refl)
+
+-- the same of what stands there then, where the queue lost no ticket
+pub gathered_more : (qs qs' : List BareQueue) (fs fs' : List (Record Slot)) (ns ns' : List PlainNote) (q : BareQueue) (f : Record Slot)
+    (ms : List PlainNote) (lost : Option Ticket) → AreGathered qs fs ns → KeepsFetches q f.items ms → AreNoted lost f.items ms
+    → ((t : Ticket) → lost ≡ Some t → ⊥) → qs' ≡ qs ++ q ∷ [] → fs' ≡ fs ++ f ∷ [] → ns' ≡ ns ++ ms → AreGathered qs' fs' ns'
+gathered_more qs qs' fs fs' ns ns' q f ms lost g k noted without e1 e2 e3 =
+    subst (λ (z : List BareQueue). AreGathered z fs' ns') (sym e1)
+    (subst (λ (z : List (Record Slot)). AreGathered (qs ++ q ∷ []) z ns') (sym e2)
+    (subst (λ (z : List PlainNote). AreGathered (qs ++ q ∷ []) (fs ++ f ∷ []) z) (sym e3)
+    (one_gathered qs fs ns q f ms g k (λ none. noted (none_left lost without)))))
+
 pub none_gathered : AreGathered [] [] []
 none_gathered =
     record {
@@ -150,11 +164,13 @@ none_gathered =
 -- What seats kept has no note Direct.
 all_undirected : (all : List Kept) → AreUndirected (notes_of_all all)
 all_undirected [] k n e direct = cc
-all_undirected (one ∷ all) k n e direct = by_place (at_append one.notes.items (notes_of_all all) n k e)
+all_undirected (one ∷ all) k n e direct =
+    by_place (λ i later. all_undirected all i n later direct) (at_append one.notes.items (notes_of_all all) n k e)
   where
-    by_place : (slice_get one.notes.items k ≡ Some n) ⊎ ((i : ℕ) × (slice_get (notes_of_all all) i ≡ Some n)) → ⊥
-    by_place (inl e) = one.undirected k n e direct
-    by_place (inr (i, e)) = all_undirected all i n e direct
+    by_place : ((i : ℕ) → slice_get (notes_of_all all) i ≡ Some n → ⊥)
+        → (slice_get one.notes.items k ≡ Some n) ⊎ ((i : ℕ) × (slice_get (notes_of_all all) i ≡ Some n)) → ⊥
+    by_place rest (inl e) = one.undirected k n e direct
+    by_place rest (inr (i, e)) = rest i e
 
 module _ (qs : List BareQueue) (fs : List (Record Slot)) (ns : List PlainNote) (all : List Kept) (g : AreGathered qs fs ns)
     (in_place : AreInPlace qs) where

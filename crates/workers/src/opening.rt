@@ -74,7 +74,6 @@ fn open_units<C: Ledger, W: Ledger>(
 }
 
 /// Opens the queues of these layouts, each under a lock, for a driver that agreed to these features.
-#[tactic(auto, using(crate::proofs::Openings::none_accepted))]
 fn open_queues(
     alloc: Global,
     form: Form,
