@@ -7,7 +7,7 @@ use Rattle.live_mem.specs.Access.{Access, spans, loaded}
 use Rattle.live_mem.specs.Kept.{source, covers, byte_of, valued, AreKept, IsFree}
 use Rattle.live_mem.specs.Inner.Kept.{Keeps}
 use Rattle.live_mem.specs.declared.span.Span.{Span}
-use Rattle.live_mem.proofs.Spans.{In, Out, lies, valued_push, valued_more, valued_next, longer}
+use Rattle.live_mem.proofs.Spans.{In, Out, lies, valued_push, valued_more, valued_next, valued_again, longer}
 
 -- the bytes of a span that was kept last
 last_byte : (kept out : List ℕ) (n : ℕ) → get_or (kept ++ out) (length kept + n) 0 ≡ get_or out n 0
@@ -82,17 +82,36 @@ module _ (ss new_ss : List Span) (kept new_kept : List ℕ) (addr : ℕ) (out : 
   free_stays low high low' high' free le ge apart = λ p d l h.
       outside p d (apart p l h) ∙ free p d (omega (arith, le, l)) (omega (arith, ge, h))
 
-  pub kept_loaded : (log : List Access) (fresh : List ℕ) → length fresh ≡ length out → ((i : ℕ) → i < length out → get_or out i 0 ≡ valued ss kept (addr + i) (get_or fresh i 0))
-      → ((p d : ℕ) → valued ss kept p d ≡ loaded log p d) → (p d : ℕ) → valued new_ss new_kept p d ≡ loaded (Access.Loads addr fresh ∷ log) p d
-  kept_loaded log fresh long are faithful p d =
+  pub kept_loaded : (below : ℕ → ℕ → ℕ) (log : List Access) (fresh : List ℕ) → length fresh ≡ length out → ((i : ℕ) → i < length out → get_or out i 0 ≡ valued ss kept (addr + i) (below (addr + i) (get_or fresh i 0)))
+      → ((p d : ℕ) → valued ss kept p (below p d) ≡ loaded log p d) → (p d : ℕ) → valued new_ss new_kept p (below p d) ≡ loaded (Access.Loads addr fresh ∷ log) p d
+  kept_loaded below log fresh long are faithful p d =
       elim (lies addr (length out) p) [
         | In a b e ↦
             let n : addr + (p - addr) ≡ p = omega (arith, a) in
-            let o : get_or out (p - addr) 0 ≡ valued ss kept p (get_or fresh (p - addr) 0) =
-            are (p - addr) (omega (arith, a, b)) ∙ ap (λ (k : ℕ). valued ss kept k (get_or fresh (p - addr) 0)) n in
-            rw (long, e) (inside p d a b e ∙ o ∙ faithful p (get_or fresh (p - addr) 0))
-        | Out e ↦ rw (long, e) (outside p d e ∙ faithful p d)
+            let o : get_or out (p - addr) 0 ≡ valued ss kept p (below p (get_or fresh (p - addr) 0)) =
+            are (p - addr) (omega (arith, a, b)) ∙ ap (λ (k : ℕ). valued ss kept k (below k (get_or fresh (p - addr) 0))) n in
+            rw (long, e) (inside p (below p d) a b e ∙ o ∙ faithful p (get_or fresh (p - addr) 0))
+        | Out e ↦ rw (long, e) (outside p (below p d) e ∙ faithful p d)
       ]
+
+-- bytes that are kept by their addresses, below the spans
+pub scattered_loaded : (ss : List Span) (kept : List ℕ) (below now : ℕ → ℕ → ℕ) (addr : ℕ) (out : List ℕ) (log : List Access) (fresh : List ℕ) → length fresh ≡ length out
+    → ((i : ℕ) → i < length out → get_or out i 0 ≡ valued ss kept (addr + i) (below (addr + i) (get_or fresh i 0)))
+    → ((p d : ℕ) → now p d ≡ cond (spans addr (length out) p) (get_or out (p - addr) 0) (below p d))
+    → ((p d : ℕ) → valued ss kept p (below p d) ≡ loaded log p d) → (p d : ℕ) → valued ss kept p (now p d) ≡ loaded (Access.Loads addr fresh ∷ log) p d
+scattered_loaded ss kept below now addr out log fresh long are filled faithful p d =
+    elim (lies addr (length out) p) [
+      | In a b e ↦
+          let n : addr + (p - addr) ≡ p = omega (arith, a) in
+          let o : get_or out (p - addr) 0 ≡ valued ss kept p (below p (get_or fresh (p - addr) 0)) =
+          are (p - addr) (omega (arith, a, b)) ∙ ap (λ (k : ℕ). valued ss kept k (below k (get_or fresh (p - addr) 0))) n in
+          let f : now p d ≡ get_or out (p - addr) 0 = rw e at (filled p d) in
+          let again = valued_again ss kept p (below p (get_or fresh (p - addr) 0)) in
+          rw (long, e) (ap (valued ss kept p) (f ∙ o) ∙ again ∙ faithful p (get_or fresh (p - addr) 0))
+      | Out e ↦
+          let f : now p d ≡ below p d = rw e at (filled p d) in
+          rw (long, e) (ap (valued ss kept p) f ∙ faithful p d)
+    ]
 
 -- a part of a free range is free
 pub narrower : (ss : List Span) (kept : List ℕ) (low high low' high' : ℕ) → IsFree ss kept low high → low ≤ low' → high' ≤ high → IsFree ss kept low' high'

@@ -1,5 +1,5 @@
 -- Which address lies where, and what is kept of it.
-use Rattle.std.proofs.Common.{◌≡◌, ℕ, ◌+◌, ◌-◌, ◌<◌, ◌≤◌, List, [], ◌∷◌, ◌++◌, length, take, get_or, cond, Bool, nat_le, true, false, refl, ap, ◌∙◌, arith, inl, inr}
+use Rattle.std.proofs.Common.{◌≡◌, ℕ, ◌+◌, ◌-◌, ◌<◌, ◌≤◌, List, [], ◌∷◌, ◌++◌, length, take, get_or, cond, Bool, nat_le, true, false, refl, ap, ◌∙◌, arith, ◌⊎◌, inl, inr}
 use Rattle.std.proofs.lemmas.Bool.{cases_lt, lt-ltb, le-ltb, le-leb, lt-leb}
 use Rattle.std.proofs.lemmas.List.{get_or_append_left, take_more, length-append}
 use Rattle.std.proofs.lemmas.List.Elements.{All-head, All-tail}
@@ -60,3 +60,15 @@ valued_more (s ∷ ss) kept more p d all =
 pub valued_next : (ss : List Span) (kept : List ℕ) (p d k : ℕ) (e : Span) → k < length ss
     → valued (take (k + 1) ss) kept p d ≡ cond (covers (get_or ss k e) p) (byte_of (get_or ss k e) kept p) (valued (take k ss) kept p d)
 valued_next ss kept p d k e lt = ap (λ (l : List Span). valued l kept p d) (take_more ss k e lt) ∙ valued_push (take k ss) (get_or ss k e) kept p d
+
+-- where no span has an address any byte stays; where one has it, it doesn't matter which stood there
+free_or_kept : (ss : List Span) (kept : List ℕ) (p : ℕ) → ((d : ℕ) → valued ss kept p d ≡ d) ⊎ ((d e : ℕ) → valued ss kept p d ≡ valued ss kept p e)
+free_or_kept [] kept p = inl (λ d. refl)
+free_or_kept (s ∷ ss) kept p =
+    elim (lies s.addr s.len p) [
+      | In l h e ↦ inr (λ x y. rw e refl)
+      | Out e ↦ elim (free_or_kept ss kept p) [ inl f ↦ inl (λ d. rw e (f d)) | inr f ↦ inr (λ x y. rw e (f x y)) ]
+    ]
+
+pub valued_again : (ss : List Span) (kept : List ℕ) (p d : ℕ) → valued ss kept p (valued ss kept p d) ≡ valued ss kept p d
+valued_again ss kept p d = elim (free_or_kept ss kept p) [ inl f ↦ f (valued ss kept p d) | inr f ↦ f (valued ss kept p d) d ]

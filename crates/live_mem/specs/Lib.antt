@@ -4,4 +4,5 @@ pub mod Heard
 pub mod Kept
 pub mod Live
 pub mod Room
+pub mod Scattered
 pub mod Inner

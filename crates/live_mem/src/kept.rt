@@ -1,6 +1,6 @@
 //! What a phase read, so that it reads no byte twice.
 
-ghost use Rattle.std.specs.Prelude.{ℕ, ◌≡◌, ◌+◌, ◌<◌, ◌≤◌, ◌^◌, [], List, length, cond, get_or, false, IfOk, IsOk, IsTrue};
+ghost use Rattle.std.specs.Prelude.{ℕ, ◌≡◌, ◌↔◌, ◌+◌, ◌<◌, ◌≤◌, ◌^◌, [], List, length, cond, get_or, false, IfOk, IsOk, IsTrue};
 ghost use Rattle.guest_mem.specs.Memory.{bytes_at, with_bytes};
 ghost use Rattle.live_mem.specs.Access.{spans};
 ghost use Rattle.live_mem.specs.Kept.{source, covers, byte_of, valued, AreKept, IsFree};
@@ -153,6 +153,14 @@ impl Kept {
         self.free_to = 0;
     }
 
+    /// Returns true if one more short read can be kept with no memory taken.
+    #[inline(always)]
+    pub(crate) fn has_room(&self) -> bool
+        ensures { IsTrue result ↔ Holds self.now 1 }
+    {
+        self.spans.len() < self.spans.capacity()
+    }
+
     /// Makes room for one more read of `len` bytes. It takes no memory for a short one where there is room, and changes
     /// nothing else.
     pub(crate) fn make_room(&mut self, len: usize) -> Result<(), AllocError>
@@ -290,7 +298,7 @@ impl Kept {
     }
 
     /// Puts each span over `out`, which has the bytes from `addr` on.
-    fn put_spans_over(&self, addr: u64, out: &mut [u8])
+    pub(crate) fn put_spans_over(&self, addr: u64, out: &mut [u8])
         requires small { addr + length out.old ≤ 2 ^ 52 }
         ensures len { length out.new ≡ length out.old }
         ensures over { (i : ℕ) → i < length out.old → get_or out.new i 0

@@ -14,6 +14,7 @@ mod kept;
 mod laws;
 mod live;
 mod recorded;
+mod scattered;
 mod span;
 
 pub use bus::Bus;

@@ -1,20 +1,25 @@
 //! The memory of a guest that runs.
 
-ghost use Rattle.std.specs.Prelude.{ℕ, ◌≡◌, ◌+◌, ◌<◌, ◌≤◌, ◌^◌, ◌++◌, ◌∷◌, [], List, length, true, false, IsOk, IfOk, OnOk, OnErr};
+ghost use Rattle.std.specs.Prelude.{ℕ, ◌≡◌, ◌+◌, ◌<◌, ◌≤◌, ◌^◌, ◌++◌, ◌∷◌, [], List, length, true, false, IsOk, IfOk, OnOk, OnErr, IsTrue, IsFalse};
 ghost use Rattle.guest_mem.specs.Memory.{bytes_at, with_bytes, LiesIn};
 ghost use Rattle.guest_mem.specs.Stores.{Store, stores_at};
 ghost use Rattle.live_mem.specs.Access.{Access, loaded, stored, all_stores, AreBytes, Asks, MayBe, StoredNothing};
 ghost use Rattle.live_mem.specs.Inner.Access.{ReadsThere};
 ghost use Rattle.live_mem.specs.Heard.{heard};
 ghost use Rattle.live_mem.specs.Kept.{valued};
+ghost use Rattle.live_mem.specs.Scattered.{scattered_at};
 ghost use Rattle.std.proofs.Common.{append-nil, append_assoc, arith};
 ghost use Rattle.std.proofs.lemmas.Bool.{true≢false};
 
 use crate::bus::Bus;
 use crate::kept::Kept;
 use crate::recorded::RecordedBus;
+use crate::scattered::Scattered;
 use guest_mem::{Memory, WritableMemory};
 use std::alloc::{AllocError, Global};
+
+/// The most bytes of a read that is kept by its addresses. A request has few longer ones, and many of these may be in a list.
+const MOST_SCATTERED: usize = 256;
 
 /// A memory that is read and written where it stands, while the guest runs. A phase reads no byte twice: it keeps what it
 /// read. So all that it reads is of one list of bytes, whatever the guest writes meanwhile, and each byte of the list that was
@@ -25,8 +30,9 @@ pub struct LiveMem<B> {
     bus: RecordedBus<B>,
     size: u64,
     kept: Kept,
+    scattered: Scattered,
     ghost small: { size ≤ 2 ^ 52 },
-    ghost faithful: { (p d : ℕ) → valued kept.spans.items kept.bytes.items p d ≡ loaded (heard bus) p d },
+    ghost faithful: { (p d : ℕ) → valued kept.spans.items kept.bytes.items p (scattered_at scattered p d) ≡ loaded (heard bus) p d },
     ghost bytes_loaded: { (p d : ℕ) → d < 256 → loaded (heard bus) p d < 256 },
     ghost stays_sized: { (m : List ℕ) → length m ≡ size → length (stored (heard bus) m) ≡ size },
     ghost bytes_stored: { (m : List ℕ) → length m ≡ size → AreBytes m → AreBytes (stored (heard bus) m) },
@@ -34,6 +40,7 @@ pub struct LiveMem<B> {
 
 impl<B: Bus> LiveMem<B> {
     ghost use Rattle.live_mem.specs.Room.{HasRoom};
+    ghost use Rattle.live_mem.specs.Inner.Places.{HasPlaces};
     ghost use Rattle.live_mem.specs.Inner.Room.{Takes};
     ghost use Rattle.live_mem.specs.Live.{MayBeLive, bus_of};
 
@@ -50,12 +57,13 @@ impl<B: Bus> LiveMem<B> {
             bus: RecordedBus::new(bus),
             size,
             kept,
+            scattered: Scattered::new(alloc),
         })
     }
 
-    /// Reads what is kept, and loads where nothing is kept. It keeps what it loaded, for which there is room.
+    /// Reads what is kept, and loads where nothing is kept. It keeps what it loaded in the list of spans, which has room.
     #[inline(always)]
-    fn read_there(&mut self, addr: u64, out: &mut [u8])
+    fn read_listed(&mut self, addr: u64, out: &mut [u8])
         requires inside { addr + length out.old ≤ self.old.size }
         requires room { Takes self.old.kept (length out.old) }
         ensures len { length out.new ≡ length out.old }
@@ -69,19 +77,64 @@ impl<B: Bus> LiveMem<B> {
             return;
         }
         self.bus.load(addr, out);
+        self.scattered.put_over(addr, out);
         self.kept.put_over(free, addr, out);
         self.kept.keep(addr, out);
     }
 
-    /// Makes room to keep a read of so many bytes. It asks the bus for nothing.
+    /// Does the same, and keeps what it loaded by its addresses, where there is room.
+    #[inline(never)]
+    fn read_scattered(&mut self, addr: u64, out: &mut [u8])
+        requires inside { addr + length out.old ≤ self.old.size }
+        requires room { HasPlaces self.old.scattered addr (length out.old) }
+        ensures len { length out.new ≡ length out.old }
+        ensures loads { ReadsThere (heard self.old.bus) (heard self.new.bus) addr out.new }
+        ensures stores { all_stores (heard self.new.bus) ≡ all_stores (heard self.old.bus) }
+        ensures size { self.new.size ≡ self.old.size }
+        ensures room { (n : ℕ) → HasRoom self.old (n + 1) → HasRoom self.new n }
+    {
+        self.bus.load(addr, out);
+        self.scattered.put_over(addr, out);
+        self.kept.put_spans_over(addr, out);
+        self.scattered.keep(addr, out);
+    }
+
+    /// Reads, and keeps what it loaded in the list of spans where `listed` is true, and else by its addresses.
     #[inline(always)]
-    fn make_room(&mut self, len: usize) -> Result<(), AllocError>
+    fn read_there(&mut self, listed: bool, addr: u64, out: &mut [u8])
+        requires inside { addr + length out.old ≤ self.old.size }
+        requires listed { IsTrue listed → Takes self.old.kept (length out.old) }
+        requires scattered { IsFalse listed → HasPlaces self.old.scattered addr (length out.old) }
+        ensures len { length out.new ≡ length out.old }
+        ensures loads { ReadsThere (heard self.old.bus) (heard self.new.bus) addr out.new }
+        ensures stores { all_stores (heard self.new.bus) ≡ all_stores (heard self.old.bus) }
+        ensures size { self.new.size ≡ self.old.size }
+        ensures room { (n : ℕ) → HasRoom self.old (n + 1) → HasRoom self.new n }
+    {
+        if listed {
+            self.read_listed(addr, out);
+        } else {
+            self.read_scattered(addr, out);
+        }
+    }
+
+    /// Makes room to keep a read of `len` bytes from `addr` on: in the list of spans where the result is true, and else by its
+    /// addresses. It asks the bus for nothing.
+    #[inline(always)]
+    fn make_room(&mut self, addr: u64, len: usize) -> Result<bool, AllocError>
+        requires { addr + len ≤ self.old.size }
         ensures size { self.new.size ≡ self.old.size }
         ensures bus { heard self.new.bus ≡ heard self.old.bus }
-        ensures made { OnOk result (Takes self.new.kept len) }
+        ensures listed { IfOk result (λ listed. IsTrue listed → Takes self.new.kept len) }
+        ensures scattered { IfOk result (λ listed. IsFalse listed → HasPlaces self.new.scattered addr len) }
         ensures succeeds { HasRoom self.old 1 → len ≤ 16 → IsOk result }
     {
-        self.kept.make_room(len)
+        if len <= MOST_SCATTERED && !self.kept.has_room() {
+            self.scattered.make_room(addr, len)?;
+            return Ok(false);
+        }
+        self.kept.make_room(len)?;
+        Ok(true)
     }
 }
 
@@ -116,6 +169,7 @@ impl<B: Bus> Memory for LiveMem<B> {
     {
         self.bus.begin();
         self.kept.clear();
+        self.scattered.clear();
     }
 
     #[inline(always)]
@@ -137,7 +191,7 @@ impl<B: Bus> Memory for LiveMem<B> {
         ensures read { (m : List ℕ) → MayBeLive self.new m → out.new ≡ bytes_at m addr (length out.old) }
         ensures asks { Asks (heard self.old.bus) (heard self.new.bus) addr (length out.old) }
     {
-        self.read_there(addr, out);
+        self.read_there(true, addr, out);
     }
 
     #[inline(always)]
@@ -153,8 +207,8 @@ impl<B: Bus> Memory for LiveMem<B> {
         ensures asks_nothing { OnErr result (heard self.new.bus ≡ heard self.old.bus) }
         ensures succeeds { HasRoom self.old 1 → length out.old ≤ 16 → IsOk result }
     {
-        self.make_room(out.len())?;
-        self.read_there(addr, out);
+        let listed = self.make_room(addr, out.len())?;
+        self.read_there(listed, addr, out);
         Ok(())
     }
 
