@@ -222,8 +222,8 @@ static enum served keep(struct backend *backend, bool at_once, uint32_t *owed) {
     backend->due = blocks_due(backend->disks);
     return LATER;
   }
-  *owed |= rings_show(backend);
   backend->phase = IDLE;
+  *owed |= rings_show(backend);
   return SERVED;
 }
 
@@ -262,12 +262,12 @@ enum served backend_serve(struct backend *backend, uint32_t queues, uint32_t *ow
   if (backend->pause && clock_now() < backend->due) return LATER;
   if (!backend->mapped) backend_map(backend);
   if (!backend->mapped) return put_off(backend);
-  if (backend->phase == IDLE || !backend->waits) {
+  if (backend->phase == IDLE || !backend->keeps) {
     backend->seen |= backend->kicked;
     backend->kicked = 0;
     backend->took = false;
   }
-  enum served served = backend->waits ? wait_round(backend, queues, owed) : serve_at_once(backend, queues, owed);
+  enum served served = backend->keeps ? wait_round(backend, queues, owed) : serve_at_once(backend, queues, owed);
   if (served != SERVED) return served;
   note_faults(backend);
   bool again = !backend->left && (backend->polls ? hush(backend, queues) : ask(backend, queues));
@@ -309,18 +309,18 @@ enum served backend_stop(struct backend *backend, uint64_t passed, uint32_t *owe
   bool is_stuck = passed >= HASTE && backend->phase == WRITING && blocks_are_stuck(backend->disks),
        is_late = passed >= FORCE || is_stuck;
   if (!backend_is_busy(backend)) return SERVED;
-  if (backend->waits && is_late) return backend_end(backend), SERVED;
+  if (backend->keeps && is_late) return backend_end(backend), SERVED;
   if (!is_late && backend->pause && clock_now() < backend->due) return wait_for(backend, passed);
   if (backend->phase != WRITING) {
     enum ran ran = backend->mapped ? settle(backend) : REFUSED;
-    *owed |= device_owed(&backend->device) & (!backend->waits ? UINT32_MAX : ring_waits(backend, EVENT_QUEUE) ? 0 : EVENTS);
+    *owed |= device_owed(&backend->device) & (!backend->keeps ? UINT32_MAX : ring_waits(backend, EVENT_QUEUE) ? 0 : EVENTS);
     if (ran != RAN && is_late) return snprintf(why, room, "the device doesn't end what it began"), FAILED;
     if (ran == REFUSED) return put_off(backend), wait_for(backend, passed);
     if (ran == RUNS) return BUSY;
     backend->pause = 0;
-    backend->phase = backend->waits ? WRITING : IDLE;
+    backend->phase = backend->keeps ? WRITING : IDLE;
   }
-  if (!backend->waits) return SERVED;
+  if (!backend->keeps) return SERVED;
   enum served served = keep(backend, passed < PORTION, owed);
   return served == LATER ? wait_for(backend, passed) : served;
 }

@@ -2,8 +2,7 @@
 // most of the rings there.
 //
 // Where a disk is kept on a file, no answer is shown to the guest before the file has what the answer promises. Meanwhile a
-// part of each ring is the daemon's own (rings.h), so that what the device gave back isn't seen. Packed rings always have such a
-// part, by which it is counted where they stand.
+// part of each ring is the daemon's own (rings.h), so that what the device gave back isn't seen.
 #ifndef DAEMON_BACKEND_H
 #define DAEMON_BACKEND_H
 
@@ -25,7 +24,7 @@ enum {
 enum { DESCRIPTOR = 16 };
 
 struct backend_queue {
-  struct ring ring;              // by the guest's addresses; `first` is where it goes on behind all that was shown to the guest
+  struct ring ring;              // by the guest's addresses; `first` is where the next device goes on
   bool ready;                    // its areas are in the guest's memory
   bool is_logged;                // writes to its device area are logged from `logged_at` on, too
   uint64_t logged_at;            // by the guest's addresses
@@ -35,7 +34,6 @@ struct backend_queue {
   // Of a queue whose answers wait, what the device has in place of its used index, or of the descriptors of a packed ring.
   uint16_t index;
   _Alignas(16) uint8_t descriptors[DESCRIPTOR * DEVICE_MOST_SIZE];
-  uint16_t lengths[DEVICE_MOST_SIZE];  // of each chain there, by its first descriptor
 };
 
 // The fault of a queue whose memory is gone, beside those of the library.
@@ -53,8 +51,7 @@ struct backend {
   struct backend_queue queues[MOST_QUEUES];
   unsigned count;
   bool packed, event_index, indirect, change;
-  bool keeps;   // disks are kept on files
-  bool waits;   // answers wait: for files, or until it is known where packed rings stand
+  bool keeps;   // disks are kept on files, for which answers wait
   bool mapped;  // the device has the guest's memory as it is
   bool logs;    // each page that is written is marked in the log
   bool left;    // something was left of the queues

@@ -43,7 +43,7 @@ static struct backend *live(const struct controlled *controlled) {
 // Returns whether a request has to wait, since answers do.
 static bool must_wait(const struct controlled *controlled) {
   const struct backend *backend = live(controlled);
-  return backend && backend->waits && backend_is_busy(backend);
+  return backend && backend->keeps && backend_is_busy(backend);
 }
 
 static json_t *stats_of(const struct controlled *controlled, size_t which) {

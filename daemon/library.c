@@ -52,6 +52,12 @@ bool device_end(struct device *device, struct vscsi_disk *stores, size_t count) 
   return ended;
 }
 
+struct position device_position(struct device *device, unsigned queue) {
+  struct vscsi_position its = {0};
+  vscsi_live_position(&device->vscsi, (uint16_t)queue, &its);
+  return (struct position){its.available, its.used, its.available_wrapped, its.used_wrapped};
+}
+
 bool device_map(struct device *device, const struct vscsi_region *regions, size_t count) {
   return vscsi_map(&device->vscsi, regions, count) == VSCSI_DONE;
 }

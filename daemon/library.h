@@ -44,6 +44,9 @@ bool device_create(struct device *device, struct vscsi_live_config config, const
 // Ends a device, if there is one, and takes its disks back. Returns false where memory was refused: they are lost.
 bool device_end(struct device *device, struct vscsi_disk *stores, size_t count);
 
+// Returns where the device stands in a queue: what it takes next, and what it gives back next.
+struct position device_position(struct device *device, unsigned queue);
+
 // Has the device work in these regions of memory. Returns false where it can't: then it works where it did.
 bool device_map(struct device *device, const struct vscsi_region *regions, size_t count);
 

@@ -107,7 +107,6 @@ static bool start(struct session *session, unsigned q) {
   backend->event_index = session->features & VSCSI_F_EVENT_IDX;
   backend->indirect = session->features & VSCSI_F_INDIRECT_DESC;
   backend->change = session->features & VSCSI_F_CHANGE;
-  backend->waits = backend->keeps || backend->packed;
   backend->queues[q].fault = VSCSI_BROKEN_NOT;
   queue->told = false;
   bool is_found = find(session, q);

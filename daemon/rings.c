@@ -73,13 +73,12 @@ bool ring_set_base(struct backend *backend, unsigned q, uint32_t base) {
 
 bool ring_waits(const struct backend *backend, unsigned q) {
   const struct backend_queue *queue = &backend->queues[q];
-  return backend->waits && (q != EVENT_QUEUE || backend->packed) && queue->ready && !queue->fault;
+  return backend->keeps && (q != EVENT_QUEUE || backend->packed) && queue->ready && !queue->fault;
 }
 
-// Copies descriptors from the next one on, up to one that isn't available and doesn't go on a chain, of each the flags first;
-// and counts those of each chain.
+// Copies descriptors from the next one on, up to one that isn't available and doesn't go on a chain, of each the flags first.
 static void copy(struct backend_queue *queue) {
-  uint16_t slot = queue->ring.first.available, chain = slot;
+  uint16_t slot = queue->ring.first.available;
   bool wrapped = queue->ring.first.available_wrapped, inside = false;
   for (unsigned i = 0; i < queue->ring.size; i++) {
     uint8_t *into = queue->descriptors + (size_t)slot * DESCRIPTOR;
@@ -87,8 +86,6 @@ static void copy(struct backend_queue *queue) {
     memcpy(into, slot_at(queue, slot), FLAGS_AT);
     memcpy(into + FLAGS_AT, &flags, sizeof flags);
     if (!inside && !is_available(flags, wrapped)) return;
-    if (!inside) queue->lengths[chain = slot] = 0;
-    queue->lengths[chain]++;
     inside = flags & FLAG_NEXT;
     step(queue, &slot, &wrapped);
   }
@@ -114,22 +111,18 @@ bool rings_next(struct backend *backend, uint64_t from, uint64_t end, struct vsc
   return found;
 }
 
-// Returns where a ring stands behind the used descriptor of a slot.
-static struct position behind(const struct backend_queue *queue, uint16_t slot, bool wrapped) {
-  for (unsigned i = queue->lengths[slot]; i; i--) step(queue, &slot, &wrapped);
-  return (struct position){slot, slot, wrapped, wrapped};
-}
-
-static const uint8_t *used_at(const struct backend_queue *queue, const struct position *at) {
-  const uint8_t *its = queue->descriptors + (size_t)at->used * DESCRIPTOR;
-  return is_used(load(its + FLAGS_AT), at->used_wrapped) ? its : NULL;
-}
-
-// Has a split ring go on where the device does. What it has of events isn't used: these are available once more.
-static void go_on(struct backend_queue *queue, uint16_t used) {
-  struct position *first = &queue->ring.first;
-  first->available = (uint16_t)(first->available + used - first->used);
-  first->used = used;
+// Returns where a ring goes on behind all that the device gave back. What the device has of events, and of requests where it
+// didn't end them, is available once more: it lies behind that.
+static struct position behind(struct backend *backend, unsigned q) {
+  const struct position *first = &backend->queues[q].ring.first;
+  struct position now = device_position(&backend->device, q);
+  if (!backend->packed) {
+    now.available = (uint16_t)(first->available + now.used - first->used);
+  } else if (q == EVENT_QUEUE || backend_is_busy(backend)) {
+    now.available = now.used;
+    now.available_wrapped = now.used_wrapped;
+  }
+  return now;
 }
 
 // Where a ring stands, and where it stands once the descriptor is shown whose turn it is.
@@ -188,10 +181,9 @@ static void log_device_area(const struct backend *backend, const struct backend_
   if (is_logged_elsewhere(queue)) memory_mark(&backend->memory, queue->logged_at + from, count);
 }
 
-// Returns how many chains the device gave back, modulo 65,536.
-static uint16_t used_of(const struct backend *backend, unsigned q) {
-  const struct backend_queue *queue = &backend->queues[q];
-  return ring_waits(backend, q) ? queue->index : load(queue->device_at + 2);
+// Returns how many chains of a split ring were given back, modulo 65,536.
+static uint16_t used_of(struct backend *backend, unsigned q) {
+  return backend->device.live ? device_position(&backend->device, q).used : backend->queues[q].ring.first.used;
 }
 
 void rings_log(struct backend *backend) {
@@ -213,21 +205,35 @@ void ring_set_log(struct backend *backend, unsigned q, bool is_logged, uint64_t 
   if (queue->ready) queue->logged = used_of(backend, q);
 }
 
+// Finds the next slot from one on that the device marked as used, before the place where it stands. Returns false where there is
+// none.
+static bool find_used(const struct backend_queue *queue, const struct position *end, uint16_t *slot, bool *wrapped) {
+  for (; *slot != end->used || *wrapped != end->used_wrapped; step(queue, slot, wrapped))
+    if (is_used(load(queue->descriptors + (size_t)*slot * DESCRIPTOR + FLAGS_AT), *wrapped)) return true;
+  return false;
+}
+
 // Shows the used descriptors of a packed ring. Returns whether there were any.
 static bool show_packed(struct backend *backend, unsigned q) {
   struct backend_queue *queue = &backend->queues[q];
-  struct position *first = &queue->ring.first;
   struct place *place = place_of(backend, q);
-  unsigned shown = 0;
-  for (const uint8_t *its; shown < queue->ring.size && (its = used_at(queue, first)); shown++) {
-    struct position next = behind(queue, first->used, first->used_wrapped);
+  const struct position end = behind(backend, q);
+  uint16_t slot = queue->ring.first.used;
+  bool wrapped = queue->ring.first.used_wrapped, shown = false;
+  for (bool more = find_used(queue, &end, &slot, &wrapped); more; shown = true) {
+    uint16_t at = slot;
+    step(queue, &slot, &wrapped);
+    more = find_used(queue, &end, &slot, &wrapped);
+    // A daemon that goes on behind this one takes what isn't shown once more.
+    const struct position next = more ? (struct position){slot, slot, wrapped, wrapped} : end;
+    const uint8_t *its = queue->descriptors + (size_t)at * DESCRIPTOR;
     if (place) put(&place->next, IS_NOTED | base_of(backend, &next));
-    memcpy(slot_at(queue, first->used) + USED_AT, its + USED_AT, FLAGS_AT - USED_AT);
-    store(slot_at(queue, first->used) + FLAGS_AT, load(its + FLAGS_AT));
-    if (backend->logs) memory_mark(&backend->memory, queue->ring.desc + (uint64_t)DESCRIPTOR * first->used, DESCRIPTOR);
+    memcpy(slot_at(queue, at) + USED_AT, its + USED_AT, FLAGS_AT - USED_AT);
+    store(slot_at(queue, at) + FLAGS_AT, load(its + FLAGS_AT));
+    if (backend->logs) memory_mark(&backend->memory, queue->ring.desc + (uint64_t)DESCRIPTOR * at, DESCRIPTOR);
     if (place) put(&place->now, IS_NOTED | base_of(backend, &next));
-    *first = next;
   }
+  queue->ring.first = end;
   return shown;
 }
 
@@ -236,7 +242,7 @@ static bool show_split(struct backend *backend, unsigned q) {
   if (queue->index == queue->ring.first.used) return false;
   store(queue->device_at + 2, queue->index);
   log_device_area(backend, queue, 2, 2);
-  go_on(queue, queue->index);
+  queue->ring.first = behind(backend, q);
   ring_note(backend, q);
   return true;
 }
@@ -267,7 +273,9 @@ uint32_t rings_show(struct backend *backend) {
 void rings_end(struct backend *backend) {
   for (unsigned q = 0; q < backend->count; q++) {
     struct backend_queue *queue = &backend->queues[q];
-    if (queue->ready && !ring_waits(backend, q) && !backend->packed) go_on(queue, load(queue->device_at + 2));
+    // A device may have been made without one that isn't mapped.
+    bool is_its = queue->ready && queue->fault != FAULT_UNMAPPED;
+    if (is_its && !ring_waits(backend, q)) queue->ring.first = behind(backend, q);
   }
 }
 
@@ -277,7 +285,7 @@ void ring_ask(struct backend *backend, unsigned q, bool notify) {
   if (!is_whole) return;
   // All that it took of a queue but the events' the device gave back.
   uint16_t taken = q == EVENT_QUEUE ? load(memory_at(&backend->memory, queue->ring.driver + 2, 2))
-                   : backend->waits ? queue->ring.first.available
+                   : backend->keeps ? queue->ring.first.available
                                     : load(queue->device_at + 2);
   size_t at = names ? 4 + 8 * (size_t)queue->ring.size : backend->packed ? 2 : 0;
   store(queue->device_at + at, (uint16_t)(!names ? !notify : notify ? taken : taken + 0x8000));

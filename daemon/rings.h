@@ -3,7 +3,7 @@
 // A driver sees of a split ring what lies below the used index (VIRTIO 1.2, 2.7.8). So while a round's answers wait the device
 // has two bytes of the daemon's in their place, and to show the answers is to store these. The device of a packed ring writes
 // over descriptors (2.8.6). So it has a copy of what is available when the round begins, and what it marked as used there is
-// then stored in the guest's. By that copy the daemon also counts where a packed ring stands.
+// then stored in the guest's. The library tells where a ring stands.
 #ifndef DAEMON_RINGS_H
 #define DAEMON_RINGS_H
 
@@ -23,7 +23,8 @@ bool ring_has(const struct backend *backend, unsigned q);
 uint32_t ring_base(const struct backend *backend, unsigned q);
 bool ring_set_base(struct backend *backend, unsigned q, uint32_t base);
 
-// Returns whether this queue's answers wait: those of requests and functions, and of a packed ring events, too.
+// Returns whether this queue's answers wait: where disks are kept on files those of requests and functions, and of a packed ring
+// events, too.
 bool ring_waits(const struct backend *backend, unsigned q);
 
 // Begins a round: copies what drivers of packed rings made available.

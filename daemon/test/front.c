@@ -295,6 +295,17 @@ uint32_t front_stop(struct front *front, unsigned q) {
   return (uint32_t)little_get(payload + 4, 4);
 }
 
+void front_start(struct front *front, unsigned q, uint32_t base) {
+  static struct sent sent[64];
+  size_t count = front_set_up(front, sent, 0);
+  for (size_t i = 8; i < count; i++) {
+    uint8_t *at = sent[i].bytes + HEADER;
+    uint32_t request = (uint32_t)little_get(sent[i].bytes, 4);
+    if (request == SET_VRING_BASE) little_put(at + 4, base, 4);
+    if ((little_get(at, 4) & 0xff) == q) MUST(front_ask(front, &sent[i]));
+  }
+}
+
 static void descriptor(uint8_t *at, uint64_t addr, uint32_t length, uint16_t third, uint16_t fourth) {
   little_put(at, addr, 8);
   little_put(at + 8, length, 4);

@@ -95,8 +95,9 @@ void front_agree(struct front *front);
 // Takes a reply. Returns its payload's length, or 0.
 size_t front_reply(struct front *front, uint8_t *payload, size_t room);
 
-// Stops a queue, and gives its base.
+// Stops a queue, and gives its base. front_start has it go on there.
 uint32_t front_stop(struct front *front, unsigned q);
+void front_start(struct front *front, unsigned q, uint32_t base);
 
 // Where the guest's bytes stand: by their place, and by the address that the guest has for it.
 uint64_t guest_of(const struct front *front, uint64_t place);

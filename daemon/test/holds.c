@@ -93,18 +93,6 @@ static uint32_t stop(struct front *front, bool ends) {
   return await_base(front);
 }
 
-// Starts queue Q where it stopped.
-static void start(struct front *front, uint32_t base) {
-  static struct sent sent[64];
-  size_t count = front_set_up(front, sent, 0);
-  for (size_t i = 8; i < count; i++) {
-    uint8_t *at = sent[i].bytes + HEADER;
-    uint32_t request = (uint32_t)little_get(sent[i].bytes, 4);
-    if (request == SET_VRING_BASE) little_put(at + 4, base, 4);
-    if ((little_get(at, 4) & 0xff) == Q) MUST(front_ask(front, &sent[i]));
-  }
-}
-
 void test_stopped(void) {
   for (unsigned number = 0; number < 2 * WAYS; number++) {
     struct disks disks;
@@ -119,7 +107,7 @@ void test_stopped(void) {
     MUST(driver_next(&front, Q, 3, &length) == ends && (base & 0x7fff) == (ends ? slots : 0));
     if (ends) MUST(length == 108 && is_good(&front, 0));
     faults_clear();
-    start(&front, base);
+    front_start(&front, Q, base);
     pass(&front, 5);
     MUST(is_written(&front, 0));
     // It ran once more, and found its own data.

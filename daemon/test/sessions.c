@@ -393,10 +393,10 @@ void test_endless(void) {
     front_say(&front, GET_FEATURES, 0);
     front_say(&front, GET_VRING_BASE, 4);
     turn(&front);
-    // Messages are answered meanwhile, but for those that end the device. Answers of packed rings wait for the round's end.
+    // Messages are answered meanwhile, but for those that end the device.
     MUST(front.alive && front.session.more && front_reply(&front, payload, sizeof payload) == 8 &&
          !front_reply(&front, payload, sizeof payload));
-    MUST(driver_next(&front, 3, 2, &length) == !front.way.packed);
+    MUST(driver_next(&front, 3, 2, &length) && front.memory[0x201000 + 10] == 0);
     faults.passed++;
     turn(&front);
     MUST(front.alive && !front_reply(&front, payload, sizeof payload));
@@ -405,11 +405,9 @@ void test_endless(void) {
     faults.passed += stays ? 4 : 0;
     turn(&front);
     // What was answered while the device was at it can't run once more, so the session ends.
-    MUST(front.alive == (!stays || front.way.packed));
+    MUST(front.alive == !stays);
     if (front.alive) MUST(front_reply(&front, payload, sizeof payload) == 8 && little_get(payload, 4) == 4);
     faults.endless = false;
-    if (front.alive) pump(&front);
-    MUST(!front.way.packed || (driver_next(&front, 3, 2, &length) && front.memory[0x201000 + 10] == 0));
     MUST(!front.alive || has_block(&front));
     end(&front, &disks);
   }

@@ -14,6 +14,7 @@
 #include "logs.h"
 #include "rounds.h"
 #include "sessions.h"
+#include "stops.h"
 
 static const uint8_t write_10[] = {0x2a, 0, 0, 0, 0, 3, 0, 0, 16, 0}, read_10[] = {0x28, 0, 0, 0, 0, 3, 0, 0, 16, 0};
 static const uint8_t inquiry[] = {0x12, 0, 0, 0, 36, 0}, same_10[] = {0x41, 0, 0, 0, 0, 40, 0, 0, 5, 0}, ready[] = {0, 0, 0, 0, 0, 0};
@@ -305,7 +306,7 @@ int main(int count, char **words) {
                {"forgetful", test_forgetful},
                {"abandoned", test_abandoned}, {"zeros", test_zeros}, {"turns", test_turns}, {"order of control", test_order_of_control},
                {"costs", test_costs},
-               {"held", test_held}, {"stopped", test_stopped}, {"killed", test_killed}, {"waiting", test_waiting},
+               {"stops", test_stops}, {"held", test_held}, {"stopped", test_stopped}, {"killed", test_killed}, {"waiting", test_waiting},
                {"moved", test_moved}, {"slots", test_slots}, {"regions", test_regions}, {"short", test_short},
                {"forms", test_forms}, {"stale", test_stale}, {"kicks", test_kicks}, {"waits", test_waits}, {"reset", test_reset},
                {"refused", test_refused}, {"endless", test_endless}, {"polls", test_polls},

@@ -1,0 +1,9 @@
+// Tests of queues that are stopped and go on.
+#ifndef DAEMON_TEST_STOPS_H
+#define DAEMON_TEST_STOPS_H
+
+// Queues that are stopped at any place of their ring, with something available, with event buffers that the device holds, twice,
+// and broken ones: each goes on where it stopped, and so do the others.
+void test_stops(void);
+
+#endif
