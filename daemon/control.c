@@ -20,8 +20,21 @@ enum { WHY = 300, PATIENCE = 5000 };
 
 bool control_is_built(void) { return true; }
 
+// A text, or null. One that isn't UTF-8, as a path may be, has a question mark for each byte that isn't ASCII.
+static json_t *text_of(const char *from) {
+  char cleaned[MOST_LINE];
+  json_t *text = from ? json_string(from) : json_null();
+  if (text) return text;
+  snprintf(cleaned, sizeof cleaned, "%s", from);
+  for (char *at = cleaned; *at; at++)
+    if ((unsigned char)*at > 0x7e) *at = '?';
+  return json_string(cleaned);
+}
+
 // An answer that is an error: its name and what it says.
-static json_t *error(const char *name, const char *text) { return json_pack("{s:{s:s,s:s}}", "error", "name", name, "text", text); }
+static json_t *error(const char *name, const char *text) {
+  return json_pack("{s:{s:s,s:o}}", "error", "name", name, "text", text_of(text));
+}
 
 static json_t *done(void) { return json_pack("{s:{}}", "return"); }
 
@@ -53,8 +66,8 @@ static json_t *stats_of(const struct controlled *controlled, size_t which) {
   char name[20];
   if (backend) backend_count(backend, which, &counts);
   snprintf(name, sizeof name, "%u:%u", disk->target, disk->lun);
-  return json_pack("{s:s,s:I,s:s?,s:s?,s:I,s:I,s:I,s:I,s:I,s:I,s:I}", "disk", name, "bytes", (json_int_t)(disk->blocks * DEVICE_BLOCK),
-                   "file", disk->path, "error", disk->error ? strerror(disk->error) : NULL, "requests", (json_int_t)counts.left,
+  return json_pack("{s:s,s:I,s:o,s:s?,s:I,s:I,s:I,s:I,s:I,s:I,s:I}", "disk", name, "bytes", (json_int_t)(disk->blocks * DEVICE_BLOCK),
+                   "file", text_of(disk->path), "error", disk->error ? strerror(disk->error) : NULL, "requests", (json_int_t)counts.left,
                    "task-set-full", (json_int_t)counts.full, "good", (json_int_t)counts.good, "check-condition",
                    (json_int_t)counts.check_conditions, "busy", (json_int_t)counts.busy, "data-out", (json_int_t)counts.data_out,
                    "data-in", (json_int_t)counts.data_in);
@@ -184,9 +197,12 @@ static bool send_answer(const struct control *control, json_t *came) {
 // Takes the descriptor that came with some bytes. Others are closed.
 static void take_file(struct control *control, struct msghdr *header) {
   for (struct cmsghdr *it = CMSG_FIRSTHDR(header); it; it = CMSG_NXTHDR(header, it)) {
-    if (it->cmsg_level != SOL_SOCKET || it->cmsg_type != SCM_RIGHTS) continue;
-    if (control->file >= 0) close(control->file);
-    memcpy(&control->file, CMSG_DATA(it), sizeof control->file);
+    size_t count = (it->cmsg_len - CMSG_LEN(0)) / sizeof control->file;
+    // The room for one is padded, and may have a second one.
+    for (size_t i = 0; it->cmsg_level == SOL_SOCKET && it->cmsg_type == SCM_RIGHTS && i < count; i++) {
+      if (control->file >= 0) close(control->file);
+      memcpy(&control->file, CMSG_DATA(it) + i * sizeof control->file, sizeof control->file);
+    }
   }
 }
 

@@ -111,6 +111,8 @@ bool images_hold(struct disks *disks, char *why, size_t room) {
 bool image_take(const struct disks *disks, struct disk *disk, char *why, size_t room) {
   int flags = fcntl(disk->file, F_GETFL), wanted = disk->read_only ? O_RDONLY : O_RDWR;
   if ((flags & O_ACCMODE) != wanted && (flags & O_ACCMODE) != O_RDWR) return refuse(disk, "its descriptor isn't for writing", why, room);
+  // What is written goes to the end of the file by the one, and has to be aligned by the other.
+  if (flags & (O_APPEND | O_DIRECT)) return refuse(disk, "its descriptor has O_APPEND or O_DIRECT", why, room);
   if (!measure(disk, why, room) || (!disks->moves && !lock(disk, why, room)) || !fits(disk, why, room)) return false;
   return disk->length == disk->blocks * DEVICE_BLOCK || image_resize(disk, disk->blocks, why, room);
 }

@@ -425,9 +425,9 @@ static bool stop(struct session *session) {
   notify(session, owed);
   if (!note_served(session, served, why)) return false;
   if (must_wait(session, &session->waiting)) return true;
-  session->is_waiting = false;
   session->more = true;
   if (!watch(session->epoll, session->socket, EVENT_SOCKET)) return false;
+  session->is_waiting = false;
   return finish(session, &session->waiting) && read_on(session);
 }
 

@@ -9,6 +9,7 @@ import errno
 import fcntl
 import json
 import os
+import random
 import re
 import resource
 import shutil
@@ -650,6 +651,30 @@ def test_calls_that_nobody_reads(room):
         assert front.asks() and run.poll() is None
 
 
+def test_nonsense(room):
+    """Front ends that send anything, with any descriptors, leave none of them in the daemon, and the next one is served."""
+    choose = random.Random(1)
+    numbers = (0, 1, 2, 3, 17, 18, 255, 256, 512, 4096, MIB, 1 << 30, 1 << 32 | 1, 16 << 32 | 2, 1 << 52, 1 << 63, (1 << 64) - 1)
+    memory = os.memfd_create("guest")
+    os.ftruncate(memory, MIB)
+    with room.runs("--disk", "0:0=1M", "--quiet") as run, room.file("file").open("rb") as file, contextlib.ExitStack() as ours:
+        ends, pipe = socket.socketpair(), os.pipe()
+        ours.callback(lambda: [it.close() for it in ends])
+        ours.callback(lambda: [os.close(it) for it in (memory, *pipe, kick)])
+        kick = os.eventfd(1)
+        given = [memory, kick, *pipe, file.fileno(), *(it.fileno() for it in ends)]
+        before = len(os.listdir(f"/proc/{run.pid}/fd"))
+        for _ in range(200):
+            with connected(room.socket) as front, contextlib.suppress(OSError):
+                for _ in range(choose.randrange(1, 20)):
+                    size = choose.choice((0, 4, 8, 8, 8, 16, 20, 40, 40, 48, 264, 512, 513))
+                    payload = b"".join(struct.pack("<Q", choose.choice(numbers)) for _ in range(65))[: choose.choice((size, size, size // 2))]
+                    head = struct.pack("<III", choose.randrange(44), choose.choice((1, 1, 1, 1, 9, 9, 0, 5)), size)
+                    socket.send_fds(front, [head + payload], [choose.choice(given) for _ in range(choose.choice((0, 0, 1, 1, 2, 8, 9, 20)))])
+        assert serves(room.socket) and run.poll() is None
+        wait_for(lambda: len(os.listdir(f"/proc/{run.pid}/fd")) == before, "the descriptors to go")
+
+
 # Files that can't be written for a time.
 
 
@@ -936,20 +961,31 @@ def test_control_words(room):
     if not room.client:
         room.ends("--socket", room.socket, "--disk", "0:0=1M", "--control", path, status=2, says="built without")
         return "no libjansson-dev"
-    with room.runs("--disk", "0:0=1M", "--control", path):
+    odd = room.folder / os.fsdecode(b"disk\xff.img")
+    with room.runs("--disk", "0:0=1M", "--disk", f"0:1=1M,file={odd}", "--control", path) as run:
         assert stat.S_IMODE(path.stat().st_mode) == 0o600
         with Asking(path) as asking:
             wrong = ["", "{", "[]", "1", "{}", '{"execute":1}', '{"execute":"stats","more":1}', '{"execute":"stats","execute":"stats"}', "\x80", '{"execute":"reset"}']
             assert [asking.say(line) for line in wrong] == ["BadRequest"] * len(wrong)
-            assert asking.ask("quit") == "NoCommand" and asking.ask("reset", disk="0:1") == "NoDisk" and asking.ask("reset", disk="0:0x") == "NoDisk"
+            assert asking.ask("quit") == "NoCommand" and asking.ask("reset", disk="0:2") == "NoDisk" and asking.ask("reset", disk="0:0x") == "NoDisk"
             assert [asking.ask("resize", disk="0:0", size=size) for size in (0, -512, 513, "1M", 1 << 60)] == ["BadSize"] * 5
             assert asking.ask("reset", disk="0:0") == "NoDevice" and asking.ask("resize", disk="0:0", size=512) == "NoDevice"
-            assert asking.ask("stats")["disks"][0]["disk"] == "0:0"
+            assert [(it["disk"], it["file"]) for it in asking.ask("stats")["disks"]] == [("0:0", None), ("0:1", f"{room.folder}/disk?.img")]
             # Two lines at once, and one in two parts.
             asking.connection.sendall(b'{"execute":"stats"}\n{"execute":"no"}\n{"execute":')
             assert "return" in asking.lines.readline() and "NoCommand" in asking.lines.readline()
             asking.connection.sendall(b'"stats"}\n')
             assert "return" in asking.lines.readline()
+            # Descriptors that nobody asked for are closed, however many come with a line.
+            with (room.folder / "file").open("w") as file:
+                before = len(os.listdir(f"/proc/{run.pid}/fd"))
+                for count in range(1, 4):
+                    assert asking.say('{"execute":"no"}', [file.fileno()] * count) == "NoCommand"
+                assert len(os.listdir(f"/proc/{run.pid}/fd")) == before
+            # What isn't UTF-8 is answered all the same.
+            for line in (b"\xff", b'{"execute":"\xff"}'):
+                asking.connection.sendall(line + b"\n")
+                assert "BadRequest" in asking.lines.readline()
             # Another client waits until this one is gone.
             with Asking(path) as other:
                 other.connection.sendall(b'{"execute":"stats"}\n')
@@ -993,6 +1029,12 @@ def test_control_disks(room):
             assert asking.ask("attach", disk="0:4=1M", files=[file.fileno()]) == "BadDisk"
             assert asking.ask("attach", disk=f"0:4=file={one}") == "BadDisk"
             assert asking.ask("attach", disk=f"0:4=file={one}", files=[file.fileno()]) == "BadDisk"
+        four = room.file("four.img")
+        for flag in (os.O_APPEND, os.O_DIRECT):
+            descriptor = os.open(four, os.O_RDWR | flag)
+            with Asking(path) as asking:
+                assert asking.ask("attach", disk=f"0:4=file={four}", files=[descriptor]) == "BadDisk"
+            os.close(descriptor)
         with connected(room.socket) as front:
             assert is_served(front)
             assert asks("attach", "0:4=1M", status=1)["error"]["name"] == "InUse" and asks("detach", "0:1", status=1)["error"]["name"] == "InUse"
