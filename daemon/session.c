@@ -26,7 +26,7 @@
   (P_MQ | P_LOG_SHMFD | P_REPLY_ACK | P_CONFIG | P_RESET_DEVICE | P_INFLIGHT_SHMFD | P_CONFIGURE_MEM_SLOTS | P_STATUS)
 
 // How many messages of a session are taken before others of the daemon's descriptors are looked at.
-enum { MOST_MESSAGES = 64, WHY = 200, REGION_BYTES = 32, LOG_BYTES = 16, INFLIGHT_BYTES = 20, SPACE_HEAD = 12, MOST_SPACE = 256 };
+enum { MOST_MESSAGES = 64, WHY = 200, REGION_BYTES = 32, LOG_BYTES = 16, SPACE_HEAD = 12, MOST_SPACE = 256 };
 
 // Milliseconds: how often it is said that a file can't be written, and a ring is looked at that has no kick; how long a session
 // is served before others of the daemon's descriptors are looked at, but for one round; how long a session that ends has for a
@@ -129,23 +129,30 @@ static bool change_memory(struct session *session, const struct message *message
   return true;
 }
 
+// Returns whether a message is as long as one about memory that outlives the daemon. Front ends in C send the structure whole, with
+// what pads it.
+static bool is_of_places(const struct message *message) {
+  enum { SHORT = 20, PADDED = 24 };
+  return message->size == SHORT || message->size == PADDED;
+}
+
 // Takes the memory in which it is noted where rings stand: this daemon's, or one's before it.
 static bool set_places(struct session *session, const struct message *message) {
   uint64_t size = little_get(message->payload, 8), offset = little_get(message->payload + 8, 8);
-  if (message->size != INFLIGHT_BYTES || message->fd_count != 1 || size != PLACES_BYTES) return false;
+  if (!is_of_places(message) || message->fd_count != 1 || size != PLACES_BYTES) return false;
   return memory_set(&session->backend.memory.places, size, offset, message->fds[0]);
 }
 
 // Makes such memory, and gives it to the front end, which keeps it when the daemon dies.
 static bool give_places(struct session *session, const struct message *message) {
-  uint8_t payload[INFLIGHT_BYTES] = {0};
+  uint8_t payload[MOST_PAYLOAD];
+  if (!is_of_places(message)) return false;
   int file = memfd_create("vscsi-places", MFD_CLOEXEC | MFD_ALLOW_SEALING);
-  bool made = message->size == INFLIGHT_BYTES && file >= 0 && !ftruncate(file, PLACES_BYTES) &&
-              memory_set(&session->backend.memory.places, PLACES_BYTES, 0, file);
-  memcpy(payload, message->payload, INFLIGHT_BYTES);
+  bool made = file >= 0 && !ftruncate(file, PLACES_BYTES) && memory_set(&session->backend.memory.places, PLACES_BYTES, 0, file);
+  memcpy(payload, message->payload, message->size);
   little_put(payload, made ? PLACES_BYTES : 0, 8);
   little_put(payload + 8, 0, 8);
-  bool stands = protocol_give(session->socket, message, payload, INFLIGHT_BYTES, made ? file : -1);
+  bool stands = protocol_give(session->socket, message, payload, message->size, made ? file : -1);
   if (file >= 0) close(file);
   return stands;
 }

@@ -234,8 +234,11 @@ size_t front_reply(struct front *front, uint8_t *payload, size_t room) {
   return length;
 }
 
-static void places(struct sent *sent, uint32_t request, int file) {
-  little_put(message(sent, request, 20)->bytes + HEADER, file < 0 ? 0 : 4096, 8);
+// QEMU's are padded.
+static size_t places_length(const struct front *front) { return front->way.event_index ? 24 : 20; }
+
+static void places(const struct front *front, struct sent *sent, uint32_t request, int file) {
+  little_put(message(sent, request, places_length(front))->bytes + HEADER, file < 0 ? 0 : 4096, 8);
   little_put(sent->bytes + HEADER + 16, QUEUES, 2);
   sent->fds[0] = file;
   sent->fd_count = file >= 0;
@@ -246,15 +249,16 @@ int front_places(struct front *front) {
     struct cmsghdr header;
     char room[CMSG_SPACE(sizeof(int))];
   } control = {0};
-  uint8_t bytes[HEADER + 20];
+  uint8_t bytes[HEADER + 24];
+  size_t length = HEADER + places_length(front);
   struct iovec part = {.iov_base = bytes, .iov_len = sizeof bytes};
   struct msghdr header = {.msg_iov = &part, .msg_iovlen = 1, .msg_control = &control, .msg_controllen = sizeof control};
   struct sent sent;
   int file;
-  places(&sent, GET_INFLIGHT_FD, -1);
+  places(front, &sent, GET_INFLIGHT_FD, -1);
   MUST(front_send(front, &sent, 0, sent.length));
   pump(front);
-  MUST(recvmsg(front->socket, &header, MSG_DONTWAIT | MSG_CMSG_CLOEXEC) == (ssize_t)sizeof bytes && CMSG_FIRSTHDR(&header));
+  MUST(recvmsg(front->socket, &header, MSG_DONTWAIT | MSG_CMSG_CLOEXEC) == (ssize_t)length && CMSG_FIRSTHDR(&header));
   MUST(little_get(bytes + HEADER, 8) == 4096);
   memcpy(&file, CMSG_DATA(CMSG_FIRSTHDR(&header)), sizeof file);
   return file;
@@ -262,7 +266,7 @@ int front_places(struct front *front) {
 
 bool front_give_places(struct front *front, int file) {
   struct sent sent;
-  places(&sent, SET_INFLIGHT_FD, file);
+  places(front, &sent, SET_INFLIGHT_FD, file);
   return front_ask(front, &sent);
 }
 
