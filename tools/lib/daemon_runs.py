@@ -64,10 +64,12 @@ class Room:
         """A daemon that runs until the block ends, and then is ended by a signal, with this status. With `path` it listens there."""
         path = path or self.socket
         named = [] if any(str(word).startswith("--fd") for word in words) else ["--socket", path]
+        # The control socket is the last one.
+        last = words[words.index("--control") + 1] if "--control" in words else path
         run = subprocess.Popen([self.program, *named, *words], stderr=stderr, text=True, **more)
         try:
             if named:
-                wait_for(lambda: run.poll() is not None or (path.exists() and listens(path)), "the daemon to listen")
+                wait_for(lambda: run.poll() is not None or (last.exists() and listens(last)), "the daemon to listen")
                 assert run.poll() is None, f"{words}: status {run.returncode}, {run.stderr.read() if run.stderr else ''}"
             yield run
             run.send_signal(by)
@@ -981,7 +983,7 @@ def test_control_words(room):
                 before = len(os.listdir(f"/proc/{run.pid}/fd"))
                 for count in range(1, 4):
                     assert asking.say('{"execute":"no"}', [file.fileno()] * count) == "NoCommand"
-                assert len(os.listdir(f"/proc/{run.pid}/fd")) == before
+                wait_for(lambda: len(os.listdir(f"/proc/{run.pid}/fd")) == before, "the descriptors to go")
             # What isn't UTF-8 is answered all the same.
             for line in (b"\xff", b'{"execute":"\xff"}'):
                 asking.connection.sendall(line + b"\n")
