@@ -130,22 +130,39 @@ static void look(unsigned i) {
   if (is_blk ? answer[0] : answer[10] || answer[11]) fail("a status");
 }
 
-static void run(uint64_t rounds, unsigned depth, uint32_t bytes) {
-  uint64_t seed = 88172645463325252u;
+// Has requests to these blocks served.
+static void serve(const uint64_t *blocks, unsigned depth, uint32_t bytes) {
   static uint16_t next;
+
+  for (unsigned i = 0; i < depth; i++) {
+    put_request(i, blocks[i], bytes);
+    *(uint16_t *)(memory + AVAILABLE + 4 + 2 * ((next + i) % SIZE)) = (uint16_t)(3 * i);
+  }
+  next = (uint16_t)(next + depth);
+  __atomic_store_n((uint16_t *)(memory + AVAILABLE + 2), next, __ATOMIC_RELEASE);
+  __atomic_thread_fence(__ATOMIC_SEQ_CST);
+  if (!(*(volatile uint16_t *)(memory + USED) & 1)) eventfd_write(kick, 1);
+  while (__atomic_load_n((uint16_t *)(memory + USED + 2), __ATOMIC_ACQUIRE) != next) __builtin_ia32_pause();
+  for (unsigned i = 0; i < depth; i++) look(i);
+}
+
+// Writes each block once, since the first WRITE of one costs more than later ones.
+static void fill(void) {
+  bool writes = is_write;
+  is_write = true;
+  for (uint64_t block = 0; block < DISK / 512; block += EACH / 512) serve(&block, 1, EACH);
+  is_write = writes;
+}
+
+static void run(uint64_t rounds, unsigned depth, uint32_t bytes) {
+  uint64_t seed = 88172645463325252u, blocks[SIZE];
 
   for (uint64_t round = 0; round < rounds; round++) {
     for (unsigned i = 0; i < depth; i++) {
       seed ^= seed << 13, seed ^= seed >> 7, seed ^= seed << 17;
-      put_request(i, seed % (DISK / bytes) * (bytes / 512), bytes);
-      *(uint16_t *)(memory + AVAILABLE + 4 + 2 * ((next + i) % SIZE)) = (uint16_t)(3 * i);
+      blocks[i] = seed % (DISK / bytes) * (bytes / 512);
     }
-    next = (uint16_t)(next + depth);
-    __atomic_store_n((uint16_t *)(memory + AVAILABLE + 2), next, __ATOMIC_RELEASE);
-    __atomic_thread_fence(__ATOMIC_SEQ_CST);
-    if (!(*(volatile uint16_t *)(memory + USED) & 1)) eventfd_write(kick, 1);
-    while (__atomic_load_n((uint16_t *)(memory + USED + 2), __ATOMIC_ACQUIRE) != next) __builtin_ia32_pause();
-    for (unsigned i = 0; i < depth; i++) look(i);
+    serve(blocks, depth, bytes);
   }
 }
 
@@ -183,6 +200,7 @@ int main(int count, char **words) {
 
   alarm(300);
   begin(words[1], is_blk ? 0 : 2);
+  fill();
   run(rounds / 10 + 1, depth, bytes);
   uint64_t began = now(), before = ran(process);
   run(rounds, depth, bytes);
