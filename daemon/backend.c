@@ -193,7 +193,8 @@ static void note_faults(struct backend *backend) {
 static bool ask(struct backend *backend, uint32_t queues) {
   uint32_t asked = (backend->seen | (backend->took ? backend->asked : 0)) & queues;
   bool names = backend->event_index && !backend->packed;
-  backend->seen = 0;
+  // Those that aren't served now, as they aren't enabled yet, are asked once they are.
+  backend->seen &= ~queues;
   // Each ring was said not to notify, and is to do so again.
   if (backend->silent) asked = queues;
   backend->asked = names || backend->silent ? asked : 0;

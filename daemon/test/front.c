@@ -371,11 +371,13 @@ void driver_put(struct front *front, unsigned q, const struct part *parts, unsig
 
 void driver_kick(struct front *front, unsigned q) {
   const uint64_t once = 1;
-  const struct driver_queue *queue = &front->queues[q];
-  // A driver with event indices notifies only of the chain that the device names.
+  struct driver_queue *queue = &front->queues[q];
+  uint16_t before = queue->told;
+  queue->told = queue->next;
+  // A driver with event indices notifies only of the chain that the device names (VIRTIO 1.2, 2.7.10).
   if (front->way.event_index && !front->way.packed) {
     uint16_t event = (uint16_t)little_get(front->memory + place_of(q, 2) + 4 + 8 * (uint64_t)front->size, 2);
-    if ((uint16_t)(queue->next - event - 1) >= front->size) return;
+    if ((uint16_t)(queue->next - event - 1) >= (uint16_t)(queue->next - before)) return;
   }
   MUST(write(front->kick[q], &once, sizeof once) == sizeof once);
 }

@@ -20,6 +20,7 @@ struct way way_of(unsigned number);
 
 struct driver_queue {
   uint16_t next, seen, free;  // of a split ring counts; of a packed one places
+  uint16_t told;              // of a split ring, where it stood at the last chance to notify
   bool next_wrap, seen_wrap;
 };
 

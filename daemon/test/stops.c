@@ -111,3 +111,37 @@ void test_stops(void) {
     else front_end(&front), disks_close(&disks);
   }
 }
+
+void test_enabled(void) {
+  for (unsigned number = 0; number < 2 * WAYS; number++) {
+    static struct sent sent[64];
+    struct disks disks = {0};
+    struct front front;
+    char why[200];
+    uint32_t length;
+    bool has_file = number >= WAYS;
+    if (has_file) load_make(&disks, "64G", "");
+    else MUST(disks_add(&disks, "0:0=1M", why, sizeof why));
+    front_begin(&front, &disks, way_of(number % WAYS));
+    size_t count = front_set_up(&front, sent, 0);
+    for (size_t i = 2; i < count; i++) {
+      uint64_t request = little_get(sent[i].bytes, 4), q = little_get(sent[i].bytes + HEADER, 4);
+      const struct part parts[] = {{REQUEST, HEAD, false}, {ANSWER, RESPONSE, true}};
+      if (i == 3 || i == 6) continue;  // these have replies of their own
+      bool is_enabled = request == SET_VRING_ENABLE && q > EVENT_QUEUE;
+      if (is_enabled) {
+        put_request(&front, REQUEST, ready, sizeof ready);
+        driver_put(&front, (unsigned)q, parts, 2);
+        driver_kick(&front, (unsigned)q);
+        pump(&front);
+        MUST(!driver_next(&front, (unsigned)q, 2, &length));
+      }
+      MUST(front_ask(&front, &sent[i]));
+      pump(&front);
+      MUST(!is_enabled || driver_next(&front, (unsigned)q, 2, &length));
+      for (unsigned j = 0; is_enabled && j < 3; j++) MUST(command(&front, (unsigned)q, ready, sizeof ready, NULL, 0, NULL, 0) == 0);
+    }
+    if (has_file) load_end(&front, &disks);
+    else front_end(&front), disks_close(&disks);
+  }
+}

@@ -6,4 +6,7 @@
 // and broken ones: each goes on where it stopped, and so do the others.
 void test_stops(void);
 
+// Queues that are enabled one after the other, each with something available: each is asked for its next notification.
+void test_enabled(void);
+
 #endif
