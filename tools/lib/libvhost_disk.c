@@ -25,10 +25,14 @@ static unsigned char *disk;
 
 static void set_watch(VuDev *dev, int fd, int events, vu_watch_cb call, void *data) {
   (void)dev;
-  watched[watches].fd = fd;
-  watched[watches].events = events;
-  watched[watches].call = call;
-  watched[watches++].data = data;
+  unsigned i = 0;
+  // The library asks twice for a kick. To read it twice would wait for the next one.
+  while (i < watches && watched[i].fd != fd) i++;
+  watched[i].fd = fd;
+  watched[i].events = events;
+  watched[i].call = call;
+  watched[i].data = data;
+  if (i == watches) watches++;
 }
 
 static void remove_watch(VuDev *dev, int fd) {
