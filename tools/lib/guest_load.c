@@ -3,7 +3,8 @@
 //     load DEVICE THREADS SECONDS MIB
 //
 // Buffers lie anywhere in so many MiB of the guest's memory. A page has its own number and how often it was written, in each of its
-// words. What a page had at the start is taken as it is, if it is one page of these. At the end each page is read once more.
+// words. What a page had at the start is taken as it is, if it is one page of these; the seconds begin behind that. At the end each
+// page is read once more.
 #define _GNU_SOURCE
 #include <fcntl.h>
 #include <pthread.h>
@@ -23,6 +24,7 @@ static unsigned threads;
 static uint32_t *counts; // how often each page was written
 static unsigned char *memory;
 static time_t end;
+static pthread_barrier_t found, begun;
 static uint64_t done[MOST_THREADS];
 
 static void fail(const char *what, uint64_t page) {
@@ -58,6 +60,8 @@ static void *work(void *which) {
   uint64_t seed = 88172645463325252u + own;
 
   for (uint64_t page = own; page < pages; page += threads) find(page, (uint64_t *)(memory + PAGE * own));
+  pthread_barrier_wait(&found);
+  pthread_barrier_wait(&begun);
   while (time(NULL) < end) {
     seed ^= seed << 13, seed ^= seed >> 7, seed ^= seed << 17;
     uint64_t page = (seed >> 8) % (pages / threads) * threads + own;
@@ -89,11 +93,15 @@ int main(int count, char **words) {
   counts = calloc(pages, sizeof *counts);
   memory = mmap(NULL, rooms * PAGE, PROT_READ | PROT_WRITE, MAP_PRIVATE | MAP_ANONYMOUS | MAP_POPULATE, -1, 0);
   if (!counts || memory == MAP_FAILED || threads > MOST_THREADS) fail("no memory", 0);
+  pthread_barrier_init(&found, NULL, threads + 1);
+  pthread_barrier_init(&begun, NULL, threads + 1);
+  for (unsigned i = 0; i < threads; i++)
+    if (pthread_create(&its[i], NULL, work, (void *)(uintptr_t)i)) fail("no thread", i);
+  pthread_barrier_wait(&found);
   end = time(NULL) + atoi(words[3]);
   printf("GUEST loads\n");
   fflush(stdout);
-  for (unsigned i = 0; i < threads; i++)
-    if (pthread_create(&its[i], NULL, work, (void *)(uintptr_t)i)) fail("no thread", i);
+  pthread_barrier_wait(&begun);
   for (unsigned i = 0; i < threads; i++) pthread_join(its[i], NULL);
   for (uint64_t page = 0; page < pages; page++) {
     read_page(page, (uint64_t *)memory);
