@@ -35,7 +35,8 @@ struct Phase {
     gives_then: [u8; 4],
 }
 
-/// Phases of a new memory. A byte that was read in the phase stays as it was. In the next phase it may have changed.
+/// Phases of a new memory. A byte that was read in the phase stays as it was, and one read whole isn't asked for again. In the
+/// next phase it may have changed.
 static PHASES: [Phase; 3] = [
     Phase {
         addr: 8,
@@ -53,7 +54,7 @@ static PHASES: [Phase; 3] = [
         addr: 40,
         gives: [0, 0, 0, 0],
         then: 7,
-        gives_then: [3, 1, 0, 0],
+        gives_then: [2, 1, 0, 0],
     },
 ];
 
