@@ -117,7 +117,9 @@ def functions(crate, texts):
 
 
 def check(crate, texts, paths):
-    """Checks a copy of a crate with these texts, these functions alone or the whole: the status, and the lines."""
+    """Checks a copy of a crate with these texts, these functions alone or the whole: the status, and the lines. A check of the
+    whole goes on from what an `rt check` of the crate left in its out/incremental, if it did.
+    """
     sys.path.insert(0, str(kit() / "bin"))
     import rtlib
 
@@ -130,6 +132,10 @@ def check(crate, texts, paths):
         for path, (_, text) in texts.items():
             (Path(room) / path).write_text(text)
         only = [word for path in paths for word in ("--only", path)]
+        kept = ROOT / "crates" / crate / "out/incremental"
+        if not paths and kept.is_dir():
+            shutil.copytree(kept, Path(room) / "incremental")
+            only = ["--incremental", "incremental"]
         run = subprocess.run([rtlib.RATTLE, "check", *words, *only], cwd=room, stdin=subprocess.DEVNULL, stdout=subprocess.PIPE, stderr=subprocess.STDOUT, text=True, errors="replace")
     return run.returncode, run.stdout.splitlines()
 
