@@ -1,5 +1,5 @@
 -- How many Commits the phases make, and that they are no act of the operator.
-use Rattle.std.proofs.Common.{◌≡◌, ℕ, ◌+◌, ◌≤◌, Bool, true, false, List, [], ◌∷◌, length, Option, Some, None, sym, subst, ap, ◌∙◌, arith, if◌then◌else◌}
+use Rattle.std.proofs.Common.{◌≡◌, ℕ, ◌+◌, ◌≤◌, Bool, true, false, List, [], ◌∷◌, length, Some, sym, subst, ap, ◌∙◌, arith, if◌then◌else◌}
 use Rattle.unit_model.specs.Jobs.{PlainJob, Jobs}
 use Rattle.unit_model.specs.Steps.{Step}
 use Rattle.unit_model.specs.Unit.{PlainUnit}
@@ -17,22 +17,26 @@ use Rattle.lock_scopes.specs.declared.joined_unit.NextJob.{NextJob}
 use Rattle.lock_scopes.specs.declared.joined_unit.NextJob.TheVariants.{Listed, Taken, Committed}
 use Rattle.lock_scopes.specs.Joined.{LeavesEnters, RunsNext, LeavesEntersRuns}
 use Rattle.phases.specs.Units.{IsEntering, Enters, Commits, Leaves}
-use Rattle.lock_scopes.specs.Ledgers.{commits_of, receipts_due, receipts_run}
+use Rattle.lock_scopes.specs.Ledgers.{commits_of, receipts_due, receipts_run, KeepsActs}
 use Rattle.lock_scopes.specs.Acts.{acts_of}
 
--- a unit has as many Commits as another
+-- a unit has as many Commits as another, and the same acts of the operator
 abbrev pub AsMany : PlainUnit → PlainUnit → Type 0
-AsMany u v = (commits_of v.steps ≡ commits_of u.steps) × (acts_of v.steps ≡ acts_of u.steps)
+AsMany u v = (commits_of v.steps ≡ commits_of u.steps) × KeepsActs u v
 
--- a unit has so many more Commits, and no more acts of the operator
+-- a unit has so many more Commits, and the same acts of the operator
 abbrev pub HasMore : ℕ → PlainUnit → PlainUnit → Type 0
-HasMore n u v = (commits_of v.steps ≡ commits_of u.steps + n) × (acts_of v.steps ≡ acts_of u.steps)
+HasMore n u v = (commits_of v.steps ≡ commits_of u.steps + n) × KeepsActs u v
 
 counted_as : {v w : PlainUnit} → v ≡ w → commits_of v.steps ≡ commits_of w.steps
 counted_as e = ap (λ (z : PlainUnit). commits_of z.steps) e
 
-acted_as : {v w : PlainUnit} → v ≡ w → acts_of v.steps ≡ acts_of w.steps
-acted_as e = ap (λ (z : PlainUnit). acts_of z.steps) e
+acted_as : {v w : PlainUnit} → v ≡ w → KeepsActs w v
+acted_as e = (ap (λ (z : PlainUnit). acts_of z.steps) e, ap (λ (z : PlainUnit). z.opening) e)
+
+-- one unit after another
+on : (u v w : PlainUnit) → KeepsActs u v → KeepsActs v w → KeepsActs u w
+on u v w a b = (b.0 ∙ a.0, b.1 ∙ a.1)
 
 same : (u v : PlainUnit) → v ≡ u → AsMany u v
 same u v e = (counted_as e, acted_as e)
@@ -40,7 +44,7 @@ same u v e = (counted_as e, acted_as e)
 -- what a closure left of what it was lent
 pub none_made : (u v a b : PlainUnit) (n : ℕ) → a ≡ u → b ≡ v → AsMany a b → n ≡ 0 → HasMore n u v
 none_made u v a b n first last m none =
-    (omega (arith, counted_as first, counted_as last, m.0, none), omega (arith, acted_as first, acted_as last, m.1))
+    (omega (arith, counted_as first, counted_as last, m.0, none), on u a v (acted_as first) (on a b v m.1 (acted_as (sym last))))
 
 pub leaves_none : (h : Hand) (u : PlainUnit) (out : Jobs) (b : Bool) (v : PlainUnit) (h' : Hand) (out' : Jobs)
     → Leaves h u out b v h' out' → AsMany u v
@@ -71,7 +75,7 @@ enters_none (Slot.Direct c o) u out true v s' out' e = absurd e
 enters_none (Slot.Direct c o) u out false v s' out' e = same u v e.unit
 
 both : (u v w : PlainUnit) → AsMany u v → AsMany v w → AsMany u w
-both u v w a b = (b.0 ∙ a.0, b.1 ∙ a.1)
+both u v w a b = (b.0 ∙ a.0, on u v w a.1 b.1)
 
 pub turns_none : (h : Hand) (s : Slot) (u : PlainUnit) (out : Jobs) (v : PlainUnit) (h' : Hand) (s' : Slot) (out' : Jobs)
     → LeavesEnters h s u out v h' s' out' → AsMany u v
@@ -104,12 +108,12 @@ pub turns_count : (at : ℕ) (h : declared.Hand) (s : Slot) (u : PlainUnit) (out
 turns_count at h s u out next v h' s' out' e =
     let runs = runs_count at next e.hand e.between e.listed v h' out' e.runs in
     let turns = turns_none (hand_of h) s u out e.between (hand_of e.hand) s' e.listed e.turns in
-    (omega (arith, runs.0, turns.0), runs.1 ∙ turns.1)
+    (omega (arith, runs.0, turns.0), on u e.between v turns.1 runs.1)
 
 -- and the same of what a closure was lent
 pub some_made : (u v a b : PlainUnit) (n m : ℕ) → a ≡ u → b ≡ v → HasMore m a b → n ≡ m → HasMore n u v
 some_made u v a b n m first last made is =
-    (omega (arith, counted_as first, counted_as last, made.0, is), omega (arith, acted_as first, acted_as last, made.1))
+    (omega (arith, counted_as first, counted_as last, made.0, is), on u a v (acted_as first) (on a b v made.1 (acted_as (sym last))))
 
 -- no history has more Commits than steps
 few_commits : (past : List Step) → commits_of past ≤ length past

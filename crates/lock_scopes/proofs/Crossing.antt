@@ -60,6 +60,7 @@ use Rattle.ring_core.specs.contracts.log.QueueLog.{the_row as log_row}
 use Rattle.ring_core.specs.contracts.log.QueueLog.TheInside as log
 use Rattle.std.specs.declared.sync.ledger.Ledger.{Ghosts}
 use Rattle.std.proofs.sync.ledger.Share.TheSendSync as share
+use Rattle.lock_scopes.specs.declared.weighing.Weighing.{Ghosts as Weights}
 use Rattle.phases.proofs.note.Note.TheSendSync as note
 use Rattle.ring_core.specs.contracts.log.Ticket.{the_row as ticket_row}
 use Rattle.lock_scopes.specs.contracts.kept_queue.KeptQueue.{the_row as kept_queue_row, the_field as kept_queue_field, the_type as kept_queue_type}
@@ -186,8 +187,8 @@ kept_queue_sends = recorded_send kept_queue_field.row _ _ kept_queue_type.to_one
 pub part_sends : (L : RattleType) (l : Ghosts L.Denot) → IsSend (part_field L l).row
 part_sends L l = struct_send (shape (part_type L l)) (share.the_send L l, tt)
 
-counted_unit_fields : (C W : RattleType) (c : Ghosts C.Denot) (w : Ghosts W.Denot) → IsSend (counted_unit_field C W c w).row
-counted_unit_fields C W c w = struct_send (shape (counted_unit_type C W c w)) (unit_sends, (part_sends W w, (part_sends C c, tt)))
+counted_unit_fields : (C W : RattleType) (h : Weights C.Denot) (c : Ghosts C.Denot) (w : Ghosts W.Denot) → IsSend (counted_unit_field C W h c w).row
+counted_unit_fields C W h c w = struct_send (shape (counted_unit_type C W h c w)) (unit_sends, (part_sends W w, (part_sends C c, tt)))
 
-pub counted_unit_sends : (C W : RattleType) (c : Ghosts C.Denot) (w : Ghosts W.Denot) → IsSend (counted_unit_row C W c w)
-counted_unit_sends C W c w = recorded_send (counted_unit_field C W c w).row _ _ (counted_unit_type C W c w).to_one (counted_unit_fields C W c w)
+pub counted_unit_sends : (C W : RattleType) (h : Weights C.Denot) (c : Ghosts C.Denot) (w : Ghosts W.Denot) → IsSend (counted_unit_row C W h c w)
+counted_unit_sends C W h c w = recorded_send (counted_unit_field C W h c w).row _ _ (counted_unit_type C W h c w).to_one (counted_unit_fields C W h c w)

@@ -35,10 +35,14 @@ receipts_run Listed h = 0
 receipts_run Taken h = 0
 receipts_run Committed h = receipts_due h
 
+-- own: a unit's history has the acts of the operator that it had, and the unit opened as it had
+abbrev pub KeepsActs : PlainUnit → PlainUnit → Type 0
+KeepsActs u v = (acts_of v.steps ≡ acts_of u.steps) × (v.opening ≡ u.opening)
+
 -- own: a closure says how many Commits it made, and it is no act of the operator
 abbrev pub CountsCommits : {F S U R : Type 0}
     (g : Once F (MutBor PlainUnit × (MutBor S × (MutBor U × Unit {0})))
     ((R × ℕ) × (MutBor PlainUnit × (MutBor S × (MutBor U × Unit {0})))))
     → F → Type 0
 CountsCommits {F} {S} {U} {R} g f = (u v : PlainUnit) (x x' : S) (y y' : U) (r : R × ℕ) → OnceAtThree g f u x y r v x' y'
-    → (commits_of v.steps ≡ commits_of u.steps + r.1) × (acts_of v.steps ≡ acts_of u.steps)
+    → (commits_of v.steps ≡ commits_of u.steps + r.1) × KeepsActs u v

@@ -9,6 +9,7 @@ ghost use Rattle.lock_scopes.specs.Acts.{acts_with, reset_of, resize_of};
 use crate::acts::Acts;
 use crate::counted::CountedUnit;
 use crate::holding::hold;
+use crate::weighing::Weighing;
 use event_queue::WaitingEvents;
 use phases::{ResetFault, ResizeFault};
 use request_intake::Inventory;
@@ -18,7 +19,7 @@ use unit_history::JobList;
 
 /// Resets the unit of a place of the inventory (`phase_hard`), in one hold of its lock, and counts that among the acts.
 /// The operator calls. Returns true if something changed, or `WrongUnit` or `NoMemory` as the phase does.
-pub fn hard_on<R: Wait, C: Ledger, W: Ledger>(
+pub fn hard_on<R: Wait, C: Ledger + Weighing, W: Ledger>(
     rt: &R,
     units: &[Mutex<CountedUnit<C, W>>],
     at: usize,
@@ -42,7 +43,7 @@ pub fn hard_on<R: Wait, C: Ledger, W: Ledger>(
 /// Gives the unit of a place of the inventory another capacity (`phase_resize`), in one hold of its lock, and counts that
 /// among the acts. The operator calls. Answers as the phase does: `WrongUnit`, `BadCapacity` or `NoMemory`, with nothing
 /// changed.
-pub fn resize_on<R: Wait, C: Ledger, W: Ledger>(
+pub fn resize_on<R: Wait, C: Ledger + Weighing, W: Ledger>(
     rt: &R,
     units: &[Mutex<CountedUnit<C, W>>],
     at: usize,

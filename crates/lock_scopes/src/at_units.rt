@@ -7,8 +7,7 @@ ghost use Rattle.phases.specs.Slots.{slot_of};
 ghost use Rattle.phases.specs.Parts.{hand_of};
 ghost use Rattle.phases.specs.Units.{Enters, Commits, Leaves, Marks, Checks};
 ghost use Rattle.phases.specs.Giving.{KeepsOutcome};
-ghost use Rattle.lock_scopes.specs.Ledgers.{commits_of, receipts_made};
-ghost use Rattle.lock_scopes.specs.Acts.{acts_of};
+ghost use Rattle.lock_scopes.specs.Ledgers.{commits_of, receipts_made, KeepsActs};
 ghost use Rattle.lock_scopes.specs.Inner.Acts.{is_hard_mark};
 
 use crate::gate::{Gate, Point};
@@ -178,7 +177,7 @@ fn mark(
 ) -> bool
     ensures marks { Marks inventory.now function.old unit.old out.old result unit.new function.new out.new }
     ensures commits { commits_of unit.new.steps ≡ commits_of unit.old.steps }
-    ensures acts { acts_of unit.new.steps ≡ acts_of unit.old.steps }
+    ensures acts { KeepsActs unit.old unit.new }
 {
     if !is_hard_mark(function) {
         return phase_mark(unit, inventory, function, out);
@@ -214,7 +213,7 @@ pub fn mark_on<B: UnitLender>(
             move |unit, function, out| -> (bool, u64)
                 ensures { Marks inventory.entry.now function.old unit.old out.old result.0 unit.new function.new out.new
                     × (result.1 ≡ 0) × (commits_of unit.new.steps ≡ commits_of unit.old.steps)
-                    × (acts_of unit.new.steps ≡ acts_of unit.old.steps) }
+                    × KeepsActs unit.old unit.new }
             { (mark(unit, inventory, function, out), 0) },
         )
         .0

@@ -1,11 +1,13 @@
 //! A unit whose Commits and acts are counted.
 
 ghost use Rattle.std.specs.Prelude.{◌≡◌, ◌+◌};
+ghost use Rattle.unit_model.specs.Receipts.{unit_address};
 ghost use Rattle.lock_scopes.specs.Ledgers.{commits_of, most_commits};
-ghost use Rattle.lock_scopes.specs.Acts.{acts_of};
+ghost use Rattle.lock_scopes.specs.Acts.{weight_of};
 
 use crate::acts::{Act, Acts};
 use crate::part::Part;
+use crate::weighing::Weighing;
 use event_queue::WaitingEvents;
 use phases::{ResetFault, ResizeFault, phase_hard, phase_resize};
 use request_intake::Inventory;
@@ -18,29 +20,30 @@ use unit_history::{JobList, UnitState};
 /// A unit opens with one for each Commit that it may ever make, and gives one to the seat that makes a Commit. No call
 /// of the ledger needs a lock for that.
 #[derive(Drop)]
-pub struct CountedUnit<C: Ledger, W: Ledger> {
+pub struct CountedUnit<C: Ledger + Weighing, W: Ledger> {
     pub unit: UnitState,
     /// The part that is left for Commits.
     pub part: Part<W>,
-    /// The part that counts the acts of the operator.
+    /// The part in which the acts of the operator are weighed.
     pub acts: Part<C>,
     pub ghost counted: { part.share.amount + commits_of unit.steps ≡ most_commits },
-    pub ghost acted: { acts.share.amount ≡ acts_of unit.steps },
+    pub ghost acted: { acts.share.amount ≡ weight_of C.weight (unit_address unit.opening) unit.steps },
 }
 
-impl<C: Ledger, W: Ledger> CountedUnit<C, W> {
+impl<C: Ledger + Weighing, W: Ledger> CountedUnit<C, W> {
     ghost use Rattle.std.specs.Prelude.{◌≡◌, ◌+◌, ℕ, List, Option, slice_get, IfOk, OnErr, if◌then◌else◌};
+    ghost use Rattle.unit_model.specs.Receipts.{unit_address};
     ghost use Rattle.unit_model.specs.Unit.{PlainUnit, IsUnit};
     ghost use Rattle.phases.specs.Resetting.{Resets};
     ghost use Rattle.phases.specs.Resizing.{ResizesUnit};
     ghost use Rattle.lock_scopes.specs.Lending.{OnceAtThree};
     ghost use Rattle.lock_scopes.specs.Ledgers.{commits_of, most_commits, CountsCommits};
-    ghost use Rattle.lock_scopes.specs.Acts.{acts_of, acts_with, reset_of, resize_of};
+    ghost use Rattle.lock_scopes.specs.Acts.{weight_of, acts_with, reset_of, resize_of};
 
     /// Joins a unit with its parts. Called once for each unit, where a host is opened.
     pub fn new(unit: UnitState, part: Part<W>, acts: Part<C>) -> CountedUnit<C, W>
         requires counted { part.share.amount + commits_of unit.steps ≡ most_commits }
-        requires acted { acts.share.amount ≡ acts_of unit.steps }
+        requires acted { acts.share.amount ≡ weight_of C.weight (unit_address unit.opening) unit.steps }
     {
         CountedUnit { unit, part, acts }
     }
@@ -70,7 +73,7 @@ impl<C: Ledger, W: Ledger> CountedUnit<C, W> {
         (answer, commits)
     }
 
-    /// Resets the unit for the operator (`phase_hard`), and counts that.
+    /// Resets the unit for the operator (`phase_hard`), and weighs that.
     pub(crate) fn hard(
         &mut self,
         at: usize,
@@ -91,7 +94,7 @@ impl<C: Ledger, W: Ledger> CountedUnit<C, W> {
         };
         let CountedUnit {
             unit,
-            acts: count,
+            acts: share,
             ..
         } = self;
         unit.stands();
@@ -99,7 +102,7 @@ impl<C: Ledger, W: Ledger> CountedUnit<C, W> {
         unit.stands();
         let was_reset = done?;
         if was_reset {
-            acts.count(count, Act::Reset(*address));
+            acts.add(share, Act::Reset(*address));
         }
         Ok(was_reset)
     }
@@ -126,7 +129,7 @@ impl<C: Ledger, W: Ledger> CountedUnit<C, W> {
         };
         let CountedUnit {
             unit,
-            acts: count,
+            acts: share,
             ..
         } = self;
         unit.stands();
@@ -134,7 +137,7 @@ impl<C: Ledger, W: Ledger> CountedUnit<C, W> {
         unit.stands();
         let was_resized = done?;
         if was_resized {
-            acts.count(count, Act::Resize(*address, blocks, told));
+            acts.add(share, Act::Resize(*address, blocks, told));
         }
         Ok(was_resized)
     }

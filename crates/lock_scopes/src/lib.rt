@@ -29,6 +29,7 @@ mod lend;
 mod locked;
 mod part;
 mod plain;
+mod weighing;
 
 pub use acting::{hard_on, resize_on};
 pub use acts::{Act, Acts};
@@ -47,3 +48,4 @@ pub use lend::{QueueLender, UnitLender};
 pub use locked::{LockedQueues, LockedUnits};
 pub use part::Part;
 pub use plain::Plain;
+pub use weighing::Weighing;

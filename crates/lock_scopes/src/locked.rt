@@ -9,6 +9,7 @@ use crate::holding::hold;
 use crate::kept_queue::KeptQueue;
 use crate::lend::{QueueLender, UnitLender};
 use crate::part::Part;
+use crate::weighing::Weighing;
 use foundation::NoMemory;
 use guest_mem::GuestMem;
 use phases::Slot;
@@ -23,7 +24,7 @@ use virtqueue::Queue;
 /// free, a unit's history is lawful, its blocks and what it has pending are those of that history, and it has all
 /// Commits and acts of the operator that were counted for it.
 #[derive(Drop)]
-pub struct LockedUnits<'a, R: Wait, C: Ledger, W: Ledger> {
+pub struct LockedUnits<'a, R: Wait, C: Ledger + Weighing, W: Ledger> {
     /// The leave to wait, which a thread needs for a lock.
     pub rt: &'a R,
     /// The units by their indices in the inventory.
@@ -32,7 +33,7 @@ pub struct LockedUnits<'a, R: Wait, C: Ledger, W: Ledger> {
     pub seat: &'a mut Part<W>,
 }
 
-impl<'a, R: Wait, C: Ledger, W: Ledger> UnitLender for LockedUnits<'a, R, C, W> {
+impl<'a, R: Wait, C: Ledger + Weighing, W: Ledger> UnitLender for LockedUnits<'a, R, C, W> {
     ghost lends_unit = { λ s at u. IsUnit u };
 
     ghost keeps_unit = { λ s at v t. IsUnit v × (t.units ≡ s.units) };
