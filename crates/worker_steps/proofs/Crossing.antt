@@ -35,6 +35,7 @@ use Rattle.handoff.specs.contracts.queue.Handoff.TheInside as handoff
 use Rattle.worker_steps.specs.contracts.shared.Shared.{the_row as shared_row, the_type as shared_type}
 use Rattle.ring_core.specs.contracts.log.Ticket.{the_row as ticket_row}
 use Rattle.std.specs.declared.sync.ledger.Ledger.{Ghosts}
+use Rattle.lock_scopes.specs.declared.weighing.Weighing.{Ghosts as Weights}
 use Rattle.worker_steps.specs.contracts.post.Post.{the_row as post_row, the_field as post_field, the_type as post_type}
 
 option_sends : (R : RattleType) → IsSend (row_field R).row → IsSend (option_field R).row
@@ -94,9 +95,9 @@ handoff_sends : IsSend handoff_row
 handoff_sends = search (sendable, handoff_fields_send)
 
 -- threads may share what a host has, where they may share its gate
-pub shared_syncs : (G C W : RattleType) (c : Ghosts C.Denot) (w : Ghosts W.Denot) → IsSync G → IsSync (shared_row G C W c w)
-shared_syncs G C W c w gate = declared_sync (shared_type G C W c w) (
-  search (crosses, counted_unit_sends C W c w) depth 20,
+pub shared_syncs : (G C W : RattleType) (h : Weights C.Denot) (c : Ghosts C.Denot) (w : Ghosts W.Denot) → IsSync G → IsSync (shared_row G C W h c w)
+shared_syncs G C W h c w gate = declared_sync (shared_type G C W h c w) (
+  search (crosses, counted_unit_sends C W h c w) depth 20,
   (
     search (crosses, kept_queue_sends),
     (
@@ -128,9 +129,9 @@ shared_syncs G C W c w gate = declared_sync (shared_type G C W c w) (
 )
 
 -- and what one thread has of it may go to another
-pub shared_sends : (G C W : RattleType) (c : Ghosts C.Denot) (w : Ghosts W.Denot) → IsSend G → IsSend (shared_row G C W c w)
-shared_sends G C W c w gate = declared_send (shared_type G C W c w) (
-  Vec-send (mutex_row (counted_unit_row C W c w)) (search (crosses, counted_unit_sends C W c w)),
+pub shared_sends : (G C W : RattleType) (h : Weights C.Denot) (c : Ghosts C.Denot) (w : Ghosts W.Denot) → IsSend G → IsSend (shared_row G C W h c w)
+shared_sends G C W h c w gate = declared_send (shared_type G C W h c w) (
+  Vec-send (mutex_row (counted_unit_row C W h c w)) (search (crosses, counted_unit_sends C W h c w)),
   (
     search (crosses, kept_queue_sends),
     (

@@ -8,8 +8,8 @@ use crate::progress::Progress;
 use crate::shared::Shared;
 use event_queue::WaitingEvents;
 use lock_scopes::{
-    Gate, answer_tmf_on, check_on, direct_on, fetch_control_on, fetch_event_on, hold, mark_on,
-    raise_on,
+    Gate, Weighing, answer_tmf_on, check_on, direct_on, fetch_control_on, fetch_event_on, hold,
+    mark_on, raise_on,
 };
 use phases::{OpenFunction, Slot};
 use scsi_codec::{CONTROL_QUEUE, EVENT_QUEUE};
@@ -23,7 +23,7 @@ const CONTROL: usize = CONTROL_QUEUE as usize;
 const EVENTS: usize = EVENT_QUEUE as usize;
 
 /// Takes the next step of the open function; `None` where nothing is left for it to do but to be answered.
-fn go_on<R: Wait, G: Gate + Drop, C: Ledger, W: Ledger>(
+fn go_on<R: Wait, G: Gate + Drop, C: Ledger + Weighing, W: Ledger>(
     rt: &R,
     shared: &Shared<G, C, W>,
     function: &mut OpenFunction,
@@ -59,7 +59,7 @@ fn go_on<R: Wait, G: Gate + Drop, C: Ledger, W: Ledger>(
 }
 
 /// Answers the open function, where nothing is left for it to do.
-fn answer<R: Wait, G: Gate + Drop, C: Ledger, W: Ledger>(
+fn answer<R: Wait, G: Gate + Drop, C: Ledger + Weighing, W: Ledger>(
     rt: &R,
     shared: &Shared<G, C, W>,
     function: &mut Option<OpenFunction>,
@@ -71,7 +71,7 @@ fn answer<R: Wait, G: Gate + Drop, C: Ledger, W: Ledger>(
 }
 
 /// Takes the control queue's next chain, which opens a function or is answered.
-fn fetch_control<R: Wait, G: Gate + Drop, C: Ledger, W: Ledger>(
+fn fetch_control<R: Wait, G: Gate + Drop, C: Ledger + Weighing, W: Ledger>(
     rt: &R,
     shared: &Shared<G, C, W>,
     function: &mut Option<OpenFunction>,
@@ -91,7 +91,7 @@ fn fetch_control<R: Wait, G: Gate + Drop, C: Ledger, W: Ledger>(
 
 /// Takes a step of the function that is open, or else takes the next chain of the control queue. The first worker
 /// calls, in each round in which it looks at these. A refused growth counts as made.
-pub fn manage<R: Wait, G: Gate + Drop, C: Ledger, W: Ledger>(
+pub fn manage<R: Wait, G: Gate + Drop, C: Ledger + Weighing, W: Ledger>(
     rt: &R,
     shared: &Shared<G, C, W>,
     function: &mut Option<OpenFunction>,
@@ -112,7 +112,7 @@ pub fn manage<R: Wait, G: Gate + Drop, C: Ledger, W: Ledger>(
 
 /// Takes the event queue's next chain into the port. The first worker calls, behind `manage`. A refused growth counts
 /// as made.
-pub fn fetch_event<R: Wait, G: Gate + Drop, C: Ledger, W: Ledger>(
+pub fn fetch_event<R: Wait, G: Gate + Drop, C: Ledger + Weighing, W: Ledger>(
     rt: &R,
     shared: &Shared<G, C, W>,
 ) -> Progress {
@@ -125,7 +125,7 @@ pub fn fetch_event<R: Wait, G: Gate + Drop, C: Ledger, W: Ledger>(
 }
 
 /// Gives the oldest event that waits to the guest, or misses it. The operator calls, behind a reset or a resize.
-pub fn raise<R: Wait, G: Gate + Drop, C: Ledger, W: Ledger>(
+pub fn raise<R: Wait, G: Gate + Drop, C: Ledger + Weighing, W: Ledger>(
     rt: &R,
     shared: &Shared<G, C, W>,
     waiting: &mut WaitingEvents,

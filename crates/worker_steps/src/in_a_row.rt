@@ -12,7 +12,7 @@ use crate::post::{Post, commit, is_long, leave, pass, serve_hand, take_own, tick
 use crate::requests::{direct, fetch_next, pass_answered};
 use crate::shared::Shared;
 use lock_scopes::{
-    Gate, NextJob, Point, answer_take_on, enter_on, leave_enter_commit_on, leave_enter_on,
+    Gate, NextJob, Point, Weighing, answer_take_on, enter_on, leave_enter_commit_on, leave_enter_on,
 };
 use phases::{Hand, Slot};
 use ring_core::Ticket;
@@ -57,7 +57,7 @@ fn has_job(hand: &Hand) -> bool
 /// Has the task in the hand leave a unit and the request that arrived enter it, in one hold. Commits the only job that
 /// may run then in the same hold, where no gate watches, and the request is short or no other worker waits for a job.
 /// Where a job is in the hand the request enters alone.
-fn turn_at<R: Wait, G: Gate + Drop, C: Ledger, W: Ledger>(
+fn turn_at<R: Wait, G: Gate + Drop, C: Ledger + Weighing, W: Ledger>(
     rt: &R,
     shared: &Shared<G, C, W>,
     at: usize,
@@ -91,7 +91,7 @@ fn turn_at<R: Wait, G: Gate + Drop, C: Ledger, W: Ledger>(
 
 /// Has the task in the hand leave, where one is, and the request that arrived enter its unit, where one did: in one
 /// hold where both are of one unit.
-pub(crate) fn turn<R: Wait, G: Gate + Drop, C: Ledger, W: Ledger>(
+pub(crate) fn turn<R: Wait, G: Gate + Drop, C: Ledger + Weighing, W: Ledger>(
     rt: &R,
     shared: &Shared<G, C, W>,
     slot: &mut Slot,
@@ -127,7 +127,7 @@ pub(crate) fn turn<R: Wait, G: Gate + Drop, C: Ledger, W: Ledger>(
 
 /// Answers the job in the hand and takes the next chain of its queue into an empty slot, in one hold. Keeps what the
 /// job leaves.
-fn answer_and_fetch<R: Wait, G: Gate + Drop, C: Ledger, W: Ledger>(
+fn answer_and_fetch<R: Wait, G: Gate + Drop, C: Ledger + Weighing, W: Ledger>(
     rt: &R,
     shared: &Shared<G, C, W>,
     at: usize,
@@ -187,7 +187,7 @@ fn is_of_queue<W: Ledger>(post: &Post<W>, at: usize) -> bool {
 
 /// Returns true if one job is in the hand, and no other may run. Where the hand is free it first takes the only job
 /// that may run, if no other worker waits for one.
-pub(crate) fn has_one_job<G: Gate + Drop, C: Ledger, W: Ledger>(
+pub(crate) fn has_one_job<G: Gate + Drop, C: Ledger + Weighing, W: Ledger>(
     shared: &Shared<G, C, W>,
     post: &mut Post<W>,
 ) -> bool
@@ -204,7 +204,7 @@ pub(crate) fn has_one_job<G: Gate + Drop, C: Ledger, W: Ledger>(
 /// Serves the job in the hand, and takes the next chain of the queue, which comes to its unit or is answered. A long
 /// answer holds the memory, so the next chain is taken before it, as work for a time when others hold the memory. Else
 /// it is taken in the hold of the answer. Does nothing where memory was refused.
-pub(crate) fn serve_and_fetch<R: Wait, G: Gate + Drop, C: Ledger, W: Ledger>(
+pub(crate) fn serve_and_fetch<R: Wait, G: Gate + Drop, C: Ledger + Weighing, W: Ledger>(
     rt: &R,
     shared: &Shared<G, C, W>,
     at: usize,

@@ -13,7 +13,7 @@ use crate::shared::Shared;
 use cdb::Command;
 use close_audit::Kept;
 use handoff::Seat;
-use lock_scopes::{Gate, Part, Point, answer_on, commit_on, leave_on, prepare_on};
+use lock_scopes::{Gate, Part, Point, Weighing, answer_on, commit_on, leave_on, prepare_on};
 use phases::Hand;
 use ring_core::Ticket;
 use std::alloc::{AllocError, Global};
@@ -75,7 +75,7 @@ fn is_write(hand: &Hand) -> bool {
 }
 
 /// Makes the pages of the WRITE in the hand, where its job is to be committed there and its unit gives what they need.
-fn prepare<R: Wait, G: Gate + Drop, C: Ledger, W: Ledger>(
+fn prepare<R: Wait, G: Gate + Drop, C: Ledger + Weighing, W: Ledger>(
     rt: &R,
     shared: &Shared<G, C, W>,
     at: usize,
@@ -95,7 +95,7 @@ fn prepare<R: Wait, G: Gate + Drop, C: Ledger, W: Ledger>(
 }
 
 /// Commits the job in the hand, where one is there that isn't committed. The pages of a WRITE are made before that.
-pub(crate) fn commit<R: Wait, G: Gate + Drop, C: Ledger, W: Ledger>(
+pub(crate) fn commit<R: Wait, G: Gate + Drop, C: Ledger + Weighing, W: Ledger>(
     rt: &R,
     shared: &Shared<G, C, W>,
     post: &mut Post<W>,
@@ -122,7 +122,7 @@ pub(crate) fn commit<R: Wait, G: Gate + Drop, C: Ledger, W: Ledger>(
 }
 
 /// Answers the job in the hand, where one is there whose commit is over, and keeps what it leaves.
-fn answer<R: Wait, G: Gate + Drop, C: Ledger, W: Ledger>(
+fn answer<R: Wait, G: Gate + Drop, C: Ledger + Weighing, W: Ledger>(
     rt: &R,
     shared: &Shared<G, C, W>,
     post: &mut Post<W>,
@@ -151,7 +151,7 @@ fn answer<R: Wait, G: Gate + Drop, C: Ledger, W: Ledger>(
 
 /// Has the task in the hand leave, where one is there. The jobs that this lets go on come to the list, to be handed
 /// off.
-pub(crate) fn leave<R: Wait, G: Gate + Drop, C: Ledger, W: Ledger>(
+pub(crate) fn leave<R: Wait, G: Gate + Drop, C: Ledger + Weighing, W: Ledger>(
     rt: &R,
     shared: &Shared<G, C, W>,
     post: &mut Post<W>,
@@ -221,7 +221,7 @@ impl<W: Ledger> Post<W> {
 
 /// Commits, answers and lets leave what is in the hand, from where it has come. Room for what it leaves was made
 /// before.
-fn serve<R: Wait, G: Gate + Drop, C: Ledger, W: Ledger>(
+fn serve<R: Wait, G: Gate + Drop, C: Ledger + Weighing, W: Ledger>(
     rt: &R,
     shared: &Shared<G, C, W>,
     post: &mut Post<W>,
@@ -237,7 +237,7 @@ fn serve<R: Wait, G: Gate + Drop, C: Ledger, W: Ledger>(
 }
 
 /// Serves what is in the hand, where there is room for what it leaves.
-pub(crate) fn serve_hand<R: Wait, G: Gate + Drop, C: Ledger, W: Ledger>(
+pub(crate) fn serve_hand<R: Wait, G: Gate + Drop, C: Ledger + Weighing, W: Ledger>(
     rt: &R,
     shared: &Shared<G, C, W>,
     post: &mut Post<W>,
@@ -253,7 +253,7 @@ pub(crate) fn serve_hand<R: Wait, G: Gate + Drop, C: Ledger, W: Ledger>(
 }
 
 /// Takes a job into the hand, and serves it where there is room for what it leaves.
-fn serve_job<R: Wait, G: Gate + Drop, C: Ledger, W: Ledger>(
+fn serve_job<R: Wait, G: Gate + Drop, C: Ledger + Weighing, W: Ledger>(
     rt: &R,
     shared: &Shared<G, C, W>,
     post: &mut Post<W>,
@@ -271,7 +271,7 @@ fn serve_job<R: Wait, G: Gate + Drop, C: Ledger, W: Ledger>(
 
 /// Takes the only job that may run into the hand, where that is free and no other worker waits for a job. Returns true
 /// if it took one.
-pub(crate) fn take_own<G: Gate + Drop, C: Ledger, W: Ledger>(
+pub(crate) fn take_own<G: Gate + Drop, C: Ledger + Weighing, W: Ledger>(
     shared: &Shared<G, C, W>,
     post: &mut Post<W>,
 ) -> bool
@@ -292,7 +292,7 @@ pub(crate) fn take_own<G: Gate + Drop, C: Ledger, W: Ledger>(
 
 /// Hands off the next job that may run; this seat serves it where the hand-off is full. Returns true if there was one,
 /// and the hand was free for it.
-fn put<R: Wait, G: Gate + Drop, C: Ledger, W: Ledger>(
+fn put<R: Wait, G: Gate + Drop, C: Ledger + Weighing, W: Ledger>(
     rt: &R,
     shared: &Shared<G, C, W>,
     post: &mut Post<W>,
@@ -317,7 +317,7 @@ fn put<R: Wait, G: Gate + Drop, C: Ledger, W: Ledger>(
 
 /// Serves or hands off what this seat has, until it has nothing, or memory was refused to it. A worker calls as a round
 /// begins, and behind each job and each queue; the operator, before and behind a reset.
-pub fn drain<R: Wait, G: Gate + Drop, C: Ledger, W: Ledger>(
+pub fn drain<R: Wait, G: Gate + Drop, C: Ledger + Weighing, W: Ledger>(
     rt: &R,
     shared: &Shared<G, C, W>,
     post: &mut Post<W>,
@@ -338,7 +338,7 @@ pub fn drain<R: Wait, G: Gate + Drop, C: Ledger, W: Ledger>(
 
 /// Serves or hands off what this seat has, until it has nothing. Where memory was refused it tries again, once other
 /// threads had their turn. Called for the operator's seat, as its host is closed.
-pub fn finish<R: Wait, G: Gate + Drop, C: Ledger, W: Ledger>(
+pub fn finish<R: Wait, G: Gate + Drop, C: Ledger + Weighing, W: Ledger>(
     rt: &R,
     shared: &Shared<G, C, W>,
     post: &mut Post<W>,
@@ -362,7 +362,7 @@ pub fn finish<R: Wait, G: Gate + Drop, C: Ledger, W: Ledger>(
 
 /// Takes a job from the hand-off and serves it, and hands off the jobs that may run then. A worker calls once a round.
 /// `Idle` where the hand-off was found empty; a refused growth counts as made.
-pub fn serve_handed_off<R: Wait, G: Gate + Drop, C: Ledger, W: Ledger>(
+pub fn serve_handed_off<R: Wait, G: Gate + Drop, C: Ledger + Weighing, W: Ledger>(
     rt: &R,
     shared: &Shared<G, C, W>,
     post: &mut Post<W>,

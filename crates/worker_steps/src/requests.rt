@@ -11,7 +11,7 @@ use crate::in_a_row::{has_one_job, serve_and_fetch, turn};
 use crate::post::{Post, drain};
 use crate::progress::Progress;
 use crate::shared::Shared;
-use lock_scopes::{Gate, Point, direct_on, take_on};
+use lock_scopes::{Gate, Point, Weighing, direct_on, take_on};
 use phases::{Cause, Note, ReceiptOrNote, Slot};
 use ring_core::Ticket;
 use std::sync::Wait;
@@ -29,7 +29,7 @@ pub(crate) fn pass_answered<G: Gate>(gate: &G, answered: Option<Ticket>) {
 
 /// Answers the request in the slot that its unit refused, where one is there, and keeps the note of why it got no
 /// receipt. An answer that was decided at the fetch is given in the hold of that, so a note Direct never comes here.
-pub(crate) fn direct<R: Wait, G: Gate + Drop, C: Ledger, W: Ledger>(
+pub(crate) fn direct<R: Wait, G: Gate + Drop, C: Ledger + Weighing, W: Ledger>(
     rt: &R,
     shared: &Shared<G, C, W>,
     at: usize,
@@ -79,7 +79,7 @@ fn keep_note<W: Ledger>(post: &mut Post<W>, note: Note)
 
 /// Takes a request queue's next chain, and brings it to its unit or answers it. Returns true if there was one; `None`
 /// where memory was refused.
-pub(crate) fn fetch_next<R: Wait, G: Gate + Drop, C: Ledger, W: Ledger>(
+pub(crate) fn fetch_next<R: Wait, G: Gate + Drop, C: Ledger + Weighing, W: Ledger>(
     rt: &R,
     shared: &Shared<G, C, W>,
     at: usize,
@@ -105,7 +105,7 @@ pub(crate) fn fetch_next<R: Wait, G: Gate + Drop, C: Ledger, W: Ledger>(
 /// Takes a request queue's next chain, and brings it to its unit or answers it. Serves the job that it gives, where no
 /// other worker waits for one, and likewise the next requests of the queue, up to [`IN_A_ROW`]. The queue's
 /// owner calls, once it found the hand-off empty. A refused growth counts as made.
-pub fn serve_queue<R: Wait, G: Gate + Drop, C: Ledger, W: Ledger>(
+pub fn serve_queue<R: Wait, G: Gate + Drop, C: Ledger + Weighing, W: Ledger>(
     rt: &R,
     shared: &Shared<G, C, W>,
     at: usize,

@@ -7,7 +7,7 @@ use crossbeam_utils::CachePadded;
 use event_queue::EventPort;
 use guest_mem::GuestMem;
 use handoff::Handoff;
-use lock_scopes::{CountedUnit, Gate, KeptQueue, LockedQueues, LockedUnits, Part};
+use lock_scopes::{CountedUnit, Gate, KeptQueue, LockedQueues, LockedUnits, Part, Weighing};
 use request_intake::Inventory;
 use std::sync::atomic::{AtomicBool, AtomicU64, Ordering};
 use std::sync::ledger::Ledger;
@@ -16,7 +16,7 @@ use std::sync::{Mutex, Wait};
 /// The parts of a device that threads share: its units, its queues and the memory, each under a lock. The event port
 /// has one that is taken round that of the event queue. The inventory never changes.
 #[derive(Drop)]
-pub struct Parts<C: Ledger, W: Ledger> {
+pub struct Parts<C: Ledger + Weighing, W: Ledger> {
     pub units: Vec<Mutex<CountedUnit<C, W>>>,
     pub queues: Vec<Mutex<KeptQueue>>,
     pub memory: Mutex<GuestMem>,
@@ -32,7 +32,7 @@ pub struct Parts<C: Ledger, W: Ledger> {
 /// - the memory's alone;
 /// - the event port's, round that of the event queue, which nobody takes without it.
 #[derive(Drop)]
-pub struct Shared<G: Gate + Drop, C: Ledger, W: Ledger> {
+pub struct Shared<G: Gate + Drop, C: Ledger + Weighing, W: Ledger> {
     pub units: Vec<Mutex<CountedUnit<C, W>>>,
     pub queues: Vec<Mutex<KeptQueue>>,
     pub(crate) port: Mutex<EventPort>,
@@ -50,7 +50,7 @@ pub struct Shared<G: Gate + Drop, C: Ledger, W: Ledger> {
     pub memory: CachePadded<Mutex<GuestMem>>,
 }
 
-impl<G: Gate + Drop, C: Ledger, W: Ledger> Shared<G, C, W> {
+impl<G: Gate + Drop, C: Ledger + Weighing, W: Ledger> Shared<G, C, W> {
     /// Shares the parts of a device, at this hand-off. No worker is to end. Called once, where a host is started.
     pub fn new(parts: Parts<C, W>, handoff: Handoff, gate: G) -> Shared<G, C, W>
         ensures handoff { result.handoff ≡ handoff }
