@@ -1,4 +1,4 @@
-//! A unit whose Commits and acts are counted.
+//! A unit whose Commits are counted, and whose acts of the operator are weighed.
 
 ghost use Rattle.std.specs.Prelude.{◌≡◌, ◌+◌};
 ghost use Rattle.unit_model.specs.Receipts.{unit_address};
@@ -15,7 +15,8 @@ use std::sync::ledger::Ledger;
 use unit_history::{JobList, UnitState};
 
 /// A unit, with its parts of two ledgers. It stands under the unit's lock: so whenever that is free, no Commit for which
-/// a receipt was counted is missing from the history, and no act of the operator.
+/// a receipt was counted is missing from the history. And the acts of the operator in the history weigh, at the unit's
+/// address, what was weighed for this unit.
 ///
 /// A unit opens with one for each Commit that it may ever make, and gives one to the seat that makes a Commit. No call
 /// of the ledger needs a lock for that.
@@ -73,7 +74,7 @@ impl<C: Ledger + Weighing, W: Ledger> CountedUnit<C, W> {
         (answer, commits)
     }
 
-    /// Resets the unit for the operator (`phase_hard`), and weighs that.
+    /// Resets the unit for the operator (`phase_hard`), and adds that to the acts.
     pub(crate) fn hard(
         &mut self,
         at: usize,
@@ -107,7 +108,7 @@ impl<C: Ledger + Weighing, W: Ledger> CountedUnit<C, W> {
         Ok(was_reset)
     }
 
-    /// Gives the unit another capacity for the operator (`phase_resize`), and counts that.
+    /// Gives the unit another capacity for the operator (`phase_resize`), and adds that to the acts.
     pub(crate) fn resize(
         &mut self,
         at: usize,

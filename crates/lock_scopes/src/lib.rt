@@ -6,8 +6,9 @@
 //!
 //! What one thread lends is what stands there. What a lock lends is lawful, memory has at most 2^28 bytes, and so
 //! they come back. No clause says that it is the one that the lock held before. Whenever a unit's lock is free, its
-//! history has all Commits and acts of the operator that were counted for it. Phases that share a hold do each
-//! their part on what the one before left.
+//! history has all Commits that were counted for it. The acts of the operator in it weigh what was weighed for it,
+//! at its address and by any weighing: so they are those that were made of it. Phases that share a hold do each their
+//! part on what the one before left.
 //!
 //! Whenever a queue's lock is free, each request that it accepted has one fetch, and each note Direct that it has is of
 //! a request whose fetch decided its answer. Nothing but a fetch and the answer in its hold adds to either: that rests

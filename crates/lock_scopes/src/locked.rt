@@ -21,8 +21,8 @@ use virtqueue::Queue;
 
 /// The units that threads share, each under a lock of its own. A thread holds it while one phase runs, or several that
 /// follow one another, and takes no other meanwhile. No clause says what a lock held at a moment. But whenever it is
-/// free, a unit's history is lawful, its blocks and what it has pending are those of that history, and it has all
-/// Commits and acts of the operator that were counted for it.
+/// free, a unit's history is lawful, its blocks and what it has pending are those of that history, it has all Commits
+/// that were counted for it, and its acts of the operator weigh what was weighed for it.
 #[derive(Drop)]
 pub struct LockedUnits<'a, R: Wait, C: Ledger + Weighing, W: Ledger> {
     /// The leave to wait, which a thread needs for a lock.

@@ -4,11 +4,11 @@ ghost use Rattle.std.specs.Prelude.{◌≡◌, ◌+◌, ◌*◌, ◌≤◌, ◌+
 ghost use Rattle.close_audit.specs.Keeping.{receipts_kept};
 ghost use Rattle.lock_scopes.specs.Ledgers.{most_commits};
 ghost use Rattle.workers.specs.Inner.Fetches.{AreGathered};
-ghost use Rattle.workers.specs.Ledgers.{commits_in, acts_in};
+ghost use Rattle.workers.specs.Ledgers.{commits_in, weight_in};
 
 use crate::tallied::{BlankPart, Tallied};
 use close_audit::{CloseFault, ClosedQueues, Kept};
-use lock_scopes::{CountedUnit, KeptQueue, Part};
+use lock_scopes::{CountedUnit, KeptQueue, Part, Weighing};
 use phases::Note;
 use std::alloc::{AllocError, Global};
 use std::sync::Mutex;
@@ -36,9 +36,9 @@ pub(crate) fn split_off<W: Ledger>(
     Ok(parts)
 }
 
-/// Takes units out of their locks, and merges their parts of the ledgers into shares: what counts their acts, and what
-/// they had left for Commits.
-pub(crate) fn units_of<C: Ledger, W: Ledger>(
+/// Takes units out of their locks, and merges their parts of the ledgers into shares: what their acts weigh, and what they
+/// had left for Commits.
+pub(crate) fn units_of<C: Ledger + Weighing, W: Ledger>(
     alloc: Global,
     locks: Vec<Mutex<CountedUnit<C, W>>>,
     acts: &mut Share<C>,
@@ -47,7 +47,7 @@ pub(crate) fn units_of<C: Ledger, W: Ledger>(
     ensures units { IfOk result (λ units. vec_len units ≡ vec_len locks) }
     ensures parts { OnOk result ((acts.new.parts ≡ acts.old.parts + vec_len locks)
         × (left.new.parts ≡ left.old.parts + vec_len locks)) }
-    ensures acts { IfOk result (λ units. acts.new.amount ≡ acts.old.amount + acts_in units.items) }
+    ensures acts { IfOk result (λ units. acts.new.amount ≡ acts.old.amount + weight_in C.weight units.items) }
     ensures commits { IfOk result (λ units.
         left.new.amount + commits_in units.items ≡ left.old.amount + vec_len units * most_commits) }
 {

@@ -21,7 +21,7 @@ use event_queue::WaitingEvents;
 use foundation::NoMemory;
 use guest_mem::MemFault;
 use handoff::{Handoff, Seat};
-use lock_scopes::{Acts, Gate, hold, peek_on, poke_on};
+use lock_scopes::{Acts, Gate, Weighing, hold, peek_on, poke_on};
 use phases::{ResetFault, ResizeFault};
 use request_intake::UnitSpec;
 use ring_core::RingFault;
@@ -39,7 +39,7 @@ impl<W: Ledger> Begins for Post<W> {
     ghost is_even = { λ p. Tallies p.lost p.part.share.amount p.kept p.hand };
 }
 
-impl<G: Gate + Drop, C: Ledger, W: Ledger> Works<Post<W>, Tallied<W>, BlankPart<W>>
+impl<G: Gate + Drop, C: Ledger + Weighing, W: Ledger> Works<Post<W>, Tallied<W>, BlankPart<W>>
     for Shared<G, C, W> {
     ghost hub = { λ s. s.handoff };
 
@@ -100,7 +100,7 @@ fn started<R, G, C, W>(
 where
     R: Threads + Wait + Copy + Send + 'static,
     G: Gate + Drop + Send + Sync + 'static,
-    C: Ledger + Send + Sync + 'static,
+    C: Ledger + Weighing + Send + Sync + 'static,
     W: Ledger + Send + Sync + 'static,
     requires valid { is_config config ≡ true }
     requires acts { Opens acts.name acts.parts C.name C.parts 64 }
@@ -150,9 +150,10 @@ pub struct Seen {
 
 /// A device that threads serve. Clauses see how many workers and queues it has, the units that it was opened with,
 /// whether its driver is told of capacities that change, and what its operator did to units.
-/// Its ledger `C` counts the operator's acts. `W` counts the Commits of its units, and the receipts that its workers
-/// and the operator got for them. A host isn't `Drop`: its starter closes it, which ends its threads.
-pub struct Host<G: Gate + Drop, C: Ledger, W: Ledger> {
+/// Its ledger `C` has what the operator's acts weigh: a host is proved for every weighing, and none of them shows at run
+/// time. `W` counts the Commits of its units, and the receipts that its workers and the operator got for them. A host
+/// isn't `Drop`: its starter closes it, which ends its threads.
+pub struct Host<G: Gate + Drop, C: Ledger + Weighing, W: Ledger> {
     alloc: Global,
     shared: Arc<Shared<G, C, W>>,
     crew: Crew<Tallied<W>>,
@@ -168,7 +169,7 @@ pub struct Host<G: Gate + Drop, C: Ledger, W: Ledger> {
     specs: Vec<UnitSpec>,
 }
 
-impl<G: Gate + Drop, C: Ledger, W: Ledger> Model for Host<G, C, W> {
+impl<G: Gate + Drop, C: Ledger + Weighing, W: Ledger> Model for Host<G, C, W> {
     ghost use Rattle.std.specs.Prelude.{◌≡◌, ◌+◌, ◌*◌, ◌≤◌, map, vec_len};
     ghost use Rattle.std.specs.Arc.{arc_value};
     ghost use Rattle.lock_scopes.specs.Ledgers.{most_commits};
@@ -198,7 +199,7 @@ impl<G: Gate + Drop, C: Ledger, W: Ledger> Model for Host<G, C, W> {
         × (h.ledgers.book.total ≡ vec_len (arc_value h.shared).units * most_commits) };
 }
 
-impl<G: Gate + Drop, C: Ledger, W: Ledger> Host<G, C, W> {
+impl<G: Gate + Drop, C: Ledger + Weighing, W: Ledger> Host<G, C, W> {
     ghost use Rattle.std.specs.Prelude.{◌≡◌, ◌<◌, ◌≤◌, true, List, ℕ, length, map, IfOk, IfErr, IfSome, OnOk, OnErr, vec_len, is_some, nat_lt};
     ghost use Rattle.guest_mem.specs.declared.memory.MemFault.TheVariants as MemFault;
     ghost use Rattle.lock_scopes.specs.Lending.{IsMemory};
@@ -208,9 +209,9 @@ impl<G: Gate + Drop, C: Ledger, W: Ledger> Host<G, C, W> {
     ghost use Rattle.workers.specs.Resizing.{ResizeFails, WasResized};
     ghost use Rattle.request_intake.specs.Inventory.{address_of};
     ghost use Rattle.workers.specs.Fetches.{AreDecided};
-    ghost use Rattle.workers.specs.Ledgers.{Opens, commits_in, acts_in};
+    ghost use Rattle.workers.specs.Ledgers.{Opens, commits_in, weight_in};
     ghost use Rattle.workers.specs.Extent.{address_at, with_act};
-    ghost use Rattle.lock_scopes.specs.Acts.{reset_of, resize_of};
+    ghost use Rattle.lock_scopes.specs.Acts.{acts_weight, reset_of, resize_of};
     ghost use Rattle.unit_model.specs.Contents.{is_capacity};
 
     /// Starts `n` workers, 1 to 8, in place of the number that the configuration has. The embedder calls it once for
@@ -273,7 +274,8 @@ impl<G: Gate + Drop, C: Ledger, W: Ledger> Host<G, C, W> {
     /// where the unit that was lent hasn't the address of that index, which no host of this crate lends. The unit wasn't
     /// reset then. It may wait, and run commands.
     ///
-    /// A reset is one more act, of the unit of that index, and no other call than this and `resize` adds one.
+    /// A reset is one more act, of the unit of that index, and no other call than this and `resize` adds one. At the close
+    /// the histories of units with that address have as many hard resets as there are such acts.
     pub fn operator<R: Wait>(&mut self, rt: &R, place: u16) -> Result<(), ResetFault>
         ensures acts { OnOk result (self.new ≡ with_act (reset_of (address_at place self.old)) self.old) }
         ensures same { OnErr result (self.new ≡ self.old) }
@@ -298,7 +300,8 @@ impl<G: Gate + Drop, C: Ledger, W: Ledger> Host<G, C, W> {
     /// Wakes the workers that sleep. `BadCapacity` for 0 and for more than 2^40 blocks, `NoMemory` where a growth was
     /// refused, `WrongUnit` as of [`Host::operator`]: the unit wasn't resized then. It may wait.
     ///
-    /// A resize is one more act, of the unit of that index.
+    /// A resize is one more act, of the unit of that index and to that capacity. At the close the histories of units with
+    /// that address have as many resizes to it as there are such acts.
     pub fn resize<R: Wait>(&mut self, rt: &R, place: u16, blocks: u64) -> Result<(), ResizeFault>
         ensures acts { OnOk result (self.new
             ≡ with_act (resize_of blocks self.old.told (address_at place self.old)) self.old) }
@@ -353,7 +356,7 @@ impl<G: Gate + Drop, C: Ledger, W: Ledger> Host<G, C, W> {
         ensures units { IfOk result (λ r. vec_len r.units ≡ length self.units) }
         ensures queues { IfOk result (λ r. vec_len r.queues ≡ self.queues) }
         ensures even { IfOk result (λ r. commits_in r.units.items ≡ vec_len r.receipts) }
-        ensures acts { IfOk result (λ r. acts_in r.units.items ≡ length self.acts) }
+        ensures acts { IfOk result (λ r. weight_in C.weight r.units.items ≡ acts_weight C.weight self.acts) }
         ensures direct { IfOk result (λ r. AreDecided r.queues.items r.fetched.items r.notes.items) }
     {
         self.shared.abandon();
@@ -370,9 +373,11 @@ impl<G: Gate + Drop, C: Ledger, W: Ledger> Host<G, C, W> {
     ///
     /// `NoMemory` where a growth was refused.
     ///
-    /// The Commits of all units are as many as the receipts, and the hard resets and resizes in their histories as many as
-    /// the operator's acts. The two ledgers prove that, where no look at the report could tell. So no unit's lock was
-    /// given a history with fewer Commits or acts than it had lent.
+    /// The Commits of all units are as many as the receipts. The hard resets and resizes in the histories of all units
+    /// weigh what the operator's acts weigh, each at the address of its unit, whatever `C` has an act weigh. So each unit
+    /// has as many hard resets as the operator made of it, and as many resizes to each capacity. The two ledgers prove
+    /// that, where no look at the report could tell. So no unit's lock was given a history with fewer Commits than it had
+    /// lent, or with other acts.
     ///
     /// The notes Direct are exactly those of the requests for which their fetch decided the answer. So no request that
     /// was to enter its unit is answered without it and passes as decided. The report tells in proofs what each fetch
@@ -382,7 +387,7 @@ impl<G: Gate + Drop, C: Ledger, W: Ledger> Host<G, C, W> {
         ensures units { IfOk result (λ r. vec_len r.units ≡ length self.units) }
         ensures queues { IfOk result (λ r. vec_len r.queues ≡ self.queues) }
         ensures even { IfOk result (λ r. commits_in r.units.items ≡ vec_len r.receipts) }
-        ensures acts { IfOk result (λ r. acts_in r.units.items ≡ length self.acts) }
+        ensures acts { IfOk result (λ r. weight_in C.weight r.units.items ≡ acts_weight C.weight self.acts) }
         ensures direct { IfOk result (λ r. AreDecided r.queues.items r.fetched.items r.notes.items) }
     {
         let Host {

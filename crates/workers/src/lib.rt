@@ -8,9 +8,10 @@
 //! `docs/THREADS.md` has what is promised of a host.
 //!
 //! `operator` and `resize` add one act of their kind, at the address of that place, exactly where they answer `Ok`
-//! at a unit. An act is counted in the hold in which that unit's history goes on by it; by visibility, only
-//! `hard_on` and `resize_on` of `lock_scopes` add one. A report has as many hard resets and resizes, of all units
-//! together, as acts were made. A function never makes a hard reset.
+//! at a unit. An act is weighed in the hold in which that unit's history goes on by it; by visibility, only
+//! `hard_on` and `resize_on` of `lock_scopes` add one. The hard resets and resizes in a report weigh what the acts
+//! weigh, by any weighing. So each unit has as many hard resets, and as many resizes to each capacity, as were made
+//! of it. A function never makes a hard reset.
 //!
 //! The notes Direct of a report are exactly those of the requests for which their own fetch decided the answer. So
 //! none is of a request that was to enter its unit.
@@ -29,7 +30,7 @@ mod worker;
 pub use close_audit::{CloseFault, Report};
 pub use config::{Config, StartFault};
 pub use host::{Host, Seen};
-pub use lock_scopes::{Gate, Open, Point, QueueLender, UnitLender};
+pub use lock_scopes::{Gate, Open, Point, QueueLender, UnitLender, Weighing};
 pub use phases::{
     Cause, Note, ResetFault, ResizeFault, phase_answer, phase_answer_tmf, phase_check,
     phase_commit, phase_direct, phase_enter, phase_fetch, phase_fetch_control, phase_fetch_event,

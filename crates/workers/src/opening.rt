@@ -10,7 +10,7 @@ use config::{Config, MOST_DESCRIPTORS, form};
 use event_queue::EventPort;
 use foundation::NoMemory;
 use guest_mem::GuestMem;
-use lock_scopes::{CountedUnit, KeptQueue, Part};
+use lock_scopes::{CountedUnit, KeptQueue, Part, Weighing};
 use request_intake::{Inventory, UnitSpec};
 use ring_core::{Form, Layout};
 use std::alloc::Global;
@@ -23,7 +23,7 @@ use worker_steps::Parts;
 /// The rest of the two ledgers as units are opened: the parts that no unit has, and the book of the second. A unit is
 /// given one of the second for each Commit that it may make.
 #[derive(Drop)]
-pub(crate) struct Ledgers<C: Ledger, W: Ledger> {
+pub(crate) struct Ledgers<C: Ledger + Weighing, W: Ledger> {
     pub(crate) acts: Share<C>,
     pub(crate) receipts: Share<W>,
     pub(crate) book: Book<W>,
@@ -31,7 +31,7 @@ pub(crate) struct Ledgers<C: Ledger, W: Ledger> {
 
 /// Makes a unit of an inventory, with its parts of the ledgers. It keeps the replies of its Commits, for receipts to be
 /// compared with.
-fn open_unit<C: Ledger, W: Ledger>(
+fn open_unit<C: Ledger + Weighing, W: Ledger>(
     alloc: Global,
     spec: &UnitSpec,
     inventory: &Inventory,
@@ -47,7 +47,7 @@ fn open_unit<C: Ledger, W: Ledger>(
 }
 
 /// Makes the units that are wanted, each under a lock, with its parts of the ledgers.
-fn open_units<C: Ledger, W: Ledger>(
+fn open_units<C: Ledger + Weighing, W: Ledger>(
     alloc: Global,
     wanted: &[UnitSpec],
     inventory: &Inventory,
@@ -102,7 +102,7 @@ fn open_queues(
 
 /// Opens the parts of the device of a valid configuration, with parts of the ledgers for each unit. Called once, where a
 /// host is started. `NoMemory` where a growth was refused.
-pub(crate) fn open_parts<C: Ledger, W: Ledger>(
+pub(crate) fn open_parts<C: Ledger + Weighing, W: Ledger>(
     alloc: Global,
     config: &Config,
     ledgers: &mut Ledgers<C, W>,

@@ -10,7 +10,7 @@ ghost use Rattle.workers.specs.Resetting.{WasReset};
 ghost use Rattle.workers.specs.Resizing.{ResizeFails, WasResized};
 
 use event_queue::WaitingEvents;
-use lock_scopes::{Acts, Gate, hard_on, resize_on};
+use lock_scopes::{Acts, Gate, Weighing, hard_on, resize_on};
 use phases::{ResetFault, ResizeFault};
 use std::sync::Wait;
 use std::sync::ledger::Ledger;
@@ -19,7 +19,7 @@ use worker_steps::{Post, Shared, drain, raise};
 
 /// Resets a unit, in one hold of its lock, which is an act. Returns true if it did: not where the list has no room for
 /// the jobs that this releases. It fails as the phase does.
-fn reset_one<R: Wait, G: Gate + Drop, C: Ledger, W: Ledger>(
+fn reset_one<R: Wait, G: Gate + Drop, C: Ledger + Weighing, W: Ledger>(
     rt: &R,
     shared: &Shared<G, C, W>,
     at: usize,
@@ -53,7 +53,7 @@ fn reset_one<R: Wait, G: Gate + Drop, C: Ledger, W: Ledger>(
 /// Resets a unit for the operator, and tells the guest. Serves first what the operator's seat had. A unit that isn't
 /// there changes nothing. `NoMemory` where a growth was refused, `WrongUnit` where another unit stands there than the
 /// inventory names: the unit wasn't reset then. It may wait, and run commands.
-pub(crate) fn reset<R: Wait, G: Gate + Drop, C: Ledger, W: Ledger>(
+pub(crate) fn reset<R: Wait, G: Gate + Drop, C: Ledger + Weighing, W: Ledger>(
     rt: &R,
     shared: &Shared<G, C, W>,
     at: usize,
@@ -88,7 +88,7 @@ pub(crate) fn reset<R: Wait, G: Gate + Drop, C: Ledger, W: Ledger>(
 }
 
 /// Gives a unit so many blocks, in one hold of its lock, which is an act. Answers as the phase does.
-fn resize_one<R: Wait, G: Gate + Drop, C: Ledger, W: Ledger>(
+fn resize_one<R: Wait, G: Gate + Drop, C: Ledger + Weighing, W: Ledger>(
     rt: &R,
     shared: &Shared<G, C, W>,
     at: usize,
@@ -123,7 +123,7 @@ fn resize_one<R: Wait, G: Gate + Drop, C: Ledger, W: Ledger>(
 /// Gives a unit so many blocks for the operator, and tells the guest where it asked for that. A unit that isn't there
 /// changes nothing. `BadCapacity` where no unit may have so many blocks, `NoMemory` where a growth was refused,
 /// `WrongUnit` where another unit stands there than the inventory names: the unit wasn't resized then.
-pub(crate) fn resize<R: Wait, G: Gate + Drop, C: Ledger, W: Ledger>(
+pub(crate) fn resize<R: Wait, G: Gate + Drop, C: Ledger + Weighing, W: Ledger>(
     rt: &R,
     shared: &Shared<G, C, W>,
     at: usize,

@@ -7,7 +7,7 @@ ghost use Rattle.worker_steps.specs.Tallying.{Tallies};
 
 use crate::hired::Worked;
 use crate::tallied::Tallied;
-use lock_scopes::Gate;
+use lock_scopes::{Gate, Weighing};
 use phases::OpenFunction;
 use scsi_codec::FIRST_REQUEST_QUEUE;
 use std::hint::spin_loop;
@@ -55,7 +55,7 @@ pub(crate) fn ends<W: Ledger>(post: Post<W>) -> Worked<Tallied<W>>
 
 /// Takes a step of the open function or the control queue, and one of the event queue. An abandoned host gets
 /// one of the open function alone.
-fn serve_others<R: Wait, G: Gate + Drop, C: Ledger, W: Ledger>(
+fn serve_others<R: Wait, G: Gate + Drop, C: Ledger + Weighing, W: Ledger>(
     rt: &R,
     shared: &Shared<G, C, W>,
     function: &mut Option<OpenFunction>,
@@ -76,7 +76,7 @@ fn serve_others<R: Wait, G: Gate + Drop, C: Ledger, W: Ledger>(
 }
 
 /// Serves each request queue that the worker owns, in the order of their numbers.
-fn serve_own<R: Wait, G: Gate + Drop, C: Ledger, W: Ledger>(
+fn serve_own<R: Wait, G: Gate + Drop, C: Ledger + Weighing, W: Ledger>(
     rt: &R,
     shared: &Shared<G, C, W>,
     number: usize,
@@ -100,7 +100,7 @@ fn serve_own<R: Wait, G: Gate + Drop, C: Ledger, W: Ledger>(
 
 /// Goes one round: serves what the seat has, then a job of the hand-off or, where there is none, each queue that the
 /// worker owns, unless the host was abandoned.
-fn round<R: Wait, G: Gate + Drop, C: Ledger, W: Ledger>(
+fn round<R: Wait, G: Gate + Drop, C: Ledger + Weighing, W: Ledger>(
     rt: &R,
     shared: &Shared<G, C, W>,
     number: usize,
@@ -126,7 +126,7 @@ fn round<R: Wait, G: Gate + Drop, C: Ledger, W: Ledger>(
 /// Has a worker sleep that found nothing to do for a while: it announces that, and sleeps where the next round found
 /// nothing either. While a function is open it stays awake, since what others answer lets the function go on. Returns
 /// the rings that it saw as it announced; `None` where it is awake.
-fn nap<R: Wait, G: Gate + Drop, C: Ledger, W: Ledger>(
+fn nap<R: Wait, G: Gate + Drop, C: Ledger + Weighing, W: Ledger>(
     rt: &R,
     shared: &Shared<G, C, W>,
     announced: Option<u64>,
@@ -160,7 +160,7 @@ fn rounds_behind(rounds: u8, is_idle: bool) -> u8 {
 }
 
 /// Works until the host closes, and a round then looked at all queues, found nothing to do and left the worker nothing.
-pub(crate) fn work<R: Wait, G: Gate + Drop, C: Ledger, W: Ledger>(
+pub(crate) fn work<R: Wait, G: Gate + Drop, C: Ledger + Weighing, W: Ledger>(
     rt: &R,
     shared: &Shared<G, C, W>,
     worker: Worker<W>,

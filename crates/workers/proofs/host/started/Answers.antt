@@ -33,8 +33,8 @@ hire-requires-send-S g c κs = λ within.
 pub hire-requires-send-W : goal.hire-requires-send-W
 hire-requires-send-W g c κs = λ within.
     let gate : IsSend (param 1 g.row.G) = c.type_bounds.send-G in
-    let all = shared_sends (param 1 g.row.G) (param 2 g.row.C) (param 3 g.row.W) g.C.Ledger g.W.Ledger gate in
+    let all = shared_sends (param 1 g.row.G) (param 2 g.row.C) (param 3 g.row.W) g.C.Weighing g.C.Ledger g.W.Ledger gate in
     record { owned = all.owned; leaving = λ k. Quiet-if (k (of_param 1)) _ unseen (all.leaving no) (λ x w. tt) }
 
 pub hire-requires-sync-W : goal.hire-requires-sync-W
-hire-requires-sync-W g c κs = λ within. search (sendable, shared_syncs _ (param 2 g.row.C) (param 3 g.row.W) g.C.Ledger g.W.Ledger c.type_bounds.sync-G)
+hire-requires-sync-W g c κs = λ within. search (sendable, shared_syncs _ (param 2 g.row.C) (param 3 g.row.W) g.C.Weighing g.C.Ledger g.W.Ledger c.type_bounds.sync-G)
