@@ -14,7 +14,7 @@ use std::sync::{Arc, Wait};
 use std::thread;
 use std::thread::Threads;
 use unit_history::UnitState;
-use workers::{Gate, Host, Point};
+use workers::{Gate, Host, Point, Weighing};
 
 /// The queues of the two WRITEs.
 const EARLY: u16 = 2;
@@ -167,7 +167,7 @@ fn cross_with<C, D, R>(
     receipts: Blank,
 ) -> Option<Crossed>
 where
-    C: Ledger + Send + Sync + 'static,
+    C: Ledger + Weighing + Send + Sync + 'static,
     D: Ledger + Send + Sync + 'static,
     R: Threads + Wait + Copy + Send + 'static,
     requires acts { Opens acts.name acts.parts C.name C.parts 64 }

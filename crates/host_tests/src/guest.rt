@@ -7,7 +7,7 @@ use std::alloc::Global;
 use std::sync::Wait;
 use std::sync::ledger::Ledger;
 use std::thread;
-use workers::{Gate, Host};
+use workers::{Gate, Host, Weighing};
 
 /// The control queue, the event queue, and three request queues, each in a page of its own.
 const QUEUES: u16 = 5;
@@ -59,7 +59,7 @@ pub(crate) fn layouts(alloc: Global) -> Option<Vec<Layout>> {
 }
 
 /// Writes as the guest. It has no contract, so that what `poke` promises is read once.
-fn poke<R: Wait, G: Gate + Drop, C: Ledger, D: Ledger>(
+fn poke<R: Wait, G: Gate + Drop, C: Ledger + Weighing, D: Ledger>(
     rt: &R,
     host: &Host<G, C, D>,
     addr: u64,
@@ -87,7 +87,7 @@ fn descriptor(addr: u64, len: u32, flags: u16, slot: u8) -> [u8; 16] {
 
 /// Makes a chain available, as the guest. The chain takes the pair of descriptors of its number, or the second alone if
 /// the device reads nothing of it.
-pub(crate) fn ask<R: Wait, G: Gate + Drop, C: Ledger, D: Ledger>(
+pub(crate) fn ask<R: Wait, G: Gate + Drop, C: Ledger + Weighing, D: Ledger>(
     rt: &R,
     host: &Host<G, C, D>,
     asked: Asked,
@@ -108,7 +108,7 @@ pub(crate) fn ask<R: Wait, G: Gate + Drop, C: Ledger, D: Ledger>(
 }
 
 /// Returns so many bytes from an address on; `None` where they aren't all there.
-fn bytes<R: Wait, G: Gate + Drop, C: Ledger, D: Ledger, const N: usize>(
+fn bytes<R: Wait, G: Gate + Drop, C: Ledger + Weighing, D: Ledger, const N: usize>(
     rt: &R,
     host: &Host<G, C, D>,
     addr: u64,
@@ -119,7 +119,7 @@ fn bytes<R: Wait, G: Gate + Drop, C: Ledger, D: Ledger, const N: usize>(
 }
 
 /// Returns true once so many chains of a queue are answered; false where the guest looked often enough and they aren't.
-pub(crate) fn are_answered<R: Wait, G: Gate + Drop, C: Ledger, D: Ledger>(
+pub(crate) fn are_answered<R: Wait, G: Gate + Drop, C: Ledger + Weighing, D: Ledger>(
     rt: &R,
     host: &Host<G, C, D>,
     queue: u16,
@@ -135,7 +135,7 @@ pub(crate) fn are_answered<R: Wait, G: Gate + Drop, C: Ledger, D: Ledger>(
 }
 
 /// Returns the first bytes that the device wrote into a chain.
-pub(crate) fn written<R: Wait, G: Gate + Drop, C: Ledger, D: Ledger, const N: usize>(
+pub(crate) fn written<R: Wait, G: Gate + Drop, C: Ledger + Weighing, D: Ledger, const N: usize>(
     rt: &R,
     host: &Host<G, C, D>,
     queue: u16,

@@ -9,7 +9,7 @@ use std::marker::Brand;
 use std::sync::Wait;
 use std::sync::ledger::{Blank, Ledger};
 use std::thread::Threads;
-use workers::{Host, Open};
+use workers::{Host, Open, Weighing};
 
 /// An event buffer.
 const BUFFER: Asked = Asked {
@@ -48,7 +48,7 @@ fn reset_with<C, D, R>(
     receipts: Blank,
 ) -> Option<(Told, Option<Left>)>
 where
-    C: Ledger + Send + Sync + 'static,
+    C: Ledger + Weighing + Send + Sync + 'static,
     D: Ledger + Send + Sync + 'static,
     R: Threads + Wait + Copy + Send + 'static,
     requires acts { Opens acts.name acts.parts C.name C.parts 64 }

@@ -10,7 +10,7 @@ use std::marker::Brand;
 use std::sync::Wait;
 use std::sync::ledger::{Blank, Ledger};
 use std::thread::Threads;
-use workers::{CloseFault, Config, Gate, Host, Open, Report, StartFault};
+use workers::{CloseFault, Config, Gate, Host, Open, Report, StartFault, Weighing};
 
 /// The numbers of receipts and notes that a closed host left.
 #[derive(Clone, Copy, PartialEq, Eq)]
@@ -97,7 +97,7 @@ fn is_refused_with<C, D, R>(
     receipts: Blank,
 ) -> Option<bool>
 where
-    C: Ledger + Send + Sync + 'static,
+    C: Ledger + Weighing + Send + Sync + 'static,
     D: Ledger + Send + Sync + 'static,
     R: Threads + Wait + Copy + Send + 'static,
     requires acts { Opens acts.name acts.parts C.name C.parts 64 }
@@ -130,7 +130,7 @@ pub(crate) fn start<R, G, C, D>(
 where
     R: Threads + Wait + Copy + Send + 'static,
     G: Gate + Drop + Send + Sync + 'static,
-    C: Ledger + Send + Sync + 'static,
+    C: Ledger + Weighing + Send + Sync + 'static,
     D: Ledger + Send + Sync + 'static,
     requires acts { Opens acts.name acts.parts C.name C.parts 64 }
     requires receipts { Opens receipts.name receipts.parts D.name D.parts 73 }
@@ -157,7 +157,7 @@ fn serve_nothing_with<C, D, R>(
     receipts: Blank,
 ) -> Option<Left>
 where
-    C: Ledger + Send + Sync + 'static,
+    C: Ledger + Weighing + Send + Sync + 'static,
     D: Ledger + Send + Sync + 'static,
     R: Threads + Wait + Copy + Send + 'static,
     requires acts { Opens acts.name acts.parts C.name C.parts 64 }
@@ -185,7 +185,7 @@ fn serve_with<C, D, R>(
     receipts: Blank,
 ) -> Option<(bool, Option<Left>)>
 where
-    C: Ledger + Send + Sync + 'static,
+    C: Ledger + Weighing + Send + Sync + 'static,
     D: Ledger + Send + Sync + 'static,
     R: Threads + Wait + Copy + Send + 'static,
     requires acts { Opens acts.name acts.parts C.name C.parts 64 }

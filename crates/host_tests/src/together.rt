@@ -11,7 +11,7 @@ use std::sync::ledger::{Blank, Ledger};
 use std::sync::{Arc, Wait};
 use std::thread::Threads;
 use unit_history::{StepKind, UnitState};
-use workers::{Host, Point, Report};
+use workers::{Host, Point, Report, Weighing};
 
 /// The byte of which the block is that is written.
 const WRITTEN: u8 = 0xab;
@@ -129,7 +129,7 @@ fn told(alloc: Global, report: &Report, missed: Option<u64>, answered: bool) -> 
 }
 
 /// Asks for all, as the guest, and returns true if so many of two queues are answered.
-fn ask_all<R: Wait, C: Ledger, D: Ledger>(
+fn ask_all<R: Wait, C: Ledger + Weighing, D: Ledger>(
     rt: &R,
     host: &Host<Meeting, C, D>,
     all: &[Asked],
@@ -179,7 +179,7 @@ fn serve_all_with<C, D, R>(
     receipts: Blank,
 ) -> Option<Together>
 where
-    C: Ledger + Send + Sync + 'static,
+    C: Ledger + Weighing + Send + Sync + 'static,
     D: Ledger + Send + Sync + 'static,
     R: Threads + Wait + Copy + Send + 'static,
     requires acts { Opens acts.name acts.parts C.name C.parts 64 }
