@@ -6,18 +6,18 @@ use guest_driver::GuestMemory;
 use guest_mem::{MemFault, PAGE_BYTES};
 use std::sync::Wait;
 use std::sync::ledger::Ledger;
-use workers::{Host, Open};
+use workers::{Host, Open, Weighing};
 
 /// The memory of a host's guest, beside its workers. Each read and each write is one hold of its lock, so that what
 /// stands there at another moment isn't known.
 #[derive(Drop)]
-pub(crate) struct HostMemory<'a, R: Wait, C: Ledger, D: Ledger> {
+pub(crate) struct HostMemory<'a, R: Wait, C: Ledger + Weighing, D: Ledger> {
     rt: &'a R,
     host: &'a Host<Open, C, D>,
     pages: u32,
 }
 
-impl<'a, R: Wait, C: Ledger, D: Ledger> HostMemory<'a, R, C, D> {
+impl<'a, R: Wait, C: Ledger + Weighing, D: Ledger> HostMemory<'a, R, C, D> {
     /// Returns the memory of this host's guest, of so many pages.
     pub(crate) fn new(
         rt: &'a R,
@@ -28,7 +28,7 @@ impl<'a, R: Wait, C: Ledger, D: Ledger> HostMemory<'a, R, C, D> {
     }
 }
 
-impl<'a, R: Wait, C: Ledger, D: Ledger> GuestMemory for HostMemory<'a, R, C, D> {
+impl<'a, R: Wait, C: Ledger + Weighing, D: Ledger> GuestMemory for HostMemory<'a, R, C, D> {
     ghost extent = { λ m. m.pages * 4096 };
 
     ghost finds = { λ m at bytes. ⊤ };

@@ -17,7 +17,7 @@ use std::sync::Wait;
 use std::sync::ledger::{Blank, Ledger};
 use std::thread;
 use std::thread::Threads;
-use workers::{CloseFault, Host, Open, Report, ResetFault, ResizeFault};
+use workers::{CloseFault, Host, Open, Report, ResetFault, ResizeFault, Weighing};
 
 /// The number of looks that the guest takes for an answer that a line waits for.
 const LOOKS: u32 = 1_000_000;
@@ -69,7 +69,7 @@ fn run_lines<C, D, R>(
     receipts: Blank,
 ) -> Result<(usize, Closed), ScriptFault>
 where
-    C: Ledger + Send + Sync + 'static,
+    C: Ledger + Weighing + Send + Sync + 'static,
     D: Ledger + Send + Sync + 'static,
     R: Threads + Wait + Copy + Send + 'static,
     requires acts { Opens acts.name acts.parts C.name C.parts 64 }
@@ -115,7 +115,7 @@ fn fault_of(fault: CloseFault) -> ScriptFault {
 }
 
 /// A script that runs while threads serve its device, with the guest's driver.
-struct Service<C: Ledger, D: Ledger> {
+struct Service<C: Ledger + Weighing, D: Ledger> {
     alloc: Global,
     host: Host<Open, C, D>,
     pages: u32,
@@ -125,7 +125,7 @@ struct Service<C: Ledger, D: Ledger> {
     is_abandoned: bool,
 }
 
-impl<C: Ledger, D: Ledger> Service<C, D> {
+impl<C: Ledger + Weighing, D: Ledger> Service<C, D> {
     /// Opens the device that a header asks for, with so many workers and these ledgers, and the driver beside it.
     /// `BadConfig` where the device refuses.
     fn start<R: Threads + Wait + Copy + Send + 'static>(
