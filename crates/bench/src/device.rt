@@ -14,7 +14,7 @@ use std::sync::ledger::{Blank, Ledger};
 use std::sync::{Arc, Wait};
 use std::thread;
 use std::thread::Threads;
-use workers::{Gate, Host, Point};
+use workers::{Gate, Host, Point, Weighing};
 use world::{Config, RING_PACKED, UnitSpec, VERSION_1, World};
 
 /// The addresses of the areas of a request queue in what is its own.
@@ -128,7 +128,7 @@ impl Gate for Counting {
 }
 
 /// A host of several threads.
-pub(crate) struct Hosted<'a, R: Wait, C: Ledger, D: Ledger> {
+pub(crate) struct Hosted<'a, R: Wait, C: Ledger + Weighing, D: Ledger> {
     rt: &'a R,
     host: Host<Counting, C, D>,
     answered: Arc<Answered>,
@@ -137,7 +137,7 @@ pub(crate) struct Hosted<'a, R: Wait, C: Ledger, D: Ledger> {
 impl<'a, R, C, D> Hosted<'a, R, C, D>
 where
     R: Threads + Wait + Copy + Send + 'static,
-    C: Ledger + Send + Sync + 'static,
+    C: Ledger + Weighing + Send + Sync + 'static,
     D: Ledger + Send + Sync + 'static,
 {
     /// Makes a host of a configuration, with so many workers and these ledgers.
@@ -171,7 +171,7 @@ where
     }
 }
 
-impl<'a, R: Wait, C: Ledger, D: Ledger> Device for Hosted<'a, R, C, D> {
+impl<'a, R: Wait, C: Ledger + Weighing, D: Ledger> Device for Hosted<'a, R, C, D> {
     fn poke(&mut self, addr: u64, bytes: &[u8]) {
         let _ = self.host.poke(self.rt, addr, bytes);
     }

@@ -14,6 +14,7 @@ use std::sync::Wait;
 use std::sync::ledger::{Blank, Ledger};
 use std::thread::Threads;
 use std::time::{Duration, Instant};
+use workers::Weighing;
 
 /// The depth, the rounds and the numbers of workers of which all kinds are served where no words say more.
 const DEPTH: u16 = 4;
@@ -80,7 +81,7 @@ fn serve_hosted_with<C, D, R>(
     receipts: Blank,
 ) -> Result<Done, Failure>
 where
-    C: Ledger + Send + Sync + 'static,
+    C: Ledger + Weighing + Send + Sync + 'static,
     D: Ledger + Send + Sync + 'static,
     R: Clock + Threads + Wait + Copy + Send + 'static,
     requires acts { Opens acts.name acts.parts C.name C.parts 64 }
