@@ -13,5 +13,5 @@ invariant_of-self-then-was_reset g c =
 
 pub returns-then-was_reset-clause-made : goal.returns-then-was_reset-clause-made
 returns-then-was_reset-clause-made g c =
-    let there = found _ _ _ _ c.as_slice.ensures.addresses c.in-Some.ensures.lookup.3.0 c.in-Some.ensures.lookup.1 in
-    reset_made c.args.inventory.now c.args.at _ _ _ _ there c.if-was_reset.true c.add.ensures.acts
+    let named = found _ _ _ _ c.as_slice.ensures.addresses c.in-Some.ensures.lookup.3.0 c.in-Some.ensures.lookup.1 in
+    reset_made c.args.inventory.now c.args.at _ _ _ _ named c.if-was_reset.true c.add.ensures.acts

@@ -13,5 +13,5 @@ invariant_of-self-then-was_resized g c =
 
 pub returns-then-was_resized-clause-made : goal.returns-then-was_resized-clause-made
 returns-then-was_resized-clause-made g c =
-    let there = found _ _ _ _ c.as_slice.ensures.addresses c.in-Some.ensures.lookup.3.0 c.in-Some.ensures.lookup.1 in
-    resize_made c.args.inventory.now c.args.at _ _ _ _ _ _ there c.if-was_resized.true c.add.ensures.acts
+    let named = found _ _ _ _ c.as_slice.ensures.addresses c.in-Some.ensures.lookup.3.0 c.in-Some.ensures.lookup.1 in
+    resize_made c.args.inventory.now c.args.at _ _ _ _ _ _ named c.if-was_resized.true c.add.ensures.acts
