@@ -26,6 +26,7 @@ abbrev pub act_weight : (Address → Option ℕ → ℕ) → Act → ℕ
 act_weight weight (act.Reset unit) = weight unit None
 act_weight weight (act.Resize unit blocks told) = weight unit (Some blocks)
 
+-- own: what acts weigh together
 abbrev pub acts_weight : (Address → Option ℕ → ℕ) → List Act → ℕ
 acts_weight weight acts = sum_by (act_weight weight) acts
 
