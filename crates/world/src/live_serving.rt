@@ -131,7 +131,9 @@ impl<M: WritableMemory> LiveWorld<M> {
         any_bytes_may_stand_there();
         self.memory.begin();
         let _begun = self.memory.size();
-        let turned = self.device.turn(&mut self.memory, cursor, queues, most);
+        let turned = self
+            .device
+            .turn(&mut self.memory, cursor, queues, most, false);
         let _bytes = self.memory.size();
         turned
     }

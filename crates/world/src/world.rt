@@ -308,7 +308,8 @@ impl World {
     {
         self.is_sound();
         all_are_sound();
-        self.device.turn(&mut self.memory, cursor, queues, most)
+        self.device
+            .turn(&mut self.memory, cursor, queues, most, true)
     }
 
     /// Returns true if an event of the order applies, with new chains of the queues alone that are asked.

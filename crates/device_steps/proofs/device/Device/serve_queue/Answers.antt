@@ -15,16 +15,16 @@ returns-then-not-is_asked-clause-turns g c = (
 
 pub returns-then-idle-clause-turns : goal.returns-then-idle-clause-turns
 returns-then-idle-clause-turns g c =
-    let look = c.is_idle_in-idle.ensures in (
+    let look = c.is_passed_by-idle.ensures in (
       refl,
       (λ m may. (look.stays m may, λ on. look.idle m may c.if-idle.true)),
-      none_known g.M.Memory.stored g.M.Memory.storing g.met.M.Memory.none c.args.memory.now c.is_idle_in-idle.new.memory
+      none_known g.M.Memory.stored g.M.Memory.storing g.met.M.Memory.none c.args.memory.now c.is_passed_by-idle.new.memory
           look.stores,
     )
 
 pub serve_next-requires : goal.serve_next-requires
 serve_next-requires g c =
-    let look = c.is_idle_in-idle in
+    let look = c.is_passed_by-idle in
     record {
       most = c.requires.most;
       room = look.ensures.room 5 (g.met.M.Memory.fewer c.args.memory.now 6 (5 + 1) (omega arith) c.requires.room);
@@ -40,7 +40,7 @@ serve_next-requires g c =
 
 pub returns-clause-turns : goal.returns-clause-turns
 returns-clause-turns g c =
-    let look = c.is_idle_in-idle in
+    let look = c.is_passed_by-idle in
     fetches_before g.M.Memory.shared g.M.Memory.may_be (Stored g.M.Memory.stored g.M.Memory.storing) (asks c.args.queues) c.args.most c.args.number c.args.memory.now
     look.new.memory c.args.self.now c.serve_next.result c.serve_next.new.memory c.serve_next.new.self look.ensures.stays
     (on_known g.M.Memory.stored g.M.Memory.storing c.args.memory.now look.new.memory look.ensures.stores)
@@ -53,10 +53,10 @@ returns-then-not-is_asked-clause-room g c =
 pub returns-then-idle-clause-room : goal.returns-then-idle-clause-room
 returns-then-idle-clause-room g c =
     λ n is h.
-    c.is_idle_in-idle.ensures.room n (g.met.M.Memory.fewer c.args.memory.now (n + 3) (n + 1) (omega arith) h)
+    c.is_passed_by-idle.ensures.room n (g.met.M.Memory.fewer c.args.memory.now (n + 3) (n + 1) (omega arith) h)
 
 pub returns-clause-room : goal.returns-clause-room
 returns-clause-room g c =
     λ n is h.
     c.serve_next.ensures.room n is
-    (c.is_idle_in-idle.ensures.room (n + 2) (g.met.M.Memory.fewer c.args.memory.now (n + 3) ((n + 2) + 1) (omega arith) h))
+    (c.is_passed_by-idle.ensures.room (n + 2) (g.met.M.Memory.fewer c.args.memory.now (n + 3) ((n + 2) + 1) (omega arith) h))
