@@ -61,7 +61,13 @@ fn short_of(bytes: &[u8]) -> [u8; SHORT]
     ensures len { length result ≡ 16 }
 {
     let mut short = [0; SHORT];
-    put_at(&mut short, 0, bytes);
+    match bytes {
+        [first, second] => {
+            short[0] = *first;
+            short[1] = *second;
+        }
+        _ => put_at(&mut short, 0, bytes),
+    }
     short
 }
 
@@ -214,21 +220,8 @@ impl Kept {
         false
     }
 
-    /// Returns true if the latest span has all bytes from `addr` on, as many as `out` holds, and puts them there then. No span
-    /// has any where `free` is true.
-    #[inline(always)]
-    pub(crate) fn gives(&self, free: bool, addr: u64, out: &mut [u8]) -> bool
-        requires small { addr + length out.old ≤ 2 ^ 52 }
-        ensures len { length out.new ≡ length out.old }
-        ensures gives { IsTrue result → (i d : ℕ) → i < length out.old
-            → valued self.now.spans.items self.now.bytes.items (addr + i) d ≡ get_or out.new i 0 }
-    {
-        !free && self.gives_again(addr, out)
-    }
-
-    /// Does the same, apart so that a read of what wasn't read passes it by.
-    #[inline(never)]
-    fn gives_again(&self, addr: u64, out: &mut [u8]) -> bool
+    /// Returns true if the latest span has all bytes from `addr` on, as many as `out` holds, and puts them there then.
+    pub(crate) fn gives(&self, addr: u64, out: &mut [u8]) -> bool
         requires small { addr + length out.old ≤ 2 ^ 52 }
         ensures len { length out.new ≡ length out.old }
         ensures gives { IsTrue result → (i d : ℕ) → i < length out.old
@@ -249,35 +242,10 @@ impl Kept {
         true
     }
 
-    /// Puts what is kept over `out`, which has the bytes from `addr` on, and takes these out of the ranges that no span has. Where
-    /// `free` is true they are, and no span has any of them.
-    #[inline(always)]
-    pub(crate) fn put_over(&mut self, free: bool, addr: u64, out: &mut [u8])
-        requires small { addr + length out.old ≤ 2 ^ 52 }
-        requires free { IsTrue free → IsFree self.old.spans.items self.old.bytes.items addr (addr + length out.old) }
-        requires below { IsTrue free → self.old.low ≤ addr }
-        requires above { IsTrue free → addr + length out.old ≤ self.old.high }
-        requires apart { IsTrue free → (p : ℕ) → self.old.free_from ≤ p → p < self.old.free_to
-            → spans addr (length out.old) p ≡ false }
-        ensures len { length out.new ≡ length out.old }
-        ensures over { (i : ℕ) → i < length out.old → get_or out.new i 0
-            ≡ valued self.old.spans.items self.old.bytes.items (addr + i) (get_or out.old i 0) }
-        ensures spans { self.new.spans ≡ self.old.spans }
-        ensures bytes { self.new.bytes ≡ self.old.bytes }
-        ensures below { self.new.low ≤ addr }
-        ensures above { addr + length out.new ≤ self.new.high }
-        ensures apart { (p : ℕ) → self.new.free_from ≤ p → p < self.new.free_to → spans addr (length out.new) p ≡ false }
-    {
-        if free {
-            return;
-        }
-        self.look_over(addr, out);
-    }
-
-    /// Does the same by a look at each span. Takes note of a range behind the bytes that no span has.
+    /// Puts what is kept over `out`, which has the bytes from `addr` on, by a look at each span. Takes these out of the ranges
+    /// that no span has, and takes note of such a range behind them.
     #[tactic(auto, using(crate::proofs::Keeping::narrower, crate::proofs::Spans::behind))]
-    #[inline(never)]
-    fn look_over(&mut self, addr: u64, out: &mut [u8])
+    pub(crate) fn put_over(&mut self, addr: u64, out: &mut [u8])
         requires small { addr + length out.old ≤ 2 ^ 52 }
         ensures len { length out.new ≡ length out.old }
         ensures over { (i : ℕ) → i < length out.old → get_or out.new i 0

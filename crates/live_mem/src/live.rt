@@ -73,12 +73,32 @@ impl<B: Bus> LiveMem<B> {
         ensures room { (n : ℕ) → HasRoom self.old (n + 1) → HasRoom self.new n }
     {
         let free = self.kept.takes_free(addr, addr + out.len() as u64);
-        if self.kept.gives(free, addr, out) {
+        if !free {
+            self.read_again(addr, out);
             return;
         }
         self.bus.load(addr, out);
         self.scattered.put_over(addr, out);
-        self.kept.put_over(free, addr, out);
+        self.kept.keep(addr, out);
+    }
+
+    /// Does the same where a span may have some of the bytes, apart so that a read of what wasn't read passes it by.
+    #[inline(never)]
+    fn read_again(&mut self, addr: u64, out: &mut [u8])
+        requires inside { addr + length out.old ≤ self.old.size }
+        requires room { Takes self.old.kept (length out.old) }
+        ensures len { length out.new ≡ length out.old }
+        ensures loads { ReadsThere (heard self.old.bus) (heard self.new.bus) addr out.new }
+        ensures stores { all_stores (heard self.new.bus) ≡ all_stores (heard self.old.bus) }
+        ensures size { self.new.size ≡ self.old.size }
+        ensures room { (n : ℕ) → HasRoom self.old (n + 1) → HasRoom self.new n }
+    {
+        if self.kept.gives(addr, out) {
+            return;
+        }
+        self.bus.load(addr, out);
+        self.scattered.put_over(addr, out);
+        self.kept.put_over(addr, out);
         self.kept.keep(addr, out);
     }
 
@@ -212,6 +232,7 @@ impl<B: Bus> Memory for LiveMem<B> {
         Ok(())
     }
 
+    #[inline(always)]
     fn append(&mut self, addr: u64, len: usize, out: &mut Vec<u8>) -> Result<(), AllocError>
         requires reading { StoredNothing (heard self.old.bus) }
         requires inside { LiesIn self.old.size addr len }

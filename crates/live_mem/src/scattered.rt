@@ -131,7 +131,9 @@ impl Scattered {
     pub(crate) fn clear(&mut self)
         ensures { (p d : ℕ) → scattered_at self.new p d ≡ d }
     {
-        self.granules.clear();
+        if !self.granules.is_empty() {
+            self.granules.clear();
+        }
     }
 
     /// Makes room to keep `len` bytes from `addr` on, and changes nothing that is kept.

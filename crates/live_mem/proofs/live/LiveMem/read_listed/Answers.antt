@@ -1,4 +1,4 @@
-use Rattle.std.proofs.Common.{◌≡◌, ◌+◌, ◌-◌, ◌∙◌, arith, inl, sym, cond, length, get_or}
+use Rattle.std.proofs.Common.{◌+◌, ◌-◌, ◌∙◌, arith, inl, sym, refl, cond, length, get_or}
 use Rattle.live_mem.specs.Access.{spans}
 use Rattle.live_mem.specs.Heard.{heard}
 use Rattle.live_mem.specs.Scattered.{scattered_at}
@@ -7,24 +7,23 @@ use Rattle.live_mem.proofs.Reading.{byte_in}
 use Rattle.live_mem.proofs.Spare.{same_room}
 use Rattle.live_mem.proofs.live.LiveMem.read_listed.Goals as goal
 
-pub invariant_of-self-clause-faithful : goal.invariant_of-self-clause-faithful
-invariant_of-self-clause-faithful g c = λ p d.
-    rw (c.takes_free-free.ensures.spans, c.takes_free-free.ensures.bytes) (c.args.self.now.faithful p d)
+pub returns-then-not-free-clause-room : goal.returns-then-not-free-clause-room
+returns-then-not-free-clause-room g c = λ n h.
+    let f = c.takes_free-free in
+    c.read_again.ensures.room n (same_room c.args.self.now.kept f.new.self (n + 1) f.ensures.spans h)
 
 pub invariant_of-self-2-clause-faithful : goal.invariant_of-self-2-clause-faithful
 invariant_of-self-2-clause-faithful g c =
     let s = c.args.self.now in
     let f = c.takes_free-free.ensures in
-    let over = c.put_over-2.ensures in
-    let out = c.put_over-2.new.out in
-    let k = rw (over.spans, over.bytes, f.spans, f.bytes) at c.keep.ensures.kept in
+    let out = c.put_over.new.out in
+    let k = rw (f.spans, f.bytes) at c.keep.ensures.kept in
     λ p d. rw c.load.ensures.heard
     (kept_loaded s.kept.spans.items c.keep.new.self.spans.items s.kept.bytes.items c.keep.new.self.bytes.items c.args.addr out s.kept.all k (scattered_at s.scattered) (heard s.bus) c.load.new.out
-    (sym (over.len ∙ c.put_over.ensures.len))
+    (sym c.put_over.ensures.len)
     (λ i lt.
-    let b = c.put_over.ensures.over i (omega (arith, lt, over.len, c.put_over.ensures.len)) in
-    let o = over.over i (omega (arith, lt, over.len)) in
-    rw (f.spans, f.bytes, b) at o)
+    c.put_over.ensures.over i (omega (arith, lt, c.put_over.ensures.len))
+    ∙ sym (c.if-not-free.ensures.free refl (c.args.addr + i) (scattered_at s.scattered (c.args.addr + i) (get_or c.load.new.out i 0)) (omega arith) (omega (arith, lt, c.put_over.ensures.len))))
     s.faithful p d)
 
 pub invariant_of-self-2-clause-bytes_loaded : goal.invariant_of-self-2-clause-bytes_loaded
@@ -40,20 +39,17 @@ invariant_of-self-2-clause-bytes_stored g c = λ m e are. rw c.load.ensures.hear
 pub returns-clause-room : goal.returns-clause-room
 returns-clause-room g c = λ n h.
     let f = c.takes_free-free in
-    let over = c.put_over-2 in
-    c.keep.ensures.room n (same_room f.new.self over.new.self (n + 1) over.ensures.spans (same_room c.args.self.now.kept f.new.self (n + 1) f.ensures.spans h))
+    c.keep.ensures.room n (same_room c.args.self.now.kept f.new.self (n + 1) f.ensures.spans h)
 
 pub returns-clause-loads : goal.returns-clause-loads
 returns-clause-loads g c =
     let s = c.args.self.now in
-    let f = c.takes_free-free.ensures in
-    let over = c.put_over-2.ensures in
     inl (record {
       fresh = c.load.new.out;
-      long = sym (over.len ∙ c.put_over.ensures.len);
+      long = sym c.put_over.ensures.len;
       asked = c.load.ensures.heard;
       are = λ i lt.
-          let b = c.put_over.ensures.over i (omega (arith, lt, over.len, c.put_over.ensures.len)) in
-          let o = over.over i (omega (arith, lt, over.len)) in
-          (rw (f.spans, f.bytes, b) at o) ∙ s.faithful (c.args.addr + i) (get_or c.load.new.out i 0);
+          c.put_over.ensures.over i (omega (arith, lt, c.put_over.ensures.len))
+          ∙ sym (c.if-not-free.ensures.free refl (c.args.addr + i) (scattered_at s.scattered (c.args.addr + i) (get_or c.load.new.out i 0)) (omega arith) (omega (arith, lt, c.put_over.ensures.len)))
+          ∙ s.faithful (c.args.addr + i) (get_or c.load.new.out i 0);
     })

@@ -1,6 +1,6 @@
 use Rattle.std.proofs.Common.{sym, rules, ◌-◌}
 use Rattle.live_mem.proofs.Latest.{latest}
-use Rattle.live_mem.proofs.kept.Kept.gives_again.Goals as goal
+use Rattle.live_mem.proofs.kept.Kept.gives.Goals as goal
 
 pub returns-clause-gives : goal.returns-clause-gives
 returns-clause-gives c = λ is.
