@@ -297,6 +297,7 @@ impl Ring for PackedRing {
         self.base.release(chain)
     }
 
+    #[inline(always)]
     fn wants_notice<M: Memory>(&self, memory: &mut M) -> bool {
         let layout = self.base.layout();
         let flags = number_at(memory, layout.driver + 2) % 4;

@@ -28,7 +28,7 @@ pub enum Taken {
 }
 
 /// Decides on a chain that was taken. Returns the request, unless its answer stands in the slot.
-#[inline(always)]
+#[inline(never)]
 fn decided(inventory: &Inventory, fetched: Fetched, slot: &mut Slot) -> Taken
     requires { length fetched.bytes.items ≡ min 1048627 (readable_total fetched.chain.parts) }
     ensures { IsTakenAs inventory.now fetched.chain fetched.bytes.items (slot_of slot.old) result (slot_of slot.new) }

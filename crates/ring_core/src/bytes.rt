@@ -16,6 +16,7 @@ use std::alloc::AllocError;
 pub const FIRST_BYTES: usize = 1_048_627;
 
 /// Appends the readable bytes of a part, as far as there is room below `most`.
+#[inline(always)]
 fn append_part<M: Memory>(
     memory: &mut M,
     part: &Part,

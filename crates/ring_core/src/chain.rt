@@ -134,6 +134,7 @@ impl Draft {
     }
 
     /// Adds one part.
+    #[inline(always)]
     pub fn push(&mut self, part: Part) -> Result<(), AllocError>
         ensures ok { OnOk result (self.new ≡ self.old ++ part ∷ []) }
         ensures err { OnErr result (self.new ≡ self.old) }

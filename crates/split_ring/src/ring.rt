@@ -286,6 +286,7 @@ impl Ring for SplitRing {
         self.base.release(chain)
     }
 
+    #[inline(always)]
     fn wants_notice<M: Memory>(&self, memory: &mut M) -> bool {
         let layout = self.base.layout();
         if !self.base.features().event_index {
