@@ -32,7 +32,7 @@ pub struct Report {
     pub receipts: Vec<Receipt>,
     /// The notes of all other requests. Where a host has threads, those that are Direct come first.
     pub notes: Vec<Note>,
-    /// What each fetch of a request left in the slot of its queue, in order, for each queue. It takes no bytes for a
+    /// The slots that the fetches of requests left, in order, for each queue. It takes no bytes for a
     /// fetch: proofs alone read it.
     pub fetched: Vec<Record<Slot>>,
 }

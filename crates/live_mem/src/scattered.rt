@@ -1,4 +1,4 @@
-//! What a phase read in many short reads, found by its addresses.
+//! Bytes that a phase read in many short reads, found by their addresses.
 
 ghost use Rattle.std.specs.Prelude.{ℕ, ◌≡◌, ◌≢◌, ◌+◌, ◌-◌, ◌*◌, ◌/◌, ◌<◌, ◌≤◌, ◌^◌, length, cond, get_or, None, Some, OnOk, IsSome};
 ghost use Rattle.std.specs.Ordering.{nat_cmp};
@@ -9,7 +9,7 @@ ghost use Rattle.live_mem.specs.Scattered.{byte_or, in_granule, scattered_at};
 use std::alloc::{AllocError, Global};
 use std::collections::BTreeMap;
 
-/// How many bytes a granule has.
+/// The bytes of a granule.
 const GRANULE: u64 = 16;
 
 /// The bytes that were read, by granules of 16: granule `key` has the bytes from address 16 * `key` on, where they were read.
