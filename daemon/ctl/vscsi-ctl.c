@@ -2,6 +2,7 @@
 #include <errno.h>
 #include <fcntl.h>
 #include <jansson.h>
+#include <limits.h>
 #include <stdbool.h>
 #include <stdint.h>
 #include <stdio.h>
@@ -40,20 +41,47 @@ static json_int_t size_of(const char *word) {
   return is_size ? size << shift : -1;
 }
 
-// Opens the file that the words of a disk name. Returns -1 where they name none, or -2 where it can't be opened.
-static int open_file(const char *words) {
-  const char *at = strstr(words, "file=");
-  char path[4096];
+// What the words of a disk say of its file: its path, and the words behind commas that stand once.
+struct image {
+  char path[PATH_MAX + 1];
+  bool named, reads, makes;
+};
+
+// Takes a path up to its end or to a comma that stands once, and returns what follows. One that is too long stays so.
+static const char *take_path(const char *at, char *path) {
   size_t length = 0;
-  if (!at || (at > words && at[-1] != ',' && at[-1] != '=')) return -1;
-  for (at += strlen("file="); *at && length + 1 < sizeof path && !(*at == ',' && at[1] != ','); at++) {
+  for (; *at && !(*at == ',' && at[1] != ','); at++) {
     if (*at == ',') at++;
-    path[length++] = *at;
+    if (length < PATH_MAX) path[length++] = *at;
   }
   path[length] = 0;
-  bool reads = strstr(words, ",snapshot"), makes = strstr(words, ",grow");
-  int fd = open(path, (reads ? O_RDONLY : O_RDWR) | (makes ? O_CREAT : 0) | O_NONBLOCK | O_NOCTTY | O_CLOEXEC, 0600);
-  return fd < 0 ? refuse(path), -2 : fd;
+  return at;
+}
+
+static bool is_word(const char *at, size_t length, const char *word) { return length == strlen(word) && !strncmp(at, word, length); }
+
+// Takes one word of a disk, as the daemon does, and returns what follows.
+static const char *take_word(const char *at, struct image *image) {
+  static const char file[] = "file=";
+  size_t length = strcspn(at, ",");
+  if (!strncmp(at, file, sizeof file - 1)) {
+    image->named = true;
+    return take_path(at + sizeof file - 1, image->path);
+  }
+  image->reads = image->reads || is_word(at, length, "snapshot");
+  image->makes = image->makes || is_word(at, length, "grow");
+  return at + length;
+}
+
+// Opens the file that the words of a disk name. Returns -1 where they name none, or -2 where it can't be opened.
+static int open_file(const char *words) {
+  struct image image = {0};
+  const char *at = strchr(words, '=');
+  while (at && *at) at = take_word(at + 1, &image);
+  if (!image.named) return -1;
+  int flags = (image.reads ? O_RDONLY : O_RDWR) | (image.makes ? O_CREAT : 0) | O_NONBLOCK | O_NOCTTY | O_CLOEXEC;
+  int fd = open(image.path, flags, 0600);
+  return fd < 0 ? refuse(image.path), -2 : fd;
 }
 
 static int connect_to(const char *path) {

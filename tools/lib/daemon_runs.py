@@ -1018,6 +1018,15 @@ def test_control_disks(room):
         asks("attach", f"1:0=file={room.file('three.img')},snapshot")
         assert two.stat().st_size == 2 * MIB and stat.S_IMODE(two.stat().st_mode) == 0o600
         assert [it["disk"] for it in asks("stats")["return"]["disks"]] == ["0:0", "0:1", "0:2", "1:0"]
+        # What a path has between commas is no word of the disk's.
+        named, plain = room.file("a,snapshot"), room.folder / "a,grow"
+        asks("attach", f"0:5=1M,file={str(named).replace(',', ',,')}")
+        asks("detach", "0:5")
+        for missing in (plain, room.folder / "b,grow,b"):
+            assert asks("attach", f"0:5=1M,file={str(missing).replace(',', ',,')}", status=1) is None and not missing.exists()
+        asks("attach", f"0:5=1M,grow,file={str(plain).replace(',', ',,')},detect-zeroes=unmap")
+        assert plain.stat().st_size == MIB
+        asks("detach", "0:5")
         for words in ("0:1=1M", "2:1=1M", "0:3=1X", f"0:3=1M,file={one}", f"0:3=3M,file={room.folder / 'three.img'}"):
             assert asks("attach", words, status=1)["error"]["name"] == "BadDisk", words
         assert asks("detach", "0:0", status=1)["error"]["name"] == "BadDisk" and asks("detach", "0:9", status=1)["error"]["name"] == "NoDisk"
