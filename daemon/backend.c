@@ -60,7 +60,15 @@ void backend_log(struct backend *backend, bool logs) {
   if (backend->device.live) device_log(&backend->device, backend->logs ? log->at : NULL, backend->logs ? (size_t)log->size : 0);
 }
 
+// Returns how many queues the device has: all up to the last one that the driver set up, and one of requests at the least.
+static unsigned count_of(const struct backend *backend) {
+  unsigned count = backend->count;
+  while (count > FIXED_QUEUES + 1 && !backend->queues[count - 1].ready) count--;
+  return count;
+}
+
 static bool make(struct backend *backend, char *why, size_t room) {
+  const unsigned count = count_of(backend);
   struct vscsi_unit units[DEVICE_MOST_UNITS];
   struct ring rings[DEVICE_MOST_QUEUES];
   for (size_t i = 0; i < backend->disks->count; i++) {
@@ -68,13 +76,13 @@ static bool make(struct backend *backend, char *why, size_t room) {
     // Calm: the disks were on before the guest was, and nobody has to be told of that.
     units[i] = (struct vscsi_unit){.blocks = disk->blocks, .lun = disk->lun, .target = disk->target, .calm = 1};
   }
-  for (unsigned q = 0; q < backend->count; q++) rings[q] = backend->queues[q].ready ? backend->queues[q].ring : idle_ring();
+  for (unsigned q = 0; q < count; q++) rings[q] = backend->queues[q].ready ? backend->queues[q].ring : idle_ring();
   const struct vscsi_live_config config = {.size = sizeof config,
                                            .features = VSCSI_F_VERSION_1 | (backend->packed ? VSCSI_F_RING_PACKED : 0) |
                                                        (backend->event_index ? VSCSI_F_EVENT_IDX : 0) |
                                                        (backend->indirect ? VSCSI_F_INDIRECT_DESC : 0) |
                                                        (backend->change ? VSCSI_F_CHANGE : 0),
-                                           .ring_count = backend->count,
+                                           .ring_count = count,
                                            .units = units,
                                            .unit_count = backend->disks->count};
   memset(backend->noted, 0, sizeof backend->noted);
