@@ -1,6 +1,9 @@
+#include <errno.h>
 #include <fcntl.h>
+#include <poll.h>
 #include <sys/epoll.h>
 #include <sys/stat.h>
+#include <sys/uio.h>
 #include <unistd.h>
 
 #include "bytes.h"
@@ -168,6 +171,21 @@ bool is_event(int fd) {
   return !fstat(fd, &stat) && (!(stat.st_mode & S_IFMT) || S_ISFIFO(stat.st_mode));
 }
 
+static bool is_pipe(int fd) {
+  struct stat stat;
+  return !fstat(fd, &stat) && S_ISFIFO(stat.st_mode);
+}
+
+bool kick_drain(int fd) {
+  uint64_t count;
+  struct iovec part = {.iov_base = &count, .iov_len = sizeof count};
+  struct pollfd asked = {.fd = fd, .events = POLLIN};
+  ssize_t got = preadv2(fd, &part, 1, -1, RWF_NOWAIT);
+  // A system or a file that doesn't know that word. What is there now only the front end can take away before it is read.
+  if (got < 0 && (errno == EOPNOTSUPP || errno == ENOSYS)) got = poll(&asked, 1, 0) == 1 ? read(fd, &count, sizeof count) : 1;
+  return got > 0 || (got < 0 && (errno == EAGAIN || errno == EINTR));
+}
+
 // The queue of a message that may come with a descriptor, and the descriptor, or -1.
 static bool with_descriptor(struct session *session, struct message *message, unsigned *q, int *fd) {
   if (message->size != 8) return false;
@@ -187,13 +205,16 @@ bool queue_set_kick(struct session *session, struct message *message) {
   int fd;
   if (!with_descriptor(session, message, &q, &fd)) return false;
   struct session_queue *queue = &session->queues[q];
-  struct epoll_event event = {.events = EPOLLIN, .data.u32 = q};
+  // Each write to an eventfd is an event of its own (EPOLLET), so that it needs no reading. A pipe would be full some time.
+  bool reads = fd >= 0 && is_pipe(fd);
+  struct epoll_event event = {.events = reads ? EPOLLIN : EPOLLIN | EPOLLET, .data.u32 = q};
   unwatch(session, queue);
   if (fd >= 0 && epoll_ctl(session->epoll, EPOLL_CTL_ADD, fd, &event)) {
     close(fd);
     return false;
   }
   queue->kick = fd;
+  queue->is_pipe = reads;
   // Where there is no kick, the ring is looked at from now on.
   session->more = true;
   if (!(session->features & F_PROTOCOL_FEATURES)) queue->enabled = true;
@@ -227,6 +248,8 @@ bool queue_get_base(struct session *session, const struct message *message) {
   if (backend->device.live) backend_end(backend);
   if (queue->started) queue->base = ring_base(backend, q);
   ring_forget(backend, q);
+  // Whoever looks at it next finds no kick of this daemon's.
+  if (queue->kick >= 0) kick_drain(queue->kick);
   unwatch(session, queue);
   queue->started = queue->enabled = backend->queues[q].ready = false;
   session_release(session);

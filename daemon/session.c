@@ -1,13 +1,11 @@
 #include "session.h"
 
-#include <errno.h>
 #include <poll.h>
 #include <stdio.h>
 #include <string.h>
 #include <sys/epoll.h>
 #include <sys/mman.h>
 #include <sys/timerfd.h>
-#include <sys/uio.h>
 #include <unistd.h>
 
 #include "bytes.h"
@@ -333,27 +331,15 @@ static void signal_fd(int fd) {
   if (write(fd, &one, sizeof one) < 0) return;
 }
 
-// Takes what a kick's descriptor has to say, without waiting, also where the front end made it one that waits. Returns false
-// where it can't be read.
-static bool drain(int fd) {
-  uint64_t count;
-  struct iovec part = {.iov_base = &count, .iov_len = sizeof count};
-  struct pollfd asked = {.fd = fd, .events = POLLIN};
-  ssize_t got = preadv2(fd, &part, 1, -1, RWF_NOWAIT);
-  // A system or a file that doesn't know that word. What is there now only the front end can take away before it is read.
-  if (got < 0 && (errno == EOPNOTSUPP || errno == ENOSYS)) got = poll(&asked, 1, 0) == 1 ? read(fd, &count, sizeof count) : 1;
-  return got > 0 || (got < 0 && (errno == EAGAIN || errno == EINTR));
-}
-
 void session_kicked(struct session *session, unsigned what) {
   uint64_t count;
   session->more = true;
   if (what == EVENT_TIMER && read(session->timer, &count, sizeof count) < 0) return;  // it was set anew meanwhile
   if (what >= session->backend.count || session->queues[what].kick < 0) return;
   session->backend.kicked |= UINT32_C(1) << what;
-  int kick = session->queues[what].kick;
-  // No eventfd, or at its end.
-  if (!drain(kick)) epoll_ctl(session->epoll, EPOLL_CTL_DEL, kick, NULL);
+  const struct session_queue *queue = &session->queues[what];
+  // At its end nobody writes into it any more.
+  if (queue->is_pipe && !kick_drain(queue->kick)) epoll_ctl(session->epoll, EPOLL_CTL_DEL, queue->kick, NULL);
 }
 
 static void notify(struct session *session, uint32_t owed) {

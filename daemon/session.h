@@ -8,6 +8,7 @@
 struct session_queue {
   int kick, call, err;
   bool enabled, started, addressed;
+  bool is_pipe;                   // its kick is one, which is read each time
   bool told;                      // of a broken ring, by its error descriptor
   uint64_t desc, driver, device;  // by the front end's own addresses
   uint32_t base;
@@ -71,6 +72,10 @@ bool queue_get_base(struct session *session, const struct message *message);
 
 // Returns whether a descriptor is one by which events are told.
 bool is_event(int fd);
+
+// Takes what a kick's descriptor has to say, without waiting, also where the front end made it one that waits. Returns false
+// where it can't be read.
+bool kick_drain(int fd);
 
 // Lets go of the files of disks that move, where no queue is started.
 void session_release(const struct session *session);

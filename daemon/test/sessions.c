@@ -1,6 +1,7 @@
 #include "sessions.h"
 
 #include <fcntl.h>
+#include <poll.h>
 #include <string.h>
 #include <sys/epoll.h>
 #include <sys/mman.h>
@@ -276,6 +277,41 @@ void test_kicks(void) {
     uint64_t begun = clock_now();
     while (clock_now() - begun < 50) looks += epoll_wait(front.epoll, &event, 1, 0) > 0 ? (turn(&front), 1u) : 0u;
     MUST(looks && looks <= clock_now() - begun + 1);
+    end(&front, &disks);
+  }
+}
+
+static bool has_more(int fd) {
+  struct pollfd asked = {.fd = fd, .events = POLLIN};
+  return poll(&asked, 1, 0) == 1;
+}
+
+void test_pipes(void) {
+  for (unsigned number = 0; number < WAYS; number++) {
+    struct disks disks;
+    struct front front;
+    struct sent sent;
+    int ends[2], own;
+    begin(&front, &disks, number);
+    front_agree(&front);
+    // An eventfd is read as its queue stops, and not before.
+    for (unsigned i = 0; i < 3; i++) MUST(is_ready(&front, 3));
+    MUST(has_more(front.kick[3]));
+    front_stop(&front, 3);
+    MUST(!has_more(front.kick[3]));
+    // A pipe is read at each kick, and its end is none.
+    MUST(!pipe2(ends, O_CLOEXEC | O_NONBLOCK));
+    front_descriptor(&sent, SET_VRING_KICK, 4, ends[0]);
+    MUST(front_ask(&front, &sent));
+    own = front.kick[4];
+    front.kick[4] = ends[1];
+    for (unsigned i = 0; i < 3; i++) MUST(is_ready(&front, 4));
+    front.kick[4] = own;
+    MUST(!has_more(ends[0]));
+    close(ends[1]);
+    pump(&front);
+    MUST(front.alive && is_ready(&front, 2));
+    close(ends[0]);
     end(&front, &disks);
   }
 }

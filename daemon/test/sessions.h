@@ -23,6 +23,9 @@ void test_stale(void);
 // Kicks that can't be read, and queues that have none.
 void test_kicks(void);
 
+// Eventfds that are read as a queue stops, and pipes that are read as they kick.
+void test_pipes(void);
+
 // Descriptors of which the front end has the daemon's reads and writes wait.
 void test_waits(void);
 
