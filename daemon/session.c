@@ -390,21 +390,25 @@ static void set_next(const struct session *session, enum served served) {
   set_timer(session, session->kickless ? POLL : due > now ? due - now : 1);
 }
 
+static void tell_end(const char *why) { log_say(LOG_ERROR, NULL, "the session ends: %s", why); }
+
 // Makes the device where something is available for it. Returns MORE where there is one then.
-static enum served make_device(struct session *session, uint32_t queues, char *why, size_t room) {
+static enum served make_device(struct session *session) {
   struct backend *backend = &session->backend;
-  if (!backend_has(backend, queues)) return SERVED;
-  enum served begun = backend_begin(backend, why, room);
+  char why[WHY] = "";
+  if (!backend_has(backend, session->served)) return SERVED;
+  enum served begun = backend_begin(backend, why, sizeof why);
   if (begun == MORE) say(session, "a device", backend->packed ? "packed rings" : "split rings");
   if (begun == LATER && *why) log_say(LOG_ERROR, NULL, "%s; it is tried again", why);
+  if (begun == FAILED) tell_end(why);
   return begun;
 }
 
-// Says how a session that was served goes on. Returns false where it has to end.
-static bool note_served(struct session *session, enum served served, const char *why) {
+// Notes how a session that was served goes on. Returns false where it has to end.
+static bool note_served(struct session *session, enum served served) {
   if (session->backend.keeps) tell_files(session);
   if (session->backend.broken) tell_broken(session);
-  if (served == FAILED) return log_say(LOG_ERROR, NULL, "the session ends: %s", why), false;
+  if (served == FAILED) return false;
   session->more = served == MORE || served == BUSY;
   set_next(session, served);
   return true;
@@ -416,7 +420,8 @@ static bool stop(struct session *session) {
   uint32_t owed = 0;
   enum served served = backend_stop(&session->backend, clock_now() - session->waiting_since, &owed, why, sizeof why);
   notify(session, owed);
-  if (!note_served(session, served, why)) return false;
+  if (served == FAILED) tell_end(why);
+  if (!note_served(session, served)) return false;
   if (must_wait(session, &session->waiting)) return true;
   session->more = true;
   if (!watch(session->epoll, session->socket, EVENT_SOCKET)) return false;
@@ -446,13 +451,12 @@ static bool is_busy(struct session *session) {
 
 static bool serve(struct session *session) {
   struct backend *backend = &session->backend;
-  char why[WHY] = "";
   if (session->is_waiting) return stop(session);
   session->more = false;
   if (session->is_torn) return true;
   if (session->is_old) find_served(session);
   backend->kicked |= session->kickless;
-  enum served served = backend->device.live ? MORE : make_device(session, session->served, why, sizeof why);
+  enum served served = backend->device.live ? MORE : make_device(session);
   for (uint64_t until = 0; served == MORE;) {
     uint32_t owed = 0;
     backend->polls = session->polls && is_busy(session);
@@ -463,7 +467,7 @@ static bool serve(struct session *session) {
     if (served == MORE && !until) until = clock_now() + (session->polls ? POLL : LONGEST);
     else if (served == MORE && clock_now() >= until) break;
   }
-  return note_served(session, served, why);
+  return note_served(session, served);
 }
 
 bool session_serve(struct session *session) { return is_whole(serve(session)); }
