@@ -130,7 +130,7 @@ static bool is_over(struct backend *backend) {
 }
 
 // Has the device serve these queues until nothing is left, it has to leave off, or so many steps were taken.
-static enum ran run(struct backend *backend, uint32_t queues, uint64_t most) {
+static inline enum ran run(struct backend *backend, uint32_t queues, uint64_t most) {
   uint64_t each = backend->keeps ? FEW_STEPS : MANY_STEPS;
   for (bool more = true; more;) {
     uint64_t steps = 0;
@@ -147,7 +147,7 @@ static enum ran run(struct backend *backend, uint32_t queues, uint64_t most) {
 }
 
 // Has the request queues served: all at once, or where one call leaves something, one after the other, each for some steps.
-static enum ran run_requests(struct backend *backend, uint32_t queues) {
+static inline enum ran run_requests(struct backend *backend, uint32_t queues) {
   if (!backend->crowded) {
     enum ran ran = run(backend, queues, backend->steps + MANY_STEPS);
     backend->crowded = ran == RUNS;
@@ -168,7 +168,7 @@ static enum ran run_requests(struct backend *backend, uint32_t queues) {
 
 // Has the queues served. The control queue comes last: a driver made its functions available behind the requests that they are
 // about. A guest whose requests make chains available would keep it waiting for ever, but for the bound.
-static enum ran run_all(struct backend *backend, uint32_t queues) {
+static inline enum ran run_all(struct backend *backend, uint32_t queues) {
   bool has_control = queues & (backend->seen | backend->asked | (backend->silent ? CONTROL : 0)) & CONTROL;
   if (!has_control) backend->steps = 0;
   backend->until = 0;
