@@ -64,21 +64,6 @@ bool device_map(struct device *device, const struct vscsi_region *regions, size_
 
 void device_log(struct device *device, uint8_t *bitmap, size_t bytes) { vscsi_log(&device->vscsi, bitmap, bytes); }
 
-bool device_serve(struct device *device, uint32_t queues, uint64_t most, uint64_t *steps, bool *more) {
-  return vscsi_live_serve(&device->vscsi, queues, most, steps, more) == VSCSI_DONE;
-}
-
-uint32_t device_owed(struct device *device) {
-  uint32_t owed = 0;
-  vscsi_live_owed(&device->vscsi, &owed);
-  return owed;
-}
-
-bool device_is_broken(struct device *device) {
-  uint8_t status = 0;
-  return vscsi_live_status(&device->vscsi, &status) == VSCSI_DONE && status;
-}
-
 uint32_t device_fault(struct device *device, unsigned queue) {
   uint32_t fault = VSCSI_BROKEN_NOT;
   vscsi_live_broken(&device->vscsi, (uint16_t)queue, &fault);

@@ -1,4 +1,5 @@
-// All calls of the library that the daemon makes. Where the library's header changes, library.c changes and nothing else.
+// All calls of the library that the daemon makes. Where the library's header changes, library.c changes, and the calls here that each
+// round makes, and nothing else.
 #ifndef DAEMON_LIBRARY_H
 #define DAEMON_LIBRARY_H
 
@@ -56,13 +57,23 @@ void device_log(struct device *device, uint8_t *bitmap, size_t bytes);
 // Serves what is available on these queues (bit 0 is queue 0), and what was begun before, by at most so many steps. `steps` is
 // how many these were, and `more` tells whether one is left. Returns false where memory was refused: what was served before
 // stands, and a later call goes on.
-bool device_serve(struct device *device, uint32_t queues, uint64_t most, uint64_t *steps, bool *more);
+static inline bool device_serve(struct device *device, uint32_t queues, uint64_t most, uint64_t *steps, bool *more) {
+  return vscsi_live_serve(&device->vscsi, queues, most, steps, more) == VSCSI_DONE;
+}
 
 // Returns the queues whose driver is to be notified.
-uint32_t device_owed(struct device *device);
+static inline uint32_t device_owed(struct device *device) {
+  uint32_t owed = 0;
+  vscsi_live_owed(&device->vscsi, &owed);
+  return owed;
+}
 
 // Returns whether a guest broke any queue, and by which fault it broke this one: VSCSI_BROKEN_NOT where it didn't.
-bool device_is_broken(struct device *device);
+static inline bool device_is_broken(struct device *device) {
+  uint8_t status = 0;
+  return vscsi_live_status(&device->vscsi, &status) == VSCSI_DONE && status;
+}
+
 uint32_t device_fault(struct device *device, unsigned queue);
 
 // Tells which blocks of a unit may have changed since a place of its history, and leaves the place that it has now. `ranges`
