@@ -13,6 +13,7 @@
 #include "guard.h"
 #include "images.h"
 #include "log.h"
+#include "rare.h"
 #include "rings.h"
 #include "space.h"
 
@@ -331,10 +332,15 @@ static void signal_fd(int fd) {
   if (write(fd, &one, sizeof one) < 0) return;
 }
 
-void session_kicked(struct session *session, unsigned what) {
+// Takes the timer's event, which is over where it was set anew meanwhile.
+static RARE void take_timer(const struct session *session) {
   uint64_t count;
+  if (read(session->timer, &count, sizeof count) < 0) return;
+}
+
+void session_kicked(struct session *session, unsigned what) {
   session->more = true;
-  if (what == EVENT_TIMER && read(session->timer, &count, sizeof count) < 0) return;  // it was set anew meanwhile
+  if (what == EVENT_TIMER) take_timer(session);
   if (what >= session->backend.count || session->queues[what].kick < 0) return;
   session->backend.kicked |= UINT32_C(1) << what;
   const struct session_queue *queue = &session->queues[what];
@@ -378,14 +384,13 @@ static void tell_files(const struct session *session) {
 }
 
 // Sets the timer to so many milliseconds from now.
-static void set_timer(const struct session *session, uint64_t left) {
+static RARE void set_timer(const struct session *session, uint64_t left) {
   const struct itimerspec when = {.it_value = {.tv_sec = (time_t)(left / 1000), .tv_nsec = (long)(left % 1000) * 1000000}};
   timerfd_settime(session->timer, 0, &when, NULL);
 }
 
-// Sets the timer to when the session is to be served again with no other cause, if it is. A ring that has no kick is looked at.
-static void set_next(const struct session *session, enum served served) {
-  if (session->more || (served != LATER && !session->kickless)) return;
+// Sets the timer to when the session is to be served again with no other cause. A ring that has no kick is looked at.
+static void set_next(const struct session *session) {
   uint64_t now = clock_now(), due = session->backend.due;
   set_timer(session, session->kickless ? POLL : due > now ? due - now : 1);
 }
@@ -393,7 +398,7 @@ static void set_next(const struct session *session, enum served served) {
 static void tell_end(const char *why) { log_say(LOG_ERROR, NULL, "the session ends: %s", why); }
 
 // Makes the device where something is available for it. Returns MORE where there is one then.
-static enum served make_device(struct session *session) {
+static RARE enum served make_device(struct session *session) {
   struct backend *backend = &session->backend;
   char why[WHY] = "";
   if (!backend_has(backend, session->served)) return SERVED;
@@ -405,17 +410,17 @@ static enum served make_device(struct session *session) {
 }
 
 // Notes how a session that was served goes on. Returns false where it has to end.
-static bool note_served(struct session *session, enum served served) {
+static inline bool note_served(struct session *session, enum served served) {
   if (session->backend.keeps) tell_files(session);
   if (session->backend.broken) tell_broken(session);
   if (served == FAILED) return false;
   session->more = served == MORE || served == BUSY;
-  set_next(session, served);
+  if (!session->more && (served == LATER || session->kickless)) set_next(session);
   return true;
 }
 
 // Goes on until the message that waits may be taken, and takes it.
-static bool stop(struct session *session) {
+static RARE bool stop(struct session *session) {
   char why[WHY] = "";
   uint32_t owed = 0;
   enum served served = backend_stop(&session->backend, clock_now() - session->waiting_since, &owed, why, sizeof why);
