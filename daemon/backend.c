@@ -68,7 +68,6 @@ static unsigned count_of(const struct backend *backend) {
 }
 
 static bool make(struct backend *backend, char *why, size_t room) {
-  const unsigned count = count_of(backend);
   struct vscsi_unit units[DEVICE_MOST_UNITS];
   struct ring rings[DEVICE_MOST_QUEUES];
   for (size_t i = 0; i < backend->disks->count; i++) {
@@ -76,13 +75,14 @@ static bool make(struct backend *backend, char *why, size_t room) {
     // Calm: the disks were on before the guest was, and nobody has to be told of that.
     units[i] = (struct vscsi_unit){.blocks = disk->blocks, .lun = disk->lun, .target = disk->target, .calm = 1};
   }
-  for (unsigned q = 0; q < count; q++) rings[q] = backend->queues[q].ready ? backend->queues[q].ring : idle_ring();
+  backend->made = count_of(backend);
+  for (unsigned q = 0; q < backend->made; q++) rings[q] = backend->queues[q].ready ? backend->queues[q].ring : idle_ring();
   const struct vscsi_live_config config = {.size = sizeof config,
                                            .features = VSCSI_F_VERSION_1 | (backend->packed ? VSCSI_F_RING_PACKED : 0) |
                                                        (backend->event_index ? VSCSI_F_EVENT_IDX : 0) |
                                                        (backend->indirect ? VSCSI_F_INDIRECT_DESC : 0) |
                                                        (backend->change ? VSCSI_F_CHANGE : 0),
-                                           .ring_count = count,
+                                           .ring_count = backend->made,
                                            .units = units,
                                            .unit_count = backend->disks->count};
   memset(backend->noted, 0, sizeof backend->noted);

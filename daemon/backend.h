@@ -50,6 +50,7 @@ struct backend {
   struct noted noted[DEVICE_MOST_UNITS];  // of each unit: what is noted in its disk's backlog
   struct backend_queue queues[MOST_QUEUES];
   unsigned count;
+  unsigned made;  // how many of them the device has: none behind these is ready and whole
   bool packed, event_index, indirect, change;
   bool keeps;   // disks are kept on files, for which answers wait
   bool mapped;  // the device has the guest's memory as it is

@@ -92,7 +92,7 @@ static void copy(struct backend_queue *queue) {
 }
 
 void rings_hold(struct backend *backend) {
-  for (unsigned q = 0; backend->packed && q < backend->count; q++)
+  for (unsigned q = 0; backend->packed && q < backend->made; q++)
     if (ring_waits(backend, q)) copy(&backend->queues[q]);
 }
 
@@ -262,7 +262,7 @@ static bool wants(const struct backend *backend, unsigned q, uint16_t before) {
 
 uint32_t rings_show(struct backend *backend) {
   uint32_t owed = 0;
-  for (unsigned q = backend->count; q-- > 0;) {
+  for (unsigned q = backend->made; q-- > 0;) {
     uint16_t before = backend->queues[q].ring.first.used;
     if (!ring_waits(backend, q) || !(backend->packed ? show_packed(backend, q) : show_split(backend, q))) continue;
     if (wants(backend, q, before)) owed |= UINT32_C(1) << q;
