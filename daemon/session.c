@@ -366,21 +366,23 @@ static void tell_broken(struct session *session) {
   }
 }
 
-// Says once a minute of each file that it can't be written and why, and once that it has all again.
+// Says once a minute of a file that it can't be written and why, and once that it has all again.
+static RARE void tell_file(struct disk *disk) {
+  uint64_t now = clock_now();
+  bool is_due = !disk->told || now - disk->told >= COMPLAINT;
+  if (disk->error && is_due) {
+    log_say(LOG_ERROR, disk, "can't be written, and is tried again: %s", strerror(disk->error));
+    disk->told = now;
+  } else if (disk->told && !disk->backlog.count) {
+    log_say(LOG_ERROR, disk, "can be written again");
+    disk->told = 0;
+  }
+}
+
 static void tell_files(const struct session *session) {
   struct disks *disks = session->backend.disks;
-  uint64_t now = clock_now();
-  for (size_t i = 0; i < disks->count; i++) {
-    struct disk *disk = &disks->disks[i];
-    bool is_due = !disk->told || now - disk->told >= COMPLAINT;
-    if (disk->error && is_due) {
-      log_say(LOG_ERROR, disk, "can't be written, and is tried again: %s", strerror(disk->error));
-      disk->told = now;
-    } else if (disk->told && !disk->backlog.count) {
-      log_say(LOG_ERROR, disk, "can be written again");
-      disk->told = 0;
-    }
-  }
+  for (size_t i = 0; i < disks->count; i++)
+    if (disks->disks[i].error || disks->disks[i].told) tell_file(&disks->disks[i]);
 }
 
 // Sets the timer to so many milliseconds from now.
