@@ -112,7 +112,9 @@ enum served backend_begin(struct backend *backend, char *why, size_t room) {
   return put_off(backend);
 }
 
-bool backend_has(const struct backend *backend, uint32_t queues) {
+bool backend_has(struct backend *backend, uint32_t queues) {
+  for (uint32_t left = backend->unasked & queues; left; left &= left - 1) ring_ask(backend, (unsigned)__builtin_ctz(left), true);
+  backend->unasked &= ~queues;
   for (unsigned q = 0; q < backend->count; q++)
     if (queues >> q & 1 && ring_has(backend, q)) return true;
   return false;
@@ -196,16 +198,17 @@ static void note_faults(struct backend *backend) {
   }
 }
 
-// Asks drivers that name the chain of which they notify for the next one. Returns whether another look is wanted, since one may
-// have come before the driver saw that. What is found then has them asked once more.
+// Asks drivers that name the chain of which they notify for the next one, and each driver that wasn't asked yet. Returns whether another
+// look is wanted, since one may have come before the driver saw that. What is found then has them asked once more.
 static bool ask(struct backend *backend, uint32_t queues) {
-  uint32_t asked = (backend->seen | (backend->took ? backend->asked : 0)) & queues;
+  uint32_t asked = (backend->seen | (backend->took ? backend->asked : 0)) & queues, unasked = backend->unasked & queues;
   bool names = backend->event_index && !backend->packed;
   // Those that aren't served now, as they aren't enabled yet, are asked once they are.
   backend->seen &= ~queues;
+  backend->unasked &= ~queues;
   // Each ring was said not to notify, and is to do so again.
   if (backend->silent) asked = queues;
-  backend->asked = names || backend->silent ? asked : 0;
+  backend->asked = (names || backend->silent ? asked : 0) | unasked;
   backend->silent = false;
   for (uint32_t left = backend->asked; left; left &= left - 1) ring_ask(backend, (unsigned)__builtin_ctz(left), true);
   return backend->asked;
@@ -302,6 +305,8 @@ void backend_count(const struct backend *backend, size_t disk, struct vscsi_coun
 void backend_end(struct backend *backend) {
   for (size_t i = 0; backend->device.live && i < backend->disks->count; i++) backend_count(backend, i, &backend->disks->disks[i].counts);
   backend_unmap(backend);
+  backend->unasked = UINT32_MAX;
+  backend->silent = false;
   backend->phase = IDLE;
   backend->pause = 0;
   if (!device_end(&backend->device, backend->disks->stores, backend->disks->count)) backend->disks->lost = true;

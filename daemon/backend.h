@@ -57,9 +57,10 @@ struct backend {
   bool logs;    // each page that is written is marked in the log
   bool left;    // something was left of the queues
   enum phase phase;
-  uint32_t kicked;  // queues whose driver notified, and that weren't looked at since
-  uint32_t seen;    // those that were, and whose driver wasn't asked to do so again
-  uint32_t asked;   // those that were asked behind the last call
+  uint32_t kicked;   // queues whose driver notified, and that weren't looked at since
+  uint32_t seen;     // those that were, and whose driver wasn't asked to do so again
+  uint32_t asked;    // those that were asked behind the last call
+  uint32_t unasked;  // those that whoever served them last may have left without asking for a notification
   bool took;        // the device took steps in this call
   bool polls;       // rings are looked at all the time, and drivers are asked not to notify
   bool silent;      // they were asked that, after so many steps
@@ -108,8 +109,9 @@ enum served backend_stop(struct backend *backend, uint64_t passed, uint32_t *owe
 // Adds what a disk did for this device to what it had counted before.
 void backend_count(const struct backend *backend, size_t disk, struct vscsi_counts *counts);
 
-// Returns whether a driver made something available on one of these queues, which has no device yet.
-bool backend_has(const struct backend *backend, uint32_t queues);
+// Returns whether a driver made something available on one of these queues, which have no device yet. Drivers that weren't asked to
+// notify since their queues began are asked first.
+bool backend_has(struct backend *backend, uint32_t queues);
 
 // Serves these queues, which are ready and whole, for some 20 milliseconds at the most. Sets the bits of those whose driver
 // wants to be notified.

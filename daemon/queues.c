@@ -117,6 +117,7 @@ static bool start(struct session *session, unsigned q) {
   if (is_found) ring_recall(backend, q, &queue->base);
   queue->started = is_found && ring_set_base(backend, q, queue->base);
   backend->queues[q].ready = queue->started;
+  backend->unasked |= UINT32_C(1) << q;
   if (queue->started) ring_note(backend, q);
   session->more = true;
   return queue->started;

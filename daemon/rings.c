@@ -284,8 +284,9 @@ void ring_ask(struct backend *backend, unsigned q, bool notify) {
   bool is_whole = queue->ready && !queue->fault, names = backend->event_index && !backend->packed;
   if (!is_whole) return;
   // All that it took of a queue but the events' the device gave back.
+  bool is_told = backend->keeps || !backend->device.live;
   uint16_t taken = q == EVENT_QUEUE ? load(memory_at(&backend->memory, queue->ring.driver + 2, 2))
-                   : backend->keeps ? queue->ring.first.available
+                   : is_told        ? queue->ring.first.available
                                     : load(queue->device_at + 2);
   size_t at = names ? 4 + 8 * (size_t)queue->ring.size : backend->packed ? 2 : 0;
   store(queue->device_at + at, (uint16_t)(!names ? !notify : notify ? taken : taken + 0x8000));

@@ -119,6 +119,27 @@ void test_stopped(void) {
   }
 }
 
+void test_unasked(void) {
+  for (unsigned number = 0; number < WAYS; number++) {
+    struct disks disks;
+    struct front front;
+    uint32_t length;
+    begin(&front, &disks, number);
+    put_write(&front, Q, 0, 0);
+    driver_kick(&front, Q);
+    MUST(await_error(&front, Q));
+    // The queue stops before its driver was asked for the next one's notification, and finds nothing as it starts.
+    uint32_t base = stop(&front, true);
+    MUST(driver_next(&front, Q, 3, &length) && is_good(&front, 0));
+    front_start(&front, Q, base);
+    pump(&front);
+    put_write(&front, Q, 1, APART);
+    driver_kick(&front, Q);
+    MUST(await(&front, Q, 1, NONE) == 1 && is_good(&front, 1) && has(1, APART, false));
+    load_end(&front, &disks);
+  }
+}
+
 // Sets all rings up once more, from their beginning, with the memory in which it is noted where they stand.
 static void agree_again(struct front *front, int places) {
   static struct sent sent[64];

@@ -306,7 +306,7 @@ int main(int count, char **words) {
                {"forgetful", test_forgetful},
                {"abandoned", test_abandoned}, {"zeros", test_zeros}, {"turns", test_turns}, {"order of control", test_order_of_control},
                {"costs", test_costs},
-               {"stops", test_stops}, {"enabled", test_enabled}, {"held", test_held}, {"stopped", test_stopped}, {"killed", test_killed}, {"waiting", test_waiting},
+               {"stops", test_stops}, {"enabled", test_enabled}, {"held", test_held}, {"stopped", test_stopped}, {"unasked", test_unasked}, {"killed", test_killed}, {"waiting", test_waiting},
                {"moved", test_moved}, {"slots", test_slots}, {"regions", test_regions}, {"short", test_short},
                {"forms", test_forms}, {"stale", test_stale}, {"kicks", test_kicks}, {"pipes", test_pipes}, {"waits", test_waits}, {"reset", test_reset},
                {"refused", test_refused}, {"endless", test_endless}, {"polls", test_polls},
