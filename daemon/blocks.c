@@ -124,19 +124,18 @@ static void note_unmapped(struct backlog *backlog, struct vscsi_range range) {
   else if (backlog->unmapped_count < MOST_UNMAPPED) backlog->unmapped[backlog->unmapped_count++] = range;
 }
 
-// Returns how many commands of a disk ran, by its counts.
-static uint64_t ran(const struct vscsi_counts *counts) { return counts->good + counts->check_conditions + counts->busy; }
-
 static void note_disk(struct device *device, struct disk *disk, struct noted *noted) {
   struct vscsi_range ranges[VSCSI_MOST_RANGES];
   struct vscsi_counts counts = noted->counts, before = counts;
   size_t count = 0;
   bool all = true, counted = device_counts(device, disk->target, disk->lun, &counts);
-  if (counted && ran(&counts) == ran(&before)) return;
+  // Of a command that neither took data nor was refused nothing is told.
+  bool is_same = counted && counts.data_out == before.data_out;
+  if (is_same && counts.check_conditions == before.check_conditions && counts.busy == before.busy) return;
   bool told = device_changed(device, disk->target, disk->lun, &noted->place, ranges, &count, &all);
   noted->counts = counts;
-  // A command that doesn't end with GOOD changes no block, whichever blocks it names.
-  if (told && counted && counts.good == before.good) return;
+  // A command that doesn't end with GOOD takes none, and changes no block, whichever blocks it names.
+  if (told && is_same) return;
   // Of the commands that change blocks UNMAP alone takes bytes that aren't whole blocks: 8, and 16 for each range.
   bool unmaps = (counts.data_out - before.data_out) % DEVICE_BLOCK;
   if (!told || all) note(&disk->backlog, (struct vscsi_range){0, disk->blocks});
