@@ -12,19 +12,21 @@
  * the others are let go unread. A disk that is destroyed, or that a device has, is none.
  *
  * Which calls may run side by side. On one device, and on one disk, none, not even those that only look
- * (vscsi_peek, vscsi_disk_save): the caller orders them, and hands a device or a disk to another thread as it would hand over
+ * (vscsi_peek, vscsi_disk_save). The caller orders them. It hands a device or a disk to another thread as it would hand over
  * any memory. Devices and disks have nothing in common. No call is made from a signal handler, or by the child of a fork of a
  * process with threads.
  *
- * What a call answers. One of `enum vscsi_answer`. Each call says below what else but VSCSI_DONE it may answer; then it
- * changed nothing, the room that it would write included, but for what is said of vscsi_settle, vscsi_serve and of the
- * fault that vscsi_create tells. No call ends the process. Of each call VSCSI_NULL is answered where a pointer is null (a
- * run of no bytes, queues or units may be, and what is called optional below), and VSCSI_BAD_LENGTH where a length is
- * more than memory can have.
+ * What a call answers. One of `enum vscsi_answer`. Each call says below what else but VSCSI_DONE it may answer. Then it
+ * changed nothing, nor the room that it would write. Exceptions are said of vscsi_settle, vscsi_serve, and the fault that
+ * vscsi_create tells. No call ends the process. Each call answers VSCSI_NULL where a pointer is null. A run of no bytes,
+ * queues or units may be null, and what is called optional below. Each answers VSCSI_BAD_LENGTH where a length is more than
+ * memory can have.
  *
- * What can't be checked, and is the caller's: a `struct vscsi` or `struct vscsi_disk` that isn't zeros and that no call left;
- * a copy of a disk that is used beside another; a pointer to room that is shorter than was said, or that another argument
- * points into; two calls on one device or one disk at a time. Then anything may happen.
+ * What can't be checked, and is the caller's. Anything may happen by:
+ * - a `struct vscsi` or `struct vscsi_disk` that isn't zeros and that no call left;
+ * - a copy of a disk that is used beside another;
+ * - a pointer to room that is shorter than was said, or that another argument points into;
+ * - two calls on one device or one disk at a time.
  *
  * Guest memory is one run of bytes that begins at guest address 0. A `struct vscsi` has its own: what a guest wrote is copied
  * in by vscsi_poke, what the device wrote is copied out by vscsi_peek. docs/C.md says which bytes, and when. A `struct
@@ -78,10 +80,11 @@ enum vscsi_answer {
   VSCSI_NO_DISK = 11    /* there is no disk here: none was made, it was destroyed, or a device has it */
 };
 
-/* The features that the device knows (VIRTIO 1.2, 6). A driver has to agree to VSCSI_F_VERSION_1. By VSCSI_F_RING_PACKED
- * it chooses packed queues in place of split ones, by VSCSI_F_INDIRECT_DESC chains that end in a table of descriptors,
- * by VSCSI_F_EVENT_IDX notifications of the completions alone that it names, and by VSCSI_F_CHANGE (5.6.3) to be told of
- * capacities that change. */
+/* The features that the device knows (VIRTIO 1.2, 6). A driver has to agree to VSCSI_F_VERSION_1. Others choose:
+ * - VSCSI_F_RING_PACKED: packed queues in place of split ones;
+ * - VSCSI_F_INDIRECT_DESC: chains that end in a table of descriptors;
+ * - VSCSI_F_EVENT_IDX: notifications of the completions alone that the driver names;
+ * - VSCSI_F_CHANGE (5.6.3): to be told of capacities that change. */
 #define VSCSI_F_CHANGE (UINT64_C(1) << 2)
 #define VSCSI_F_INDIRECT_DESC (UINT64_C(1) << 28)
 #define VSCSI_F_EVENT_IDX (UINT64_C(1) << 29)
@@ -123,9 +126,9 @@ struct vscsi_unit {
   uint8_t calm;
 };
 
-/* The device that is wanted: guest memory of 1 to 65,536 pages of 4,096 bytes; the features that the driver agreed to;
- * its queues, of which 0 is the control queue, 1 the event queue, and the others, 1 to 16, request queues; 1 to 64 units
- * in rising order of target and LUN, each target with LUN 0. All of it is known once the driver has set DRIVER_OK.
+/* The device that is wanted. Guest memory has 1 to 65,536 pages of 4,096 bytes. Queue 0 is the control queue, queue 1 the
+ * event queue, and the others, 1 to 16, are request queues. There are 1 to 64 units in rising order of target and LUN, each
+ * target with LUN 0. All of it, with the features that the driver agreed to, is known once the driver has set DRIVER_OK.
  *
  * `size` is sizeof (struct vscsi_config), by which the library knows the fields that the caller has.
  *
@@ -331,8 +334,8 @@ enum vscsi_answer vscsi_peek(struct vscsi *device, uint64_t addr, void *into, si
  *
  * The device decides by the driver's flag as its own copy has it, and with VSCSI_F_EVENT_IDX by `used_event` (a packed
  * queue's event area) in its place. A host that copies memory therefore looks at that once more in the guest's memory, after
- * it copied the used ring out there, and notifies where the driver has asked in the meantime (VIRTIO 1.2, 2.7.7.2, 2.8.10);
- * or it notifies of every queue whose count of used chains rose (vscsi_progress), which is always right.
+ * it copied the used ring out there. It notifies where the driver has asked in the meantime (VIRTIO 1.2, 2.7.7.2, 2.8.10).
+ * To notify of every queue whose count of used chains rose (vscsi_progress) is always right, too.
  * VSCSI_NO_DEVICE. */
 enum vscsi_answer vscsi_owed(struct vscsi *device, uint32_t *queues);
 
@@ -370,7 +373,7 @@ enum vscsi_answer vscsi_reset(struct vscsi *device, uint8_t target, uint16_t lun
 enum vscsi_answer vscsi_resize(struct vscsi *device, uint8_t target, uint16_t lun, uint64_t blocks);
 
 /* Tells how much a unit did. `left` and `full` together are the chains that were used for it. What was answered with no step
- * of the unit is counted nowhere: requests whose unit isn't there or that were malformed, and those that were answered BUSY since
+ * of the unit is counted nowhere. Such requests were malformed, or their unit isn't there, or they were answered BUSY since
  * memory was refused as they came to the unit. `size` is that of the structure. Takes no memory. Since 1.3.
  * The first of these, in this order, that is so: VSCSI_BAD_LENGTH where the size is another; VSCSI_NO_DEVICE; VSCSI_NO_UNIT. */
 enum vscsi_answer vscsi_counts(struct vscsi *device, uint8_t target, uint16_t lun, struct vscsi_counts *counts, size_t size);
@@ -385,10 +388,10 @@ enum vscsi_answer vscsi_capacity(struct vscsi *device, uint8_t target, uint16_t 
 enum vscsi_answer vscsi_blocks(struct vscsi *device, uint8_t target, uint16_t lun, uint64_t first, uint32_t count, void *into,
                                size_t length);
 
-/* Tells which blocks of a unit may have changed, for a host that writes a disk through to a file: vscsi_serve, then this, then
- * vscsi_blocks of each range and the file, and only then the used rings to the guest; so no answer is seen before what it
- * promises is kept. A guest writes where it likes, so the ranges may overlap, and may have blocks that are as before or that
- * the unit lost.
+/* Tells which blocks of a unit may have changed, for a host that writes a disk through to a file. It calls vscsi_serve, then
+ * this, then vscsi_blocks of each range, and writes the file. Only then it copies the used rings out to the guest. So no
+ * answer is seen before what it promises is kept. A guest writes where it likes, so the ranges may overlap, and may have
+ * blocks that are as before or that the unit lost.
  *
  * `place` is a place of the unit's history, which the host keeps for each unit: 0 when its device was made, and then what the
  * last call left there. Where `all` is false, each block outside the ranges has what it had at that place. Where it is true any
@@ -425,8 +428,8 @@ enum vscsi_answer vscsi_disk_load(struct vscsi_disk *disk, uint64_t first, uint3
 enum vscsi_answer vscsi_disk_save(struct vscsi_disk *disk, uint64_t first, uint32_t count, void *into, size_t length);
 
 /* Live memory: a device that serves a guest where the guest's memory is, while the guest runs. Nothing is copied in and
- * nothing out: the device reads rings, tables, requests and data at the places that the host mapped, each byte once for what
- * it decides by it, and writes data, responses and the used ring there, the used index last. A guest that writes meanwhile
+ * nothing out. The device reads rings, tables, requests and data at the places that the host mapped, each byte once for what
+ * it decides by it. It writes data, responses and the used ring there, the used index last. A guest that writes meanwhile
  * gives it nonsense at worst, which it is proved to stand. The host's loop is: wait for a kick, vscsi_live_serve,
  * vscsi_live_owed, notify.
  *
@@ -463,7 +466,7 @@ enum vscsi_answer vscsi_log(struct vscsi_live *device, uint8_t *bitmap, size_t b
 /* Asks the driver of a queue to notify the device of the next chain that it makes available, or, where `notify` is false, of
  * none (VIRTIO 1.2, 2.7.10 and 2.8.10). A driver that agreed to VSCSI_F_EVENT_IDX notifies of that one chain alone, and one of a
  * split queue that is never asked stops after its first request. So a host that waits for notifications does these three in
- * turn: it serves until nothing is left; it asks for the next chain; and it serves once more, since a driver that made a chain
+ * turn. It serves until nothing is left; it asks for the next chain; and it serves once more. For a driver that made a chain
  * available before it saw what was asked notifies nobody. If that took no step it sleeps, else it asks again. With `asks` of the
  * configuration vscsi_live_serve does all three. A host that polls asks for none, again after 65,535 chains, and for the next
  * one before it sleeps. Nothing is written for a queue that is broken or isn't mapped. Since 1.4.
@@ -477,9 +480,9 @@ enum vscsi_answer vscsi_live_ask(struct vscsi_live *device, uint16_t queue, bool
  * VSCSI_NO_DEVICE; VSCSI_NO_QUEUE. */
 enum vscsi_answer vscsi_live_position(struct vscsi_live *device, uint16_t queue, struct vscsi_position *position);
 
-/* Of a device on live memory what the call of the same name does; but vscsi_live_owed decides by the driver's flag, or its
- * event index, as it stood behind the full barrier behind the used index, so nothing needs to be looked at once more. And
- * vscsi_live_broken also tells a queue that isn't mapped.
+/* Of a device on live memory what the call of the same name does, but for two. vscsi_live_owed decides by the driver's flag,
+ * or its event index, as it stood behind the full barrier behind the used index. So nothing needs to be looked at once more.
+ * And vscsi_live_broken also tells a queue that isn't mapped.
  *
  * Where the configuration has `asks`, vscsi_live_serve goes on until no driver made a chain available before it could see that
  * it was asked, or `most` steps were taken: to ask is no step. Where `more` is false then, the driver of each of those queues
