@@ -66,6 +66,7 @@ impl<B: Bus> RecordedBus<B> {
     }
 
     /// Loads the bytes from `addr` on, as many as `out` holds.
+    #[inline(always)]
     pub fn load(&mut self, addr: u64, out: &mut [u8])
         ensures heard { heard self.new ≡ Access.Loads addr out.new ∷ heard self.old }
         ensures bytes { AreBytes out.new }
@@ -80,6 +81,7 @@ impl<B: Bus> RecordedBus<B> {
     }
 
     /// Stores `bytes` from `addr` on.
+    #[inline(always)]
     pub fn store(&mut self, addr: u64, bytes: &[u8])
         ensures { heard self.new ≡ Access.Stores addr bytes.now ∷ heard self.old }
     {
