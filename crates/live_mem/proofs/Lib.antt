@@ -1,3 +1,4 @@
+mod Appending
 pub mod Spans
 pub mod Recording
 pub mod Over

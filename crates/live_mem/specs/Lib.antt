@@ -5,4 +5,5 @@ pub mod Kept
 pub mod Live
 pub mod Room
 pub mod Scattered
+pub mod Used
 pub mod Inner

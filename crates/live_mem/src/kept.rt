@@ -7,7 +7,10 @@ ghost use Rattle.live_mem.specs.Kept.{source, covers, byte_of, valued, AreKept, 
 ghost use Rattle.live_mem.specs.Inner.Kept.{Keeps};
 ghost use Rattle.std.specs.Vec.{vec_capacity};
 
+use crate::bus::Bus;
+use crate::recorded::RecordedBus;
 use crate::span::{SHORT, Span};
+use crate::used::Used;
 use std::alloc::{AllocError, Global};
 
 /// The spans that a phase read, with their bytes. No span has an address below `low`, none from `high` on, and none from
@@ -15,15 +18,15 @@ use std::alloc::{AllocError, Global};
 #[derive(Drop)]
 pub(crate) struct Kept {
     spans: Vec<Span>,
-    bytes: Vec<u8>,
+    long: Used,
     low: u64,
     high: u64,
     free_from: u64,
     free_to: u64,
-    ghost all: { AreKept spans.items bytes.items },
-    ghost below: { IsFree spans.items bytes.items 0 low },
-    ghost above: { IsFree spans.items bytes.items high (2 ^ 64) },
-    ghost free: { IsFree spans.items bytes.items free_from free_to },
+    ghost all: { AreKept spans.items long.bytes },
+    ghost below: { IsFree spans.items long.bytes 0 low },
+    ghost above: { IsFree spans.items long.bytes high (2 ^ 64) },
+    ghost free: { IsFree spans.items long.bytes free_from free_to },
     ghost inside: { free_to ≤ high },
     ghost roomy: { 64 ≤ vec_capacity spans },
 }
@@ -127,17 +130,19 @@ impl Kept {
     ghost use Rattle.std.specs.Prelude.{OnOk, vec_len};
     ghost use Rattle.live_mem.specs.Room.{Holds};
     ghost use Rattle.live_mem.specs.Inner.Room.{Takes};
+    ghost use Rattle.live_mem.specs.Inner.Appends.{Appends};
+    ghost use Rattle.live_mem.specs.Heard.{heard};
 
     /// Keeps nothing, with room for 64 short reads. An error where that memory is refused.
     pub(crate) fn new(alloc: Global) -> Result<Kept, AllocError>
         ensures spans { IfOk result (λ kept. kept.spans.items ≡ []) }
-        ensures bytes { IfOk result (λ kept. kept.bytes.items ≡ []) }
+        ensures bytes { IfOk result (λ kept. kept.long.bytes ≡ []) }
         ensures room { IfOk result (λ kept. Holds kept 64) }
     {
         let spans = Vec::with_capacity(alloc, LEAST_ROOM)?;
         Ok(Kept {
             spans,
-            bytes: Vec::new(alloc),
+            long: Used::new(alloc),
             low: u64::MAX,
             high: 0,
             free_from: 0,
@@ -148,11 +153,11 @@ impl Kept {
     /// Forgets everything, and keeps the room.
     pub(crate) fn clear(&mut self)
         ensures spans { self.new.spans.items ≡ [] }
-        ensures bytes { self.new.bytes.items ≡ [] }
+        ensures bytes { self.new.long.bytes ≡ [] }
         ensures room { Holds self.new 64 }
     {
         self.spans.clear();
-        self.bytes.clear();
+        self.long.clear();
         self.low = u64::MAX;
         self.high = 0;
         self.free_from = 0;
@@ -171,7 +176,7 @@ impl Kept {
     /// nothing else.
     pub(crate) fn make_room(&mut self, len: usize) -> Result<(), AllocError>
         ensures spans { self.new.spans.items ≡ self.old.spans.items }
-        ensures bytes { self.new.bytes.items ≡ self.old.bytes.items }
+        ensures bytes { self.new.long.bytes ≡ self.old.long.bytes }
         ensures made { OnOk result (Takes self.new len) }
         ensures succeeds { Holds self.old 1 → len ≤ 16 → IsOk result }
     {
@@ -179,7 +184,7 @@ impl Kept {
         if len <= SHORT {
             return Ok(());
         }
-        self.bytes.reserve(len)
+        self.long.make_room(len)
     }
 
     /// Takes the bytes from `addr` up to `end` out of the ranges that no span has. Returns false, with nothing changed, where
@@ -189,8 +194,8 @@ impl Kept {
     pub(crate) fn takes_free(&mut self, addr: u64, end: u64) -> bool
         requires { addr ≤ end }
         ensures spans { self.new.spans ≡ self.old.spans }
-        ensures bytes { self.new.bytes ≡ self.old.bytes }
-        ensures free { IsTrue result → IsFree self.old.spans.items self.old.bytes.items addr end }
+        ensures bytes { self.new.long ≡ self.old.long }
+        ensures free { IsTrue result → IsFree self.old.spans.items self.old.long.bytes addr end }
         ensures below { IsTrue result → self.new.low ≤ addr }
         ensures above { IsTrue result → end ≤ self.new.high }
         ensures apart { IsTrue result → (p n : ℕ) → self.new.free_from ≤ p → p < self.new.free_to → end ≡ addr + n
@@ -225,7 +230,7 @@ impl Kept {
         requires small { addr + length out.old ≤ 2 ^ 52 }
         ensures len { length out.new ≡ length out.old }
         ensures gives { IsTrue result → (i d : ℕ) → i < length out.old
-            → valued self.now.spans.items self.now.bytes.items (addr + i) d ≡ get_or out.new i 0 }
+            → valued self.now.spans.items self.now.long.bytes (addr + i) d ≡ get_or out.new i 0 }
     {
         let count = self.spans.len();
         if count == 0 {
@@ -238,7 +243,7 @@ impl Kept {
         {
             return false;
         }
-        put_over(span, &self.bytes, addr, out);
+        put_over(span, self.long.as_slice(), addr, out);
         true
     }
 
@@ -249,9 +254,9 @@ impl Kept {
         requires small { addr + length out.old ≤ 2 ^ 52 }
         ensures len { length out.new ≡ length out.old }
         ensures over { (i : ℕ) → i < length out.old → get_or out.new i 0
-            ≡ valued self.old.spans.items self.old.bytes.items (addr + i) (get_or out.old i 0) }
+            ≡ valued self.old.spans.items self.old.long.bytes (addr + i) (get_or out.old i 0) }
         ensures spans { self.new.spans ≡ self.old.spans }
-        ensures bytes { self.new.bytes ≡ self.old.bytes }
+        ensures bytes { self.new.long ≡ self.old.long }
         ensures below { self.new.low ≤ addr }
         ensures above { addr + length out.new ≤ self.new.high }
         ensures apart { (p : ℕ) → self.new.free_from ≤ p → p < self.new.free_to → spans addr (length out.new) p ≡ false }
@@ -270,10 +275,10 @@ impl Kept {
         requires small { addr + length out.old ≤ 2 ^ 52 }
         ensures len { length out.new ≡ length out.old }
         ensures over { (i : ℕ) → i < length out.old → get_or out.new i 0
-            ≡ valued self.now.spans.items self.now.bytes.items (addr + i) (get_or out.old i 0) }
+            ≡ valued self.now.spans.items self.now.long.bytes (addr + i) (get_or out.old i 0) }
     {
         for span in &self.spans {
-            put_over(span, &self.bytes, addr, out);
+            put_over(span, self.long.as_slice(), addr, out);
         }
     }
 
@@ -286,7 +291,7 @@ impl Kept {
         requires below { self.old.low ≤ addr }
         requires above { addr + length out.now ≤ self.old.high }
         requires apart { (p : ℕ) → self.old.free_from ≤ p → p < self.old.free_to → spans addr (length out.now) p ≡ false }
-        ensures kept { Keeps self.old.spans.items self.old.bytes.items addr out.now self.new.spans.items self.new.bytes.items }
+        ensures kept { Keeps self.old.spans.items self.old.long.bytes addr out.now self.new.spans.items self.new.long.bytes }
         ensures room { (n : ℕ) → Holds self.old (n + 1) → Holds self.new n }
     {
         let span = Span {
@@ -307,16 +312,47 @@ impl Kept {
         requires below { self.old.low ≤ addr }
         requires above { addr + length out.now ≤ self.old.high }
         requires apart { (p : ℕ) → self.old.free_from ≤ p → p < self.old.free_to → spans addr (length out.now) p ≡ false }
-        ensures kept { Keeps self.old.spans.items self.old.bytes.items addr out.now self.new.spans.items self.new.bytes.items }
+        ensures kept { Keeps self.old.spans.items self.old.long.bytes addr out.now self.new.spans.items self.new.long.bytes }
         ensures room { (n : ℕ) → Holds self.old (n + 1) → Holds self.new n }
     {
         let span = Span {
             addr,
-            start: self.bytes.len(),
+            start: self.long.len(),
             len: out.len(),
             short: short_of(&[]),
         };
-        let _ = self.bytes.extend_from_slice(out);
+        self.long.keep(out);
+        self.spans.push_reserved(span);
+    }
+
+    /// Loads a longer run from `addr` on, keeps it, and appends it to `out`. There is room for it in both.
+    #[inline(always)]
+    pub(crate) fn append<B: Bus>(
+        &mut self,
+        bus: &mut RecordedBus<B>,
+        addr: u64,
+        len: usize,
+        out: &mut Vec<u8>,
+    )
+        requires small { addr + len ≤ 2 ^ 52 }
+        requires long { 16 < len }
+        requires room { Takes self.old len }
+        requires below { self.old.low ≤ addr }
+        requires above { addr + len ≤ self.old.high }
+        requires apart { (p : ℕ) → self.old.free_from ≤ p → p < self.old.free_to → spans addr len p ≡ false }
+        requires fits { vec_len out.old + len ≤ vec_capacity out.old }
+        ensures appends { Appends (heard bus.old) (heard bus.new) self.old self.new addr len out.old.items out.new.items }
+        ensures room { (n : ℕ) → Holds self.old (n + 1) → Holds self.new n }
+    {
+        let start = self.long.len();
+        self.long.load(bus, addr, len);
+        let _ = out.extend_from_slice(part(self.long.as_slice(), start, len));
+        let span = Span {
+            addr,
+            start,
+            len,
+            short: short_of(&[]),
+        };
         self.spans.push_reserved(span);
     }
 
@@ -328,7 +364,7 @@ impl Kept {
         requires below { self.old.low ≤ addr }
         requires above { addr + length out.now ≤ self.old.high }
         requires apart { (p : ℕ) → self.old.free_from ≤ p → p < self.old.free_to → spans addr (length out.now) p ≡ false }
-        ensures kept { Keeps self.old.spans.items self.old.bytes.items addr out.now self.new.spans.items self.new.bytes.items }
+        ensures kept { Keeps self.old.spans.items self.old.long.bytes addr out.now self.new.spans.items self.new.long.bytes }
         ensures room { (n : ℕ) → Holds self.old (n + 1) → Holds self.new n }
     {
         if out.len() <= SHORT {

@@ -16,6 +16,7 @@ mod live;
 mod recorded;
 mod scattered;
 mod span;
+mod used;
 
 pub use bus::Bus;
 pub use laws::reads_what_the_bus_gave;

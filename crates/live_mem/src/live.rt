@@ -15,6 +15,7 @@ use crate::bus::Bus;
 use crate::kept::Kept;
 use crate::recorded::RecordedBus;
 use crate::scattered::Scattered;
+use crate::span::SHORT;
 use guest_mem::{Memory, WritableMemory};
 use std::alloc::{AllocError, Global};
 
@@ -32,7 +33,7 @@ pub struct LiveMem<B> {
     kept: Kept,
     scattered: Scattered,
     ghost small: { size ≤ 2 ^ 52 },
-    ghost faithful: { (p d : ℕ) → valued kept.spans.items kept.bytes.items p (scattered_at scattered p d) ≡ loaded (heard bus) p d },
+    ghost faithful: { (p d : ℕ) → valued kept.spans.items kept.long.bytes p (scattered_at scattered p d) ≡ loaded (heard bus) p d },
     ghost bytes_loaded: { (p d : ℕ) → d < 256 → loaded (heard bus) p d < 256 },
     ghost stays_sized: { (m : List ℕ) → length m ≡ size → length (stored (heard bus) m) ≡ size },
     ghost bytes_stored: { (m : List ℕ) → length m ≡ size → AreBytes m → AreBytes (stored (heard bus) m) },
@@ -158,6 +159,83 @@ impl<B: Bus> LiveMem<B> {
     }
 }
 
+impl<B: Bus> LiveMem<B> {
+    ghost use Rattle.live_mem.specs.Live.{MayBeLive, stored_live};
+    ghost use Rattle.live_mem.specs.Room.{HasRoom};
+    ghost use Rattle.live_mem.specs.Inner.Room.{Takes};
+    ghost use Rattle.live_mem.specs.Access.{spans};
+    ghost use Rattle.live_mem.specs.Kept.{IsFree};
+    ghost use Rattle.std.specs.Prelude.{vec_len};
+    ghost use Rattle.std.specs.Vec.{vec_capacity};
+
+    /// Makes room to keep a longer run that is read from `addr` on, where no span has some of it. Returns false where it may
+    /// not be read as one.
+    #[inline(always)]
+    fn takes_long(&mut self, addr: u64, len: usize) -> Result<bool, AllocError>
+        requires { addr + len ≤ self.old.size }
+        ensures size { self.new.size ≡ self.old.size }
+        ensures bus { heard self.new.bus ≡ heard self.old.bus }
+        ensures bare { IfOk result (λ long. IsTrue long → (p d : ℕ) → scattered_at self.new.scattered p d ≡ d) }
+        ensures made { IfOk result (λ long. IsTrue long → Takes self.new.kept len) }
+        ensures free { IfOk result (λ long. IsTrue long → IsFree self.new.kept.spans.items self.new.kept.long.bytes addr (addr + len)) }
+        ensures below { IfOk result (λ long. IsTrue long → self.new.kept.low ≤ addr) }
+        ensures above { IfOk result (λ long. IsTrue long → addr + len ≤ self.new.kept.high) }
+        ensures apart { IfOk result (λ long. IsTrue long
+            → (p : ℕ) → self.new.kept.free_from ≤ p → p < self.new.kept.free_to → spans addr len p ≡ false) }
+    {
+        let is_listed = len > MOST_SCATTERED || self.kept.has_room();
+        if is_listed && self.scattered.is_bare() {
+            self.kept.make_room(len)?;
+            return Ok(self.kept.takes_free(addr, addr + len as u64));
+        }
+        Ok(false)
+    }
+
+    /// Appends a longer run, for which there is room, and of which nothing is kept.
+    #[inline(always)]
+    fn append_long(&mut self, addr: u64, len: usize, out: &mut Vec<u8>)
+        requires inside { addr + len ≤ self.old.size }
+        requires long { 16 < len }
+        requires room { Takes self.old.kept len }
+        requires below { self.old.kept.low ≤ addr }
+        requires above { addr + len ≤ self.old.kept.high }
+        requires apart { (p : ℕ) → self.old.kept.free_from ≤ p → p < self.old.kept.free_to → spans addr len p ≡ false }
+        requires free { IsFree self.old.kept.spans.items self.old.kept.long.bytes addr (addr + len) }
+        requires bare { (p d : ℕ) → scattered_at self.old.scattered p d ≡ d }
+        requires fits { vec_len out.old + len ≤ vec_capacity out.old }
+        requires reading { StoredNothing (heard self.old.bus) }
+        ensures reading { StoredNothing (heard self.new.bus) }
+        ensures size { self.new.size ≡ self.old.size }
+        ensures stays { (m : List ℕ) → MayBeLive self.new m → MayBeLive self.old m }
+        ensures stores { stored_live self.new ≡ stored_live self.old }
+        ensures len { length out.new.items ≡ length out.old.items + len }
+        ensures read { (m : List ℕ) → MayBeLive self.new m → out.new.items ≡ out.old.items ++ bytes_at m addr len }
+        ensures asks { Asks (heard self.old.bus) (heard self.new.bus) addr len }
+    {
+        self.kept.append(&mut self.bus, addr, len, out);
+    }
+
+    /// Appends what it reads into room in `out` that was filled before.
+    #[inline(never)]
+    fn append_copied(&mut self, addr: u64, len: usize, out: &mut Vec<u8>) -> Result<(), AllocError>
+        requires reading { StoredNothing (heard self.old.bus) }
+        requires inside { LiesIn self.old.size addr len }
+        ensures reading { StoredNothing (heard self.new.bus) }
+        ensures size { self.new.size ≡ self.old.size }
+        ensures stays { (m : List ℕ) → MayBeLive self.new m → MayBeLive self.old m }
+        ensures stores { stored_live self.new ≡ stored_live self.old }
+        ensures len { OnOk result (length out.new.items ≡ length out.old.items + len) }
+        ensures read { OnOk result ((m : List ℕ) → MayBeLive self.new m → out.new.items ≡ out.old.items ++ bytes_at m addr len) }
+        ensures asks { OnOk result (Asks (heard self.old.bus) (heard self.new.bus) addr len) }
+        ensures asks_nothing { OnErr result (heard self.new.bus ≡ heard self.old.bus) }
+    {
+        let from = out.len();
+        out.resize(from + len, 0)?;
+        self.try_read(addr, &mut out[from..])?;
+        Ok(())
+    }
+}
+
 impl<B: Bus> Memory for LiveMem<B> {
     ghost use Rattle.live_mem.specs.Live.{MayBeLive, stored_live};
     ghost use Rattle.live_mem.specs.Room.{HasRoom};
@@ -245,10 +323,15 @@ impl<B: Bus> Memory for LiveMem<B> {
         ensures asks { OnOk result (Asks (heard self.old.bus) (heard self.new.bus) addr len) }
         ensures asks_nothing { OnErr result (heard self.new.bus ≡ heard self.old.bus) }
     {
-        let from = out.len();
-        out.resize(from + len, 0)?;
-        self.try_read(addr, &mut out[from..])?;
-        Ok(())
+        if len <= SHORT {
+            return self.append_copied(addr, len, out);
+        }
+        out.reserve(len)?;
+        if self.takes_long(addr, len)? {
+            self.append_long(addr, len, out);
+            return Ok(());
+        }
+        self.append_copied(addr, len, out)
     }
 
     ghost fewer = { λ x m n le room. Prim.omega (arith, le, room) };

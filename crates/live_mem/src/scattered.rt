@@ -1,6 +1,6 @@
 //! Bytes that a phase read in many short reads, found by their addresses.
 
-ghost use Rattle.std.specs.Prelude.{ℕ, ◌≡◌, ◌≢◌, ◌+◌, ◌-◌, ◌*◌, ◌/◌, ◌<◌, ◌≤◌, ◌^◌, length, cond, get_or, None, Some, OnOk, IsSome};
+ghost use Rattle.std.specs.Prelude.{ℕ, ◌≡◌, ◌≢◌, ◌+◌, ◌-◌, ◌*◌, ◌/◌, ◌<◌, ◌≤◌, ◌^◌, length, cond, get_or, None, Some, OnOk, IsSome, IsTrue};
 ghost use Rattle.std.specs.Ordering.{nat_cmp};
 ghost use Rattle.std.specs.BTreeMap.{get};
 ghost use Rattle.live_mem.specs.Access.{spans};
@@ -125,6 +125,14 @@ impl Scattered {
         Scattered {
             granules: BTreeMap::new(alloc),
         }
+    }
+
+    /// Returns true if nothing is kept.
+    #[inline(always)]
+    pub(crate) fn is_bare(&self) -> bool
+        ensures { IsTrue result → (p d : ℕ) → scattered_at self.now p d ≡ d }
+    {
+        self.granules.is_empty()
     }
 
     /// Forgets everything.

@@ -6,4 +6,4 @@ use Rattle.live_mem.specs.declared.kept.Kept.{Kept}
 -- a read of so many bytes can be kept with no memory taken
 pub record Takes (k : Kept) (len : ℕ) : Type 0 where
   pub span_fits : vec_len k.spans + 1 ≤ vec_capacity k.spans
-  pub bytes_fit : 16 < len → vec_len k.bytes + len ≤ vec_capacity k.bytes
+  pub bytes_fit : 16 < len → len ≤ k.long.spare

@@ -14,5 +14,5 @@ loop-span-preserved c =
           let inside : i < length c.loop-span.out = omega (arith, lt, c.loop-span.invariant.len) in
           let o = c.put_over.ensures.over i inside in
           let b = c.loop-span.invariant.over i lt in
-          (rw (c.deref.ensures.value, b) at o) ∙ sym (valued_next c.deref-span-items.result.now c.args.self.now.bytes.items (c.args.addr + i) (get_or c.args.out.now i 0) c.loop-span.span-index none c.loop-span-test.true);
+          (rw (c.as_slice.ensures, b) at o) ∙ sym (valued_next c.deref-span-items.result.now c.args.self.now.long.bytes (c.args.addr + i) (get_or c.args.out.now i 0) c.loop-span.span-index none c.loop-span-test.true);
     }

@@ -6,5 +6,5 @@ abbrev pub invariant-loop-span : goal.invariant-loop-span
 invariant-loop-span l =
     record {
       len : length l.out ≡ length l.fn.out;
-      over : (i : ℕ) → i < length l.fn.out → get_or l.out i 0 ≡ valued (take l.span-index l.span-items) l.self.bytes.items (l.addr + i) (get_or l.fn.out i 0);
+      over : (i : ℕ) → i < length l.fn.out → get_or l.out i 0 ≡ valued (take l.span-index l.span-items) l.self.long.bytes (l.addr + i) (get_or l.fn.out i 0);
     }

@@ -14,7 +14,7 @@ invariant_of-self-clause-faithful g c =
     let out = c.put_over-2.new.out in
     let k = rw (over.spans, over.bytes) at c.keep.ensures.kept in
     λ p d. rw c.load.ensures.heard
-    (kept_loaded s.kept.spans.items c.keep.new.self.spans.items s.kept.bytes.items c.keep.new.self.bytes.items c.args.addr out s.kept.all k (scattered_at s.scattered) (heard s.bus) c.load.new.out
+    (kept_loaded s.kept.spans.items c.keep.new.self.spans.items s.kept.long.bytes c.keep.new.self.long.bytes c.args.addr out s.kept.all k (scattered_at s.scattered) (heard s.bus) c.load.new.out
     (sym (over.len ∙ c.put_over.ensures.len))
     (λ i lt.
     let b = c.put_over.ensures.over i (omega (arith, lt, over.len, c.put_over.ensures.len)) in

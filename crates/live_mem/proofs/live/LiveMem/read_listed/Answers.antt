@@ -19,7 +19,7 @@ invariant_of-self-2-clause-faithful g c =
     let out = c.put_over.new.out in
     let k = rw (f.spans, f.bytes) at c.keep.ensures.kept in
     λ p d. rw c.load.ensures.heard
-    (kept_loaded s.kept.spans.items c.keep.new.self.spans.items s.kept.bytes.items c.keep.new.self.bytes.items c.args.addr out s.kept.all k (scattered_at s.scattered) (heard s.bus) c.load.new.out
+    (kept_loaded s.kept.spans.items c.keep.new.self.spans.items s.kept.long.bytes c.keep.new.self.long.bytes c.args.addr out s.kept.all k (scattered_at s.scattered) (heard s.bus) c.load.new.out
     (sym c.put_over.ensures.len)
     (λ i lt.
     c.put_over.ensures.over i (omega (arith, lt, c.put_over.ensures.len))

@@ -1,4 +1,4 @@
-use Rattle.std.proofs.Common.{◌≡◌, ◌+◌, ◌-◌, ◌∙◌, arith, inl, sym, cond, length, get_or}
+use Rattle.std.proofs.Common.{◌+◌, ◌-◌, ◌∙◌, arith, inl, sym, cond, length, get_or}
 use Rattle.live_mem.specs.Access.{spans}
 use Rattle.live_mem.specs.Heard.{heard}
 use Rattle.live_mem.specs.Scattered.{scattered_at}
@@ -11,7 +11,7 @@ invariant_of-self-clause-faithful g c =
     let s = c.args.self.now in
     let over = c.put_spans_over.ensures in
     λ p d. rw c.load.ensures.heard
-    (scattered_loaded s.kept.spans.items s.kept.bytes.items (scattered_at s.scattered) (scattered_at c.keep.new.self) c.args.addr c.put_spans_over.new.out (heard s.bus) c.load.new.out
+    (scattered_loaded s.kept.spans.items s.kept.long.bytes (scattered_at s.scattered) (scattered_at c.keep.new.self) c.args.addr c.put_spans_over.new.out (heard s.bus) c.load.new.out
     (sym (over.len ∙ c.put_over.ensures.len))
     (λ i lt.
     let b = c.put_over.ensures.over i (omega (arith, lt, over.len, c.put_over.ensures.len)) in
