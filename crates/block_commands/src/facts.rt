@@ -2,6 +2,7 @@
 
 ghost use Rattle.std.specs.Prelude.{◌≤◌, length};
 
+use cdb::Profile;
 use sense::Sense;
 
 /// The facts of its logical unit that a command is told, apart from the blocks.
@@ -15,6 +16,8 @@ pub struct UnitFacts {
     pub luns: Vec<u16>,
     /// The oldest unit attention that is pending, if any: its sense key is UNIT ATTENTION.
     pub pending: Option<Sense>,
+    /// The commands that the unit knows.
+    pub profile: Profile,
     // There are no more LUNs than flat space addresses tell apart (SAM-5 §4.7.7.3).
     ghost few: { length luns.items ≤ 16384 },
 }

@@ -1,8 +1,9 @@
--- The command that a CDB asks for, by the table of the profile.
+-- The command that a CDB asks for, by the table of a profile.
 use Rattle.std.specs.Prelude.{ℕ, ◌==◌, Bool, List, ◌∷◌, if◌then◌else◌, Option, None, Some, find}
 use Rattle.std.specs.List.{list_any}
 use Rattle.cdb.specs.Fields.{byte, bit}
-use Rattle.cdb.specs.Profile.{Row, profile}
+use Rattle.cdb.specs.Profile.{Row, rows}
+use Rattle.cdb.specs.declared.profile.Profile.{Profile}
 use Rattle.cdb.specs.declared.commands.Command.{Command}
 use Rattle.cdb.specs.declared.commands.Command.TheVariants.{Bad, Unknown}
 
@@ -11,8 +12,8 @@ abbrev pub any : List Bool → Bool
 any tests = list_any (λ test. test) tests
 
 -- the row of an opcode
-abbrev pub row_of : ℕ → Option Row
-row_of opcode = find (λ row. row.opcode == opcode) profile
+abbrev pub row_of : Profile → ℕ → Option Row
+row_of profile opcode = find (λ row. row.opcode == opcode) (rows profile)
 
 -- NACA, bit 2 of the control byte, SAM-5 §5.2
 abbrev pub naca : Row → List ℕ → Bool
@@ -25,5 +26,5 @@ command_by (Some row) cdb =
     if any (naca row cdb ∷ row.causes cdb) then Bad row.opcode else row.meaning cdb
 
 -- the command: unknown where the opcode has no row
-unfoldable pub command : List ℕ → Command
-command cdb = command_by (row_of (byte 0 cdb)) cdb
+unfoldable pub command : Profile → List ℕ → Command
+command profile cdb = command_by (row_of profile (byte 0 cdb)) cdb

@@ -1,7 +1,9 @@
--- The commands of the profile, as a table with a row for each opcode: SPC-4, SBC-3 and, for the two
+-- The commands of a profile, as a table with a row for each opcode: SPC-4, SBC-3 and, for the two
 -- commands of 6 bytes that SBC-3 leaves out, SBC-2.
 use Rattle.std.specs.Prelude.{ℕ, ◌+◌, ◌*◌, ◌^◌, ◌==◌, Bool, ◌&&◌, not, List, [], ◌∷◌, if◌then◌else◌, Option, find, unwrap_or, option_map, is_none}
 use Rattle.cdb.specs.Fields.{byte, bits, bit, number, is_set, is_over}
+use Rattle.cdb.specs.declared.profile.Profile.{Profile}
+use Rattle.cdb.specs.declared.profile.Profile.TheVariants.{Narrow, Wide}
 use Rattle.cdb.specs.declared.commands.Command.{Command}
 use Rattle.cdb.specs.declared.commands.Command.TheVariants.{TestUnitReady, RequestSense, Read, Write, Inquiry, ReadCapacity10, ReadCapacity16, SynchronizeCache, WriteSame, Unmap, CompareAndWrite, ReportLuns}
 use Rattle.cdb.specs.declared.commands.InquiryData.{InquiryData}
@@ -60,8 +62,9 @@ select_report select =
     if select == 0x00 then LogicalUnits
     else (if select == 0x01 then WellKnownLogicalUnits else AllLogicalUnits)
 
-abbrev pub profile : List Row
-profile =
+-- the narrow profile
+abbrev pub narrow_rows : List Row
+narrow_rows =
     -- TEST UNIT READY, SPC-4 §6.47
     row 0x00 5 never (λ cdb. TestUnitReady)
     -- REQUEST SENSE, SPC-4 §6.39: DESC
@@ -133,3 +136,8 @@ profile =
     (λ cdb. protect cdb ∷ is_over 2048 (number 6 9 cdb) ∷ [])
     (λ cdb. Write (number 2 5 cdb) (number 6 9 cdb))
     ∷ []
+
+-- the rows of a profile
+abbrev pub rows : Profile → List Row
+rows Narrow = narrow_rows
+rows Wide = narrow_rows

@@ -16,6 +16,7 @@ use crate::fields::{
     low_bits,
 };
 use crate::opcodes;
+use crate::profile::Profile;
 use byteorder::{BigEndian, ByteOrder};
 
 /// The service action of SERVICE ACTION IN (16) that is READ CAPACITY (16) (SBC-3 §5.16).
@@ -27,29 +28,29 @@ const NO_PAGE: u8 = 0x00;
 /// The bit NACA of the control byte (SAM-5 §5.2).
 const NACA: u8 = 2;
 
-/// Returns the command that a CDB asks for, with its fields read and held against the device's limits. Every CDB has
-/// one. A command of the profile whose fields are refused, or that asks for NACA, is `Bad`. An opcode that the profile
-/// lacks is `Unknown`. None needs more than 1,048,576 bytes from the driver.
+/// Returns the command that a CDB asks a unit of this profile for, with its fields read and held against the device's
+/// limits. Every CDB has one. A command of the profile whose fields are refused, or that asks for NACA, is `Bad`. An
+/// opcode that the profile lacks is `Unknown`. None needs more than 1,048,576 bytes from the driver.
 #[tactic(auto, using(crate::proofs::Rows::by_none))]
 #[inline(never)]
-pub fn decode(cdb: &[u8; CDB_BYTES]) -> Command
-    ensures meaning { result ≡ command cdb.now }
+pub fn decode(profile: Profile, cdb: &[u8; CDB_BYTES]) -> Command
+    ensures meaning { result ≡ command profile cdb.now }
     ensures data_out { (need_of result).out ≤ 1048576 }
 {
     match cdb[0] {
-        0x00..=0x1f => decode_6(cdb),
-        0x20..=0x5f => decode_10(cdb),
-        0x80..=0x9f => decode_16(cdb),
-        0xa0..=0xbf => decode_12(cdb),
+        0x00..=0x1f => decode_6(profile, cdb),
+        0x20..=0x5f => decode_10(profile, cdb),
+        0x80..=0x9f => decode_16(profile, cdb),
+        0xa0..=0xbf => decode_12(profile, cdb),
         _ => Command::Unknown,
     }
 }
 
 /// Decodes a CDB of 6 bytes.
 #[tactic(auto, using(crate::proofs::Rows::by_none))]
-fn decode_6(cdb: &[u8; CDB_BYTES]) -> Command
+fn decode_6(profile: Profile, cdb: &[u8; CDB_BYTES]) -> Command
     requires { byte 0 cdb.now < 0x20 }
-    ensures meaning { result ≡ command cdb.now }
+    ensures meaning { result ≡ command profile cdb.now }
     ensures data_out { (need_of result).out ≤ 1048576 }
 {
     let fields = match cdb[0] {
@@ -71,10 +72,10 @@ fn decode_6(cdb: &[u8; CDB_BYTES]) -> Command
 
 /// Decodes a CDB of 10 bytes.
 #[tactic(auto, using(crate::proofs::Rows::by_none))]
-fn decode_10(cdb: &[u8; CDB_BYTES]) -> Command
+fn decode_10(profile: Profile, cdb: &[u8; CDB_BYTES]) -> Command
     requires from { 0x20 ≤ byte 0 cdb.now }
     requires to { byte 0 cdb.now < 0x60 }
-    ensures meaning { result ≡ command cdb.now }
+    ensures meaning { result ≡ command profile cdb.now }
     ensures data_out { (need_of result).out ≤ 1048576 }
 {
     let fields = match cdb[0] {
@@ -91,10 +92,10 @@ fn decode_10(cdb: &[u8; CDB_BYTES]) -> Command
 
 /// Decodes a CDB of 12 bytes.
 #[tactic(auto, using(crate::proofs::Rows::by_none))]
-fn decode_12(cdb: &[u8; CDB_BYTES]) -> Command
+fn decode_12(profile: Profile, cdb: &[u8; CDB_BYTES]) -> Command
     requires from { 0xa0 ≤ byte 0 cdb.now }
     requires to { byte 0 cdb.now < 0xc0 }
-    ensures meaning { result ≡ command cdb.now }
+    ensures meaning { result ≡ command profile cdb.now }
     ensures data_out { (need_of result).out ≤ 1048576 }
 {
     let fields = match cdb[0] {
@@ -108,10 +109,10 @@ fn decode_12(cdb: &[u8; CDB_BYTES]) -> Command
 
 /// Decodes a CDB of 16 bytes.
 #[tactic(auto, using(crate::proofs::Rows::by_none))]
-fn decode_16(cdb: &[u8; CDB_BYTES]) -> Command
+fn decode_16(profile: Profile, cdb: &[u8; CDB_BYTES]) -> Command
     requires from { 0x80 ≤ byte 0 cdb.now }
     requires to { byte 0 cdb.now < 0xa0 }
-    ensures meaning { result ≡ command cdb.now }
+    ensures meaning { result ≡ command profile cdb.now }
     ensures data_out { (need_of result).out ≤ 1048576 }
 {
     let fields = match cdb[0] {
@@ -144,7 +145,7 @@ fn under_control(cdb: &[u8; CDB_BYTES], control: usize, fields: Option<Command>)
 
 /// Decodes REQUEST SENSE; `None` where its fields are refused. So with each command below.
 fn request_sense(cdb: &[u8; CDB_BYTES]) -> Option<Command>
-    ensures meaning { result ≡ fields_of 0x03 cdb.now }
+    ensures meaning { result ≡ fields_of Profile.Narrow 0x03 cdb.now }
     ensures data_out { IfSome result (λ c. (need_of c).out ≤ 1048576) }
 {
     let descriptor_format = has_bit(cdb[1], 0);
@@ -158,7 +159,7 @@ fn request_sense(cdb: &[u8; CDB_BYTES]) -> Option<Command>
 
 /// Decodes INQUIRY.
 fn inquiry(cdb: &[u8; CDB_BYTES]) -> Option<Command>
-    ensures meaning { result ≡ fields_of 0x12 cdb.now }
+    ensures meaning { result ≡ fields_of Profile.Narrow 0x12 cdb.now }
     ensures data_out { IfSome result (λ c. (need_of c).out ≤ 1048576) }
 {
     let vital_product_data = has_bit(cdb[1], 0);
@@ -191,7 +192,7 @@ fn page(code: u8) -> Option<InquiryData>
 
 /// Decodes REPORT LUNS.
 fn report_luns(cdb: &[u8; CDB_BYTES]) -> Option<Command>
-    ensures meaning { result ≡ fields_of 0xa0 cdb.now }
+    ensures meaning { result ≡ fields_of Profile.Narrow 0xa0 cdb.now }
     ensures data_out { IfSome result (λ c. (need_of c).out ≤ 1048576) }
 {
     let select = match cdb[2] {
@@ -208,7 +209,7 @@ fn report_luns(cdb: &[u8; CDB_BYTES]) -> Option<Command>
 
 /// Decodes READ CAPACITY (16), one of the service actions of its opcode.
 fn read_capacity_16(cdb: &[u8; CDB_BYTES]) -> Option<Command>
-    ensures meaning { result ≡ fields_of 0x9e cdb.now }
+    ensures meaning { result ≡ fields_of Profile.Narrow 0x9e cdb.now }
     ensures data_out { IfSome result (λ c. (need_of c).out ≤ 1048576) }
 {
     let service_action = low_bits(cdb[1], 5);
@@ -292,7 +293,7 @@ fn write_same(cdb: &[u8; CDB_BYTES], blocks: Blocks) -> Option<Command>
 
 /// Decodes WRITE SAME (16).
 fn write_same_16(cdb: &[u8; CDB_BYTES]) -> Option<Command>
-    ensures meaning { result ≡ fields_of 0x93 cdb.now }
+    ensures meaning { result ≡ fields_of Profile.Narrow 0x93 cdb.now }
     ensures data_out { IfSome result (λ c. (need_of c).out ≤ 1048576) }
 {
     let no_data_out = has_bit(cdb[1], 0);
@@ -304,7 +305,7 @@ fn write_same_16(cdb: &[u8; CDB_BYTES]) -> Option<Command>
 
 /// Decodes UNMAP.
 fn unmap(cdb: &[u8; CDB_BYTES]) -> Option<Command>
-    ensures meaning { result ≡ fields_of 0x42 cdb.now }
+    ensures meaning { result ≡ fields_of Profile.Narrow 0x42 cdb.now }
     ensures data_out { IfSome result (λ c. (need_of c).out ≤ 1048576) }
 {
     let anchor = has_bit(cdb[1], 0);
@@ -318,7 +319,7 @@ fn unmap(cdb: &[u8; CDB_BYTES]) -> Option<Command>
 
 /// Decodes COMPARE AND WRITE.
 fn compare_and_write(cdb: &[u8; CDB_BYTES]) -> Option<Command>
-    ensures meaning { result ≡ fields_of 0x89 cdb.now }
+    ensures meaning { result ≡ fields_of Profile.Narrow 0x89 cdb.now }
     ensures data_out { IfSome result (λ c. (need_of c).out ≤ 1048576) }
 {
     let blocks = cdb[13];

@@ -4,33 +4,34 @@ ghost use Rattle.std.specs.Prelude.{◌≡◌, ◌≢◌, ℕ, List, IsTrue, IsF
 ghost use Rattle.cdb.specs.Decoding.{command};
 ghost use Rattle.cdb.specs.Fields.{bit, bits, byte, number};
 ghost use Rattle.cdb.specs.Opcodes.{control_of, is_profiled};
+ghost use Rattle.cdb.specs.declared.profile.Profile.{Profile};
 
 use crate::{Command, MOST_COMPARE_BLOCKS, MOST_TRANSFER_BLOCKS, MOST_WRITE_SAME_BLOCKS};
 
 /// A CDB is `Unknown` exactly where its opcode isn't the profile's, whatever else stands in it.
 pub fn opcodes()
-    ensures other { (cdb : List ℕ) → IsFalse (is_profiled (byte 0 cdb))
-        → command cdb ≡ Command.Unknown }
-    ensures profiled { (cdb : List ℕ) → IsTrue (is_profiled (byte 0 cdb))
-        → command cdb ≢ Command.Unknown }
+    ensures other { (profile : Profile) (cdb : List ℕ) → IsFalse (is_profiled profile (byte 0 cdb))
+        → command profile cdb ≡ Command.Unknown }
+    ensures profiled { (profile : Profile) (cdb : List ℕ) → IsTrue (is_profiled profile (byte 0 cdb))
+        → command profile cdb ≢ Command.Unknown }
 {}
 
 /// NACA, bit 2 of the last byte of the CDB's length, makes each command of the profile `Bad`.
 pub fn naca()
-    ensures { (cdb : List ℕ) → IsTrue (is_profiled (byte 0 cdb))
+    ensures { (profile : Profile) (cdb : List ℕ) → IsTrue (is_profiled profile (byte 0 cdb))
         → IsTrue (bit (control_of (byte 0 cdb)) 2 cdb)
-        → command cdb ≡ Command.Bad (byte 0 cdb) }
+        → command profile cdb ≡ Command.Bad (byte 0 cdb) }
 {}
 
 /// READ (10) has no other field than RDPROTECT, the logical block address, the transfer length
 /// and NACA: two CDBs that agree in these are decoded alike.
 pub fn read_10()
-    ensures { (a b : List ℕ) → byte 0 a ≡ 0x28 → byte 0 b ≡ 0x28
+    ensures { (profile : Profile) (a b : List ℕ) → byte 0 a ≡ 0x28 → byte 0 b ≡ 0x28
         → bits 1 7 5 a ≡ bits 1 7 5 b
         → number 2 5 a ≡ number 2 5 b
         → number 7 8 a ≡ number 7 8 b
         → bit 9 2 a ≡ bit 9 2 b
-        → command a ≡ command b }
+        → command profile a ≡ command profile b }
 {}
 
 /// The limits that the profile has: of READ and WRITE, of WRITE SAME, and of COMPARE AND WRITE.

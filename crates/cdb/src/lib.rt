@@ -1,10 +1,10 @@
-//! The commands of the device's SCSI profile (SPC-4, SBC-3). Decodes the bytes of a CDB, and tells how many bytes of
-//! data the command needs from the driver and for it.
+//! The commands of the device's SCSI profiles (SPC-4, SBC-3). Decodes the bytes of a CDB by the profile of its logical
+//! unit, and tells how many bytes of data the command needs from the driver and for it.
 //!
 //! # Proved
 //!
-//! `decode` is the table of commands (`cdb/specs/Profile.antt`), with every cause that makes a command block bad.
-//! `need` is how many bytes each moves, at most 1,048,576 from the driver.
+//! `decode` is the table of commands of the profile (`cdb/specs/Profile.antt`), with every cause that makes a command
+//! block bad. `need` is how many bytes each moves, at most 1,048,576 from the driver.
 #![tactic(auto)]
 
 mod commands;
@@ -12,6 +12,7 @@ mod decoding;
 mod fields;
 pub mod laws;
 mod opcodes;
+mod profile;
 mod transfers;
 
 pub use commands::{
@@ -19,4 +20,5 @@ pub use commands::{
     MOST_WRITE_SAME_BLOCKS, SelectReport,
 };
 pub use decoding::decode;
+pub use profile::Profile;
 pub use transfers::{Transfer, need};

@@ -1,12 +1,14 @@
 -- What a command is told of its logical unit, as plain values.
 use Rattle.std.specs.Prelude.{ℕ, List, Option}
 use Rattle.sense.specs.declared.Sense.{Sense}
+use Rattle.cdb.specs.declared.profile.Profile.{Profile}
 
--- the address of the unit, the LUNs of its target by rising number, its capacity in blocks, and the
--- oldest pending unit attention
+-- the address of the unit, the LUNs of its target by rising number, its capacity in blocks, the
+-- oldest pending unit attention, and the commands that it knows
 pub record Facts : Type 0 where
   pub target : ℕ
   pub lun : ℕ
   pub luns : List ℕ
   pub capacity : ℕ
   pub pending : Option Sense
+  pub profile : Profile

@@ -6,4 +6,11 @@ use Rattle.block_commands.specs.declared.facts.UnitFacts.{UnitFacts}
 -- the facts of a unit of so many blocks
 abbrev pub facts_of : UnitFacts → ℕ → Facts
 facts_of u blocks =
-    record { target = u.target; lun = u.lun; luns = u.luns.items; capacity = blocks; pending = u.pending }
+    record {
+      target = u.target;
+      lun = u.lun;
+      luns = u.luns.items;
+      capacity = blocks;
+      pending = u.pending;
+      profile = u.profile;
+    }

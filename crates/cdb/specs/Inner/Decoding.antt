@@ -2,6 +2,7 @@
 use Rattle.std.specs.Prelude.{ℕ, Bool, List, if◌then◌else◌, Option, None, Some}
 use Rattle.cdb.specs.Profile.{Row}
 use Rattle.cdb.specs.Decoding.{any, row_of}
+use Rattle.cdb.specs.declared.profile.Profile.{Profile}
 use Rattle.cdb.specs.declared.commands.Command.{Command}
 
 -- something, unless a cause holds
@@ -13,5 +14,5 @@ abbrev pub fields_by : Option Row → List ℕ → Option Command
 fields_by None cdb = None
 fields_by (Some row) cdb = unless (row.causes cdb) (row.meaning cdb)
 
-abbrev pub fields_of : ℕ → List ℕ → Option Command
-fields_of opcode cdb = fields_by (row_of opcode) cdb
+abbrev pub fields_of : Profile → ℕ → List ℕ → Option Command
+fields_of profile opcode cdb = fields_by (row_of profile opcode) cdb

@@ -2,7 +2,7 @@
 
 use super::named_blocks::ROWS as NAMED_BLOCKS;
 use super::{Row, all_hold};
-use cdb::{CDB_BYTES, Command, InquiryData, SelectReport, Transfer, decode, need};
+use cdb::{CDB_BYTES, Command, InquiryData, Profile, SelectReport, Transfer, decode, need};
 
 /// The bytes of a command block, what it asks for, and how many bytes it needs of the driver and for it.
 pub(super) struct Asks(
@@ -21,7 +21,7 @@ impl Row for Asks {
             return false;
         }
         cdb[..bytes.len()].copy_from_slice(bytes);
-        decode(&cdb) == command && need(&command) == Transfer { out, into }
+        decode(Profile::Narrow, &cdb) == command && need(&command) == Transfer { out, into }
     }
 }
 

@@ -1,7 +1,7 @@
 //! Opcodes of the profile, and those outside it.
 
 use super::none_is;
-use cdb::{CDB_BYTES, Command, decode};
+use cdb::{CDB_BYTES, Command, Profile, decode};
 
 /// Each opcode of the profile and the place of its control byte.
 static PROFILE: [(u8, usize); 20] = [
@@ -41,7 +41,7 @@ fn control_of(opcode: u8) -> Option<usize> {
 fn is_known_as_it_should(opcode: u8) -> bool {
     let mut cdb = [0; CDB_BYTES];
     cdb[0] = opcode;
-    let is_unknown = decode(&cdb) == Command::Unknown;
+    let is_unknown = decode(Profile::Narrow, &cdb) == Command::Unknown;
     let Some(control) = control_of(opcode) else {
         return is_unknown;
     };
@@ -49,7 +49,7 @@ fn is_known_as_it_should(opcode: u8) -> bool {
         return false;
     }
     cdb[control] = 0x04;
-    decode(&cdb) == Command::Bad { opcode }
+    decode(Profile::Narrow, &cdb) == Command::Bad { opcode }
 }
 
 /// Returns the first opcode of which that isn't so.
