@@ -23,6 +23,7 @@ use crate::inquiry::inquiry;
 use crate::luns::{listed_luns, lun_list};
 use crate::transfer::{read, synchronize, write, write_same};
 use crate::unmap::unmap;
+use crate::wide::wide;
 use block_store::Store;
 use cdb::{Command, need};
 use command_model::Reply;
@@ -98,7 +99,14 @@ fn run<S: Store>(
         Command::Read { lba, blocks } => read(room, store, lba, blocks),
         Command::Write { lba, blocks } => without_data(alloc, write(store, lba, blocks, bytes)),
         Command::Inquiry { what, allocation } => {
-            Ok(inquiry(alloc, what, facts.target, facts.lun, allocation)?)
+            Ok(inquiry(
+                alloc,
+                facts.profile,
+                what,
+                facts.target,
+                facts.lun,
+                allocation,
+            )?)
         }
         Command::ReadCapacity10 => {
             let data = capacity_10(store.capacity());
@@ -124,6 +132,7 @@ fn run<S: Store>(
         Command::ReportLuns { select, allocation } => {
             Ok(lun_list(alloc, listed_luns(select, &facts.luns), allocation)?)
         }
+        Command::Wide(command) => wide(alloc, store.capacity(), &command),
         Command::Bad { .. } => Err(Failure::Refused(Sense::INVALID_FIELD_IN_CDB)),
         Command::Unknown => Err(Failure::Refused(Sense::INVALID_OPCODE)),
     }

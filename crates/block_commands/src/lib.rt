@@ -22,10 +22,12 @@ mod in_place;
 mod inquiry;
 pub mod laws;
 mod luns;
+mod modes;
 mod prepared;
 mod readiness;
 mod transfer;
 mod unmap;
+mod wide;
 
 pub use attention::takes_attention;
 pub use disks::exec_on;

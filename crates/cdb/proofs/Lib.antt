@@ -1,3 +1,4 @@
 pub mod Finding
 pub mod Profiled
 pub mod Rows
+pub mod WideRows

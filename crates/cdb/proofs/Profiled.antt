@@ -1,13 +1,14 @@
 -- A profile's rows by their opcodes.
-use Rattle.std.proofs.Common.{◌≡◌, ◌≢◌, ℕ, ◌==◌, List, ◌∷◌, Bool, true, false, ◌||◌, if◌then◌else◌, Some, None, refl, sym, ap, ◌∙◌, subst}
+use Rattle.std.proofs.Common.{◌≡◌, ◌≢◌, ℕ, ◌==◌, List, ◌∷◌, Bool, true, false, ◌||◌, ◌&&◌, if◌then◌else◌, Some, None, refl, sym, ap, ◌∙◌, subst}
 use Rattle.std.specs.List.{list_all}
 use Rattle.std.proofs.lemmas.Bool.{eqb-true}
 use Rattle.cdb.specs.Fields.{byte, bit, bits, number, is_set, is_over}
-use Rattle.cdb.specs.Profile.{Row, rows}
+use Rattle.cdb.specs.Profile.{Row}
+use Rattle.cdb.specs.WideProfile.{action_meaning}
 use Rattle.cdb.specs.declared.profile.Profile.{Profile}
 use Rattle.cdb.specs.declared.profile.Profile.TheVariants.{Narrow, Wide}
 use Rattle.cdb.specs.Opcodes.{is_profiled, control_of}
-use Rattle.cdb.specs.Decoding.{any, row_of, naca, command_by, command}
+use Rattle.cdb.specs.Decoding.{any, rows, row_of, naca, command_by, command}
 use Rattle.cdb.proofs.Finding.{Found, found, none}
 use Rattle.cdb.specs.declared.commands.Command.{Command}
 use Rattle.cdb.specs.declared.commands.Command.TheVariants.{Read, Bad, Unknown}
@@ -40,9 +41,18 @@ either_known : (b : Bool) (opcode : ℕ) (meaning : Command) → is_known meanin
 either_known true opcode meaning h = refl
 either_known false opcode meaning h = h
 
+either_meant : (b : Bool) (x y : Command) → is_known x ≡ true → is_known y ≡ true → is_known (if b then x else y) ≡ true
+either_meant true x y first second = first
+either_meant false x y first second = second
+
+both : (a b : Bool) → a ≡ true → b ≡ true → (a && b) ≡ true
+both true b first second = second
+both false b first second = first
+
 all_known : (profile : Profile) (cdb : List ℕ) → list_all (λ row. is_known (row.meaning cdb)) (rows profile) ≡ true
 all_known Narrow cdb = refl
-all_known Wide cdb = refl
+all_known Wide cdb =
+    both (is_known (action_meaning cdb)) _ (either_meant (bits 1 4 0 cdb == 0x10) _ _ refl refl) refl
 
 pub known : (profile : Profile) (cdb : List ℕ) → is_profiled profile (byte 0 cdb) ≡ true → command profile cdb ≢ Unknown
 known profile cdb h is_unknown =

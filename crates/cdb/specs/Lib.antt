@@ -3,4 +3,5 @@ pub mod Fields
 pub mod Need
 pub mod Opcodes
 pub mod Profile
+pub mod WideProfile
 pub mod Inner

@@ -3,7 +3,9 @@
 use Rattle.std.specs.Prelude.{ℕ, ◌*◌}
 use Rattle.cdb.specs.declared.transfers.Transfer.{Transfer}
 use Rattle.cdb.specs.declared.commands.Command.{Command}
-use Rattle.cdb.specs.declared.commands.Command.TheVariants.{TestUnitReady, RequestSense, Read, Write, Inquiry, ReadCapacity10, ReadCapacity16, SynchronizeCache, WriteSame, Unmap, CompareAndWrite, ReportLuns, Bad, Unknown}
+use Rattle.cdb.specs.declared.commands.Command.TheVariants.{TestUnitReady, RequestSense, Read, Write, Inquiry, ReadCapacity10, ReadCapacity16, SynchronizeCache, WriteSame, Unmap, CompareAndWrite, ReportLuns, Wide, Bad, Unknown}
+use Rattle.cdb.specs.declared.wide_commands.WideCommand.{WideCommand}
+use Rattle.cdb.specs.declared.wide_commands.WideCommand.TheVariants.{ModeSense, GetLbaStatus}
 
 abbrev pub no_bytes : Transfer
 no_bytes = record { out = 0; into = 0 }
@@ -15,6 +17,11 @@ bytes_out n = record { out = n; into = 0 }
 -- to the driver
 abbrev pub bytes_in : ℕ → Transfer
 bytes_in n = record { out = 0; into = n }
+
+-- of a command of the wide profile alone
+abbrev pub wide_need : WideCommand → Transfer
+wide_need (ModeSense request) = bytes_in request.allocation
+wide_need (GetLbaStatus allocation lba) = bytes_in allocation
 
 abbrev pub need_of : Command → Transfer
 need_of TestUnitReady = no_bytes
@@ -31,5 +38,6 @@ need_of (Unmap list_length) = bytes_out list_length
 -- the blocks to compare with, then the blocks to write
 need_of (CompareAndWrite lba blocks) = bytes_out (1024 * blocks)
 need_of (ReportLuns select allocation) = bytes_in allocation
+need_of (Wide command) = wide_need command
 need_of (Bad opcode) = no_bytes
 need_of Unknown = no_bytes

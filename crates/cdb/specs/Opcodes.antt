@@ -1,6 +1,6 @@
 -- The opcodes, SPC-4 §4.3: byte 0 of a CDB, whose upper three bits, the group code, give the CDB's
 -- length. The last byte of that length is the control byte.
-use Rattle.std.specs.Prelude.{ℕ, ◌-◌, ◌/◌, ◌==◌, Bool, List, [], ◌∷◌, if◌then◌else◌, nat_le}
+use Rattle.std.specs.Prelude.{ℕ, ◌-◌, ◌/◌, ◌==◌, Bool, List, [], ◌∷◌, ◌++◌, if◌then◌else◌, nat_le}
 use Rattle.std.specs.List.{list_any}
 use Rattle.cdb.specs.declared.profile.Profile.{Profile}
 use Rattle.cdb.specs.declared.profile.Profile.TheVariants.{Narrow, Wide}
@@ -13,10 +13,18 @@ narrow_opcodes =
     ∷ 0x88 ∷ 0x89 ∷ 0x8a ∷ 0x91 ∷ 0x93 ∷ 0x9e
     ∷ 0xa0 ∷ 0xa8 ∷ 0xaa ∷ []
 
+-- those that the wide profile has rows of its own for
+abbrev pub wide_opcodes : List ℕ
+wide_opcodes =
+    0x12 ∷ 0x1a ∷ 0x1b ∷ 0x1d ∷ 0x1e
+    ∷ 0x2e ∷ 0x2f ∷ 0x34 ∷ 0x5a
+    ∷ 0x8e ∷ 0x8f ∷ 0x90 ∷ 0x9e
+    ∷ 0xae ∷ 0xaf ∷ []
+
 -- those of a profile
 abbrev pub opcodes : Profile → List ℕ
 opcodes Narrow = narrow_opcodes
-opcodes Wide = narrow_opcodes
+opcodes Wide = wide_opcodes ++ narrow_opcodes
 
 abbrev pub is_profiled : Profile → ℕ → Bool
 is_profiled profile opcode = list_any (λ known. known == opcode) (opcodes profile)

@@ -7,7 +7,7 @@ use Rattle.cdb.specs.declared.profile.Profile.TheVariants.{Narrow, Wide}
 use Rattle.cdb.specs.declared.commands.Command.{Command}
 use Rattle.cdb.specs.declared.commands.Command.TheVariants.{TestUnitReady, RequestSense, Read, Write, Inquiry, ReadCapacity10, ReadCapacity16, SynchronizeCache, WriteSame, Unmap, CompareAndWrite, ReportLuns}
 use Rattle.cdb.specs.declared.commands.InquiryData.{InquiryData}
-use Rattle.cdb.specs.declared.commands.InquiryData.TheVariants.{Standard, SupportedPages, SerialNumber, DeviceIdentification, BlockLimits, LogicalBlockProvisioning}
+use Rattle.cdb.specs.declared.commands.InquiryData.TheVariants.{Standard, SupportedPages, SerialNumber, DeviceIdentification, ExtendedInquiry, BlockLimits, BlockDeviceCharacteristics, LogicalBlockProvisioning}
 use Rattle.cdb.specs.declared.commands.SelectReport.{SelectReport}
 use Rattle.cdb.specs.declared.commands.SelectReport.TheVariants.{LogicalUnits, WellKnownLogicalUnits, AllLogicalUnits}
 
@@ -40,27 +40,55 @@ abbrev pub length_6 : List ℕ → ℕ
 length_6 cdb = if byte 4 cdb == 0 then 256 else byte 4 cdb
 
 -- the pages of vital product data by page code, SPC-4 §7.8 and SBC-3
-abbrev pub pages : List (ℕ × InquiryData)
-pages =
+abbrev pub pages : Profile → List (ℕ × InquiryData)
+pages Narrow =
     (0x00, SupportedPages)
     ∷ (0x80, SerialNumber)
     ∷ (0x83, DeviceIdentification)
     ∷ (0xb0, BlockLimits)
     ∷ (0xb2, LogicalBlockProvisioning)
     ∷ []
+pages Wide =
+    (0x00, SupportedPages)
+    ∷ (0x80, SerialNumber)
+    ∷ (0x83, DeviceIdentification)
+    ∷ (0x86, ExtendedInquiry)
+    ∷ (0xb0, BlockLimits)
+    ∷ (0xb1, BlockDeviceCharacteristics)
+    ∷ (0xb2, LogicalBlockProvisioning)
+    ∷ []
 
-abbrev pub page_of : ℕ → Option InquiryData
-page_of code = option_map (λ page. page.1) (find (λ page. page.0 == code) pages)
+abbrev pub page_of : Profile → ℕ → Option InquiryData
+page_of profile code = option_map (λ page. page.1) (find (λ page. page.0 == code) (pages profile))
 
 -- what EVPD and a page code ask for: a page where EVPD is 1 (a code that has none is a cause)
-abbrev pub data_asked : Bool → ℕ → InquiryData
-data_asked evpd code = if evpd then unwrap_or (page_of code) Standard else Standard
+abbrev pub data_asked : Profile → Bool → ℕ → InquiryData
+data_asked profile evpd code = if evpd then unwrap_or (page_of profile code) Standard else Standard
+
+-- INQUIRY: a page code without EVPD; a page that the unit lacks
+abbrev pub inquiry_causes : Profile → List ℕ → List Bool
+inquiry_causes profile cdb =
+    (not (bit 1 0 cdb) && is_set (byte 2 cdb)) ∷ is_none (page_of profile (byte 2 cdb)) ∷ []
+
+abbrev pub inquiry_meaning : Profile → List ℕ → Command
+inquiry_meaning profile cdb = Inquiry (data_asked profile (bit 1 0 cdb) (byte 2 cdb)) (number 3 4 cdb)
+
+-- SPC-4 §6.6
+abbrev pub inquiry_row : Profile → Row
+inquiry_row profile = row 0x12 5 (inquiry_causes profile) (inquiry_meaning profile)
 
 -- SELECT REPORT 00h, 01h and 02h, SPC-4 §6.33 (another is a cause)
 abbrev pub select_report : ℕ → SelectReport
 select_report select =
     if select == 0x00 then LogicalUnits
     else (if select == 0x01 then WellKnownLogicalUnits else AllLogicalUnits)
+
+-- READ CAPACITY (16), SBC-3 §5.16: a service action of this opcode other than 10h
+abbrev pub capacity_row : Row
+capacity_row =
+    row 0x9e 15
+    (λ cdb. not (bits 1 4 0 cdb == 0x10) ∷ [])
+    (λ cdb. ReadCapacity16 (number 10 13 cdb))
 
 -- the narrow profile
 abbrev pub narrow_rows : List Row
@@ -75,10 +103,8 @@ narrow_rows =
     ∷ row 0x08 5 never (λ cdb. Read (lba_6 cdb) (length_6 cdb))
     -- WRITE (6), SBC-2 §5.24
     ∷ row 0x0a 5 never (λ cdb. Write (lba_6 cdb) (length_6 cdb))
-    -- INQUIRY, SPC-4 §6.6: a page code without EVPD; a page that the device lacks
-    ∷ row 0x12 5
-    (λ cdb. (not (bit 1 0 cdb) && is_set (byte 2 cdb)) ∷ is_none (page_of (byte 2 cdb)) ∷ [])
-    (λ cdb. Inquiry (data_asked (bit 1 0 cdb) (byte 2 cdb)) (number 3 4 cdb))
+    -- INQUIRY, SPC-4 §6.6
+    ∷ inquiry_row Narrow
     -- READ CAPACITY (10), SBC-3 §5.15
     ∷ row 0x25 9 never (λ cdb. ReadCapacity10)
     -- READ (10), SBC-3 §5.11
@@ -119,10 +145,8 @@ narrow_rows =
     (λ cdb. protect cdb ∷ bit 1 4 cdb ∷ is_set (bits 1 2 1 cdb) ∷ bit 1 0 cdb
     ∷ (number 10 13 cdb == 0) ∷ is_over 65536 (number 10 13 cdb) ∷ [])
     (λ cdb. WriteSame (number 2 9 cdb) (number 10 13 cdb))
-    -- READ CAPACITY (16), SBC-3 §5.16: a service action of this opcode other than 10h
-    ∷ row 0x9e 15
-    (λ cdb. not (bits 1 4 0 cdb == 0x10) ∷ [])
-    (λ cdb. ReadCapacity16 (number 10 13 cdb))
+    -- READ CAPACITY (16), SBC-3 §5.16
+    ∷ capacity_row
     -- REPORT LUNS, SPC-4 §6.33
     ∷ row 0xa0 11
     (λ cdb. is_over 0x02 (byte 2 cdb) ∷ [])
@@ -136,8 +160,3 @@ narrow_rows =
     (λ cdb. protect cdb ∷ is_over 2048 (number 6 9 cdb) ∷ [])
     (λ cdb. Write (number 2 5 cdb) (number 6 9 cdb))
     ∷ []
-
--- the rows of a profile
-abbrev pub rows : Profile → List Row
-rows Narrow = narrow_rows
-rows Wide = narrow_rows

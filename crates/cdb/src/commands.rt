@@ -1,5 +1,7 @@
 //! The commands, and the limits of the device on their fields.
 
+use crate::wide_commands::WideCommand;
+
 /// The bytes of the CDB field of a request (VIRTIO 1.2 §5.6.6.1). A shorter CDB stands at its
 /// front.
 pub const CDB_BYTES: usize = 32;
@@ -17,7 +19,8 @@ pub const MOST_COMPARE_BLOCKS: u8 = 64;
 /// isn't yet compared with a capacity.
 #[derive(Clone, Copy, PartialEq, Eq)]
 pub enum Command {
-    /// TEST UNIT READY (SPC-4 §6.47).
+    /// TEST UNIT READY (SPC-4 §6.47). In the wide profile also START STOP UNIT (SBC-3 §5.25), PREVENT ALLOW MEDIUM
+    /// REMOVAL (SBC-3 §5.10) and SEND DIAGNOSTIC (SPC-4 §6.42), which leave nothing else to do.
     TestUnitReady,
     /// REQUEST SENSE (SPC-4 §6.39).
     RequestSense {
@@ -31,7 +34,8 @@ pub enum Command {
         /// The number of blocks, 0 to `MOST_TRANSFER_BLOCKS`.
         blocks: u16,
     },
-    /// WRITE (10), (12) or (16) (SBC-3 §5.33 to §5.35), or WRITE (6) (SBC-2 §5.24).
+    /// WRITE (10), (12) or (16) (SBC-3 §5.33 to §5.35), or WRITE (6) (SBC-2 §5.24). In the wide profile also WRITE AND
+    /// VERIFY (10), (12) or (16) (SBC-3 §5.37 to §5.39).
     Write {
         /// The first block.
         lba: u64,
@@ -52,7 +56,8 @@ pub enum Command {
         /// The most bytes to return.
         allocation: u32,
     },
-    /// SYNCHRONIZE CACHE (10) or (16) (SBC-3 §5.26, §5.27).
+    /// SYNCHRONIZE CACHE (10) or (16) (SBC-3 §5.26, §5.27). In the wide profile also PRE-FETCH (10) or (16) (SBC-3 §5.8,
+    /// §5.9), and VERIFY (10), (12) or (16) (SBC-3 §5.29 to §5.31) without a comparison.
     SynchronizeCache {
         /// The first block.
         lba: u64,
@@ -85,6 +90,8 @@ pub enum Command {
         /// The most bytes to return.
         allocation: u32,
     },
+    /// A command that only the wide profile has.
+    Wide(WideCommand),
     /// A command of the profile that is refused by its own fields, or because its control byte
     /// asks for NACA: INVALID FIELD IN CDB.
     Bad {
@@ -106,8 +113,12 @@ pub enum InquiryData {
     SerialNumber,
     /// Page 83h, Device Identification.
     DeviceIdentification,
+    /// Page 86h, Extended INQUIRY Data: of the wide profile.
+    ExtendedInquiry,
     /// Page B0h, Block Limits (SBC-3).
     BlockLimits,
+    /// Page B1h, Block Device Characteristics (SBC-3): of the wide profile.
+    BlockDeviceCharacteristics,
     /// Page B2h, Logical Block Provisioning (SBC-3).
     LogicalBlockProvisioning,
 }

@@ -2,9 +2,9 @@
 
 ghost use Rattle.std.specs.Prelude.{◌≡◌, ◌<◌, ◌≤◌, ◌==◌, [], ◌∷◌, if◌then◌else◌, unwrap_or, IfSome};
 ghost use Rattle.cdb.specs.Fields.{bit, bits, byte, is_over, is_set};
-ghost use Rattle.cdb.specs.Profile.{page_of, protect};
+ghost use Rattle.cdb.specs.Profile.{inquiry_causes, inquiry_meaning, page_of, protect};
 ghost use Rattle.cdb.specs.Decoding.{command};
-ghost use Rattle.cdb.specs.Inner.Decoding.{fields_of, unless};
+ghost use Rattle.cdb.specs.Inner.Decoding.{fields_of, service_causes, service_meaning, unless};
 ghost use Rattle.cdb.specs.Need.{need_of};
 
 use crate::commands::{
@@ -17,10 +17,11 @@ use crate::fields::{
 };
 use crate::opcodes;
 use crate::profile::Profile;
+use crate::wide_decoding::{decode_other, service_action_in_16};
 use byteorder::{BigEndian, ByteOrder};
 
 /// The service action of SERVICE ACTION IN (16) that is READ CAPACITY (16) (SBC-3 §5.16).
-const READ_CAPACITY_16: u8 = 0x10;
+pub(crate) const READ_CAPACITY_16: u8 = 0x10;
 
 /// The page code that a standard INQUIRY has.
 const NO_PAGE: u8 = 0x00;
@@ -31,7 +32,7 @@ const NACA: u8 = 2;
 /// Returns the command that a CDB asks a unit of this profile for, with its fields read and held against the device's
 /// limits. Every CDB has one. A command of the profile whose fields are refused, or that asks for NACA, is `Bad`. An
 /// opcode that the profile lacks is `Unknown`. None needs more than 1,048,576 bytes from the driver.
-#[tactic(auto, using(crate::proofs::Rows::by_none))]
+#[tactic(auto, using(crate::proofs::WideRows::by_none))]
 #[inline(never)]
 pub fn decode(profile: Profile, cdb: &[u8; CDB_BYTES]) -> Command
     ensures meaning { result ≡ command profile cdb.now }
@@ -47,7 +48,7 @@ pub fn decode(profile: Profile, cdb: &[u8; CDB_BYTES]) -> Command
 }
 
 /// Decodes a CDB of 6 bytes.
-#[tactic(auto, using(crate::proofs::Rows::by_none))]
+#[tactic(auto, using(crate::proofs::Rows::narrow_none))]
 fn decode_6(profile: Profile, cdb: &[u8; CDB_BYTES]) -> Command
     requires { byte 0 cdb.now < 0x20 }
     ensures meaning { result ≡ command profile cdb.now }
@@ -64,14 +65,14 @@ fn decode_6(profile: Profile, cdb: &[u8; CDB_BYTES]) -> Command
             lba: lba_6(cdb),
             blocks: length_6(cdb),
         }),
-        opcodes::INQUIRY => inquiry(cdb),
-        _ => return Command::Unknown,
+        opcodes::INQUIRY => inquiry(profile, cdb),
+        _ => return decode_other(profile, cdb),
     };
     under_control(cdb, 5, fields)
 }
 
 /// Decodes a CDB of 10 bytes.
-#[tactic(auto, using(crate::proofs::Rows::by_none))]
+#[tactic(auto, using(crate::proofs::Rows::narrow_none))]
 fn decode_10(profile: Profile, cdb: &[u8; CDB_BYTES]) -> Command
     requires from { 0x20 ≤ byte 0 cdb.now }
     requires to { byte 0 cdb.now < 0x60 }
@@ -85,13 +86,13 @@ fn decode_10(profile: Profile, cdb: &[u8; CDB_BYTES]) -> Command
         opcodes::SYNCHRONIZE_CACHE_10 => Some(synchronize_cache(blocks_10(cdb))),
         opcodes::WRITE_SAME_10 => write_same(cdb, blocks_10(cdb)),
         opcodes::UNMAP => unmap(cdb),
-        _ => return Command::Unknown,
+        _ => return decode_other(profile, cdb),
     };
     under_control(cdb, 9, fields)
 }
 
 /// Decodes a CDB of 12 bytes.
-#[tactic(auto, using(crate::proofs::Rows::by_none))]
+#[tactic(auto, using(crate::proofs::Rows::narrow_none))]
 fn decode_12(profile: Profile, cdb: &[u8; CDB_BYTES]) -> Command
     requires from { 0xa0 ≤ byte 0 cdb.now }
     requires to { byte 0 cdb.now < 0xc0 }
@@ -102,13 +103,13 @@ fn decode_12(profile: Profile, cdb: &[u8; CDB_BYTES]) -> Command
         opcodes::REPORT_LUNS => report_luns(cdb),
         opcodes::READ_12 => read(cdb, blocks_12(cdb)),
         opcodes::WRITE_12 => write(cdb, blocks_12(cdb)),
-        _ => return Command::Unknown,
+        _ => return decode_other(profile, cdb),
     };
     under_control(cdb, 11, fields)
 }
 
 /// Decodes a CDB of 16 bytes.
-#[tactic(auto, using(crate::proofs::Rows::by_none))]
+#[tactic(auto, using(crate::proofs::Rows::narrow_none))]
 fn decode_16(profile: Profile, cdb: &[u8; CDB_BYTES]) -> Command
     requires from { 0x80 ≤ byte 0 cdb.now }
     requires to { byte 0 cdb.now < 0xa0 }
@@ -121,15 +122,19 @@ fn decode_16(profile: Profile, cdb: &[u8; CDB_BYTES]) -> Command
         opcodes::COMPARE_AND_WRITE => compare_and_write(cdb),
         opcodes::SYNCHRONIZE_CACHE_16 => Some(synchronize_cache(blocks_16(cdb))),
         opcodes::WRITE_SAME_16 => write_same_16(cdb),
-        opcodes::SERVICE_ACTION_IN_16 => read_capacity_16(cdb),
-        _ => return Command::Unknown,
+        opcodes::SERVICE_ACTION_IN_16 => service_action(profile, cdb),
+        _ => return decode_other(profile, cdb),
     };
     under_control(cdb, 15, fields)
 }
 
 /// Returns the command that the fields say, if they aren't refused and the control byte at this place has no NACA; else
 /// `Bad`.
-fn under_control(cdb: &[u8; CDB_BYTES], control: usize, fields: Option<Command>) -> Command
+pub(crate) fn under_control(
+    cdb: &[u8; CDB_BYTES],
+    control: usize,
+    fields: Option<Command>,
+) -> Command
     requires place { control < 16 }
     requires data_out { IfSome fields (λ c. (need_of c).out ≤ 1048576) }
     ensures meaning { result
@@ -158,13 +163,13 @@ fn request_sense(cdb: &[u8; CDB_BYTES]) -> Option<Command>
 }
 
 /// Decodes INQUIRY.
-fn inquiry(cdb: &[u8; CDB_BYTES]) -> Option<Command>
-    ensures meaning { result ≡ fields_of Profile.Narrow 0x12 cdb.now }
+fn inquiry(profile: Profile, cdb: &[u8; CDB_BYTES]) -> Option<Command>
+    ensures meaning { result ≡ unless (inquiry_causes profile cdb.now) (inquiry_meaning profile cdb.now) }
     ensures data_out { IfSome result (λ c. (need_of c).out ≤ 1048576) }
 {
     let vital_product_data = has_bit(cdb[1], 0);
     let what = if vital_product_data {
-        page(cdb[2])?
+        page(profile, cdb[2])?
     } else if cdb[2] == NO_PAGE {
         InquiryData::Standard
     } else {
@@ -176,9 +181,9 @@ fn inquiry(cdb: &[u8; CDB_BYTES]) -> Option<Command>
     })
 }
 
-/// Returns the page of vital product data of this page code, if the device has it.
-fn page(code: u8) -> Option<InquiryData>
-    ensures { result ≡ page_of code }
+/// Returns the page of vital product data of this page code, if a unit of this profile has it.
+fn page(profile: Profile, code: u8) -> Option<InquiryData>
+    ensures { result ≡ page_of profile code }
 {
     match code {
         0x00 => Some(InquiryData::SupportedPages),
@@ -186,6 +191,8 @@ fn page(code: u8) -> Option<InquiryData>
         0x83 => Some(InquiryData::DeviceIdentification),
         0xb0 => Some(InquiryData::BlockLimits),
         0xb2 => Some(InquiryData::LogicalBlockProvisioning),
+        0x86 if profile == Profile::Wide => Some(InquiryData::ExtendedInquiry),
+        0xb1 if profile == Profile::Wide => Some(InquiryData::BlockDeviceCharacteristics),
         _ => None,
     }
 }
@@ -207,7 +214,19 @@ fn report_luns(cdb: &[u8; CDB_BYTES]) -> Option<Command>
     })
 }
 
-/// Decodes READ CAPACITY (16), one of the service actions of its opcode.
+/// Decodes the service actions of SERVICE ACTION IN (16).
+fn service_action(profile: Profile, cdb: &[u8; CDB_BYTES]) -> Option<Command>
+    ensures meaning { result
+        ≡ unless (service_causes profile cdb.now) (service_meaning profile cdb.now) }
+    ensures data_out { IfSome result (λ c. (need_of c).out ≤ 1048576) }
+{
+    match profile {
+        Profile::Narrow => read_capacity_16(cdb),
+        Profile::Wide => service_action_in_16(cdb),
+    }
+}
+
+/// Decodes READ CAPACITY (16), the one service action of the narrow profile.
 fn read_capacity_16(cdb: &[u8; CDB_BYTES]) -> Option<Command>
     ensures meaning { result ≡ fields_of Profile.Narrow 0x9e cdb.now }
     ensures data_out { IfSome result (λ c. (need_of c).out ≤ 1048576) }
@@ -235,7 +254,7 @@ fn read(cdb: &[u8; CDB_BYTES], blocks: Blocks) -> Option<Command>
 }
 
 /// Decodes WRITE (10), (12) or (16), of these blocks.
-fn write(cdb: &[u8; CDB_BYTES], blocks: Blocks) -> Option<Command>
+pub(crate) fn write(cdb: &[u8; CDB_BYTES], blocks: Blocks) -> Option<Command>
     ensures meaning { result
         ≡ unless (protect cdb.now ∷ is_over 2048 blocks.count ∷ [])
         (Command.Write blocks.lba blocks.count) }
@@ -259,7 +278,7 @@ fn transfer_length(cdb: &[u8; CDB_BYTES], count: u32) -> Option<u16>
 }
 
 /// Decodes SYNCHRONIZE CACHE, of which no field is refused.
-fn synchronize_cache(blocks: Blocks) -> Command
+pub(crate) fn synchronize_cache(blocks: Blocks) -> Command
     ensures meaning { result ≡ Command.SynchronizeCache blocks.lba blocks.count }
     ensures data_out { (need_of result).out ≤ 1048576 }
 {

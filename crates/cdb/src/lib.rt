@@ -14,6 +14,8 @@ pub mod laws;
 mod opcodes;
 mod profile;
 mod transfers;
+mod wide_commands;
+mod wide_decoding;
 
 pub use commands::{
     CDB_BYTES, Command, InquiryData, MOST_COMPARE_BLOCKS, MOST_TRANSFER_BLOCKS,
@@ -22,3 +24,6 @@ pub use commands::{
 pub use decoding::decode;
 pub use profile::Profile;
 pub use transfers::{Transfer, need};
+pub use wide_commands::{
+    ModeDescriptor, ModeForm, ModePages, ModeRequest, ModeValues, WideCommand,
+};

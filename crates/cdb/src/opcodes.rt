@@ -1,4 +1,4 @@
-//! The opcodes of the profile, byte 0 of a CDB (SPC-4 §4.3, SBC-3 §5.1).
+//! The opcodes of the profiles, byte 0 of a CDB (SPC-4 §4.3, SBC-3 §5.1).
 
 pub(crate) const TEST_UNIT_READY: u8 = 0x00;
 
@@ -39,3 +39,31 @@ pub(crate) const REPORT_LUNS: u8 = 0xa0;
 pub(crate) const READ_12: u8 = 0xa8;
 
 pub(crate) const WRITE_12: u8 = 0xaa;
+
+// Those of the wide profile alone.
+
+pub(crate) const MODE_SENSE_6: u8 = 0x1a;
+
+pub(crate) const START_STOP_UNIT: u8 = 0x1b;
+
+pub(crate) const SEND_DIAGNOSTIC: u8 = 0x1d;
+
+pub(crate) const PREVENT_ALLOW_MEDIUM_REMOVAL: u8 = 0x1e;
+
+pub(crate) const WRITE_AND_VERIFY_10: u8 = 0x2e;
+
+pub(crate) const VERIFY_10: u8 = 0x2f;
+
+pub(crate) const PRE_FETCH_10: u8 = 0x34;
+
+pub(crate) const MODE_SENSE_10: u8 = 0x5a;
+
+pub(crate) const WRITE_AND_VERIFY_16: u8 = 0x8e;
+
+pub(crate) const VERIFY_16: u8 = 0x8f;
+
+pub(crate) const PRE_FETCH_16: u8 = 0x90;
+
+pub(crate) const WRITE_AND_VERIFY_12: u8 = 0xae;
+
+pub(crate) const VERIFY_12: u8 = 0xaf;

@@ -1,9 +1,9 @@
 //! The data that a command moves.
 
 ghost use Rattle.std.specs.Prelude.{◌≡◌};
-ghost use Rattle.cdb.specs.Need.{bytes_in, bytes_out, need_of};
+ghost use Rattle.cdb.specs.Need.{bytes_in, bytes_out, need_of, wide_need};
 
-use crate::Command;
+use crate::{Command, WideCommand};
 
 /// The bytes of a logical block.
 const BLOCK_BYTES: u32 = 512;
@@ -40,10 +40,21 @@ pub fn need(command: &Command) -> Transfer
         | Command::ReadCapacity16 { allocation }
         | Command::ReportLuns { allocation, .. } => from_device(allocation),
         Command::ReadCapacity10 => from_device(CAPACITY_10_BYTES),
+        Command::Wide(command) => wide_need(&command),
         Command::TestUnitReady
         | Command::SynchronizeCache { .. }
         | Command::Bad { .. }
         | Command::Unknown => Transfer { out: 0, into: 0 },
+    }
+}
+
+/// Returns the same of a command of the wide profile.
+fn wide_need(command: &WideCommand) -> Transfer
+    ensures { result ≡ wide_need command.now }
+{
+    match *command {
+        WideCommand::ModeSense(request) => from_device(u32::from(request.allocation)),
+        WideCommand::GetLbaStatus { allocation, .. } => from_device(allocation),
     }
 }
 

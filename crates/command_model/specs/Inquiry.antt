@@ -1,9 +1,11 @@
 -- The data of INQUIRY: the standard data, and the pages of vital product data, SPC-4
 -- §7.8 and SBC-3 §6.6.
 use Rattle.std.specs.Prelude.{ℕ, ◌+◌, ◌/◌, ◌%◌, ◌^◌, List, [], ◌∷◌, ◌++◌, map, replicate, codes}
+use Rattle.cdb.specs.declared.profile.Profile.{Profile}
+use Rattle.cdb.specs.declared.profile.Profile.TheVariants.{Narrow, Wide}
 use Rattle.cdb.specs.declared.commands.InquiryData.{InquiryData}
-use Rattle.cdb.specs.declared.commands.InquiryData.TheVariants.{Standard, SupportedPages, SerialNumber, DeviceIdentification, BlockLimits, LogicalBlockProvisioning}
-use Rattle.command_model.specs.StandardData.{standard_data, vendor}
+use Rattle.cdb.specs.declared.commands.InquiryData.TheVariants.{Standard, SupportedPages, SerialNumber, DeviceIdentification, ExtendedInquiry, BlockLimits, BlockDeviceCharacteristics, LogicalBlockProvisioning}
+use Rattle.command_model.specs.StandardData.{standard_data, wide_standard_data, vendor}
 
 -- byte 0 of the standard data, the peripheral qualifier and device type: a block device that is there
 -- (SPC-4 §6.6.2)
@@ -19,9 +21,15 @@ unfoldable pub serial : ℕ → ℕ → List ℕ
 serial target lun =
     codes "VSCSI" ++ map (digit target) (2 ∷ 1 ∷ 0 ∷ []) ++ map (digit lun) (4 ∷ 3 ∷ 2 ∷ 1 ∷ 0 ∷ [])
 
+-- the standard data of a profile
+abbrev pub standard_of : Profile → List ℕ
+standard_of Narrow = standard_data block_device
+standard_of Wide = wide_standard_data
+
 -- page 00h, Supported VPD Pages, SPC-4 §7.8.14
-unfoldable pub supported_pages : List ℕ
-supported_pages = 0x00 ∷ 0x00 ∷ 0x00 ∷ 0x05 ∷ 0x00 ∷ 0x80 ∷ 0x83 ∷ 0xb0 ∷ 0xb2 ∷ []
+unfoldable pub supported_pages : Profile → List ℕ
+supported_pages Narrow = 0x00 ∷ 0x00 ∷ 0x00 ∷ 0x05 ∷ 0x00 ∷ 0x80 ∷ 0x83 ∷ 0xb0 ∷ 0xb2 ∷ []
+supported_pages Wide = 0x00 ∷ 0x00 ∷ 0x00 ∷ 0x07 ∷ 0x00 ∷ 0x80 ∷ 0x83 ∷ 0x86 ∷ 0xb0 ∷ 0xb1 ∷ 0xb2 ∷ []
 
 -- page 80h, Unit Serial Number, SPC-4 §7.8.15
 unfoldable pub serial_page : ℕ → ℕ → List ℕ
@@ -32,6 +40,15 @@ serial_page target lun = (0x00 ∷ 0x80 ∷ 0x00 ∷ 0x0d ∷ []) ++ serial targ
 unfoldable pub identification_page : ℕ → ℕ → List ℕ
 identification_page target lun =
     (0x00 ∷ 0x83 ∷ 0x00 ∷ 0x19 ∷ 0x02 ∷ 0x01 ∷ 0x00 ∷ 0x15 ∷ []) ++ vendor ++ serial target lun
+
+-- page 86h, Extended INQUIRY Data, SPC-4 §7.8.7, 64 bytes: byte 5 with HEADSUP, ORDSUP and SIMPSUP; byte 13, at most
+-- 18 bytes of sense
+unfoldable pub extended_page : List ℕ
+extended_page =
+    (0x00 ∷ 0x86 ∷ 0x00 ∷ 0x3c ∷ 0x00 ∷ 0x07 ∷ [])
+    ++ replicate 7 0x00
+    ++ (0x12 ∷ [])
+    ++ replicate 50 0x00
 
 -- page B0h, Block Limits, SBC-3 §6.6.4, 64 bytes
 unfoldable pub limits_page : List ℕ
@@ -53,15 +70,21 @@ limits_page =
     ++ (0x00 ∷ 0x00 ∷ 0x00 ∷ 0x00 ∷ 0x00 ∷ 0x01 ∷ 0x00 ∷ 0x00 ∷ [])
     ++ replicate 20 0x00
 
+-- page B1h, Block Device Characteristics, SBC-3 §6.6, 64 bytes: bytes 4 and 5, a medium that doesn't rotate
+unfoldable pub characteristics_page : List ℕ
+characteristics_page = (0x00 ∷ 0xb1 ∷ 0x00 ∷ 0x3c ∷ 0x00 ∷ 0x01 ∷ []) ++ replicate 58 0x00
+
 -- page B2h, Logical Block Provisioning, SBC-3 §6.6.6: LBPU, LBPWS, LBPWS10, LBPRZ; thin
 unfoldable pub provisioning_page : List ℕ
 provisioning_page = 0x00 ∷ 0xb2 ∷ 0x00 ∷ 0x04 ∷ 0x00 ∷ 0xe4 ∷ 0x02 ∷ 0x00 ∷ []
 
--- the data that is asked for, of the unit of this target and LUN
-abbrev pub inquiry_data : InquiryData → ℕ → ℕ → List ℕ
-inquiry_data Standard target lun = standard_data block_device
-inquiry_data SupportedPages target lun = supported_pages
-inquiry_data SerialNumber target lun = serial_page target lun
-inquiry_data DeviceIdentification target lun = identification_page target lun
-inquiry_data BlockLimits target lun = limits_page
-inquiry_data LogicalBlockProvisioning target lun = provisioning_page
+-- the data that is asked for, of the unit of this profile, target and LUN
+abbrev pub inquiry_data : Profile → InquiryData → ℕ → ℕ → List ℕ
+inquiry_data profile Standard target lun = standard_of profile
+inquiry_data profile SupportedPages target lun = supported_pages profile
+inquiry_data profile SerialNumber target lun = serial_page target lun
+inquiry_data profile DeviceIdentification target lun = identification_page target lun
+inquiry_data profile ExtendedInquiry target lun = extended_page
+inquiry_data profile BlockLimits target lun = limits_page
+inquiry_data profile BlockDeviceCharacteristics target lun = characteristics_page
+inquiry_data profile LogicalBlockProvisioning target lun = provisioning_page

@@ -14,7 +14,9 @@ pub mod Effects
 pub mod Facts
 pub mod Inquiry
 pub mod Luns
+pub mod Modes
 pub mod Replies
 pub mod UnmapList
+pub mod Wide
 pub mod Memory
 pub mod Inner

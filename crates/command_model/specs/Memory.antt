@@ -3,11 +3,12 @@
 -- 0, but of a list of LUNs, and no block is read for a length of 0.
 use Rattle.std.specs.Prelude.{ℕ, Bool, true, false, not, ◌&&◌, ◌||◌, nat_lt, is_some}
 use Rattle.cdb.specs.declared.commands.Command.{Command}
-use Rattle.cdb.specs.declared.commands.Command.TheVariants.{TestUnitReady, RequestSense, Read, Write, Inquiry, ReadCapacity10, ReadCapacity16, SynchronizeCache, WriteSame, Unmap, CompareAndWrite, ReportLuns, Bad, Unknown}
+use Rattle.cdb.specs.declared.commands.Command.TheVariants.{TestUnitReady, RequestSense, Read, Write, Inquiry, ReadCapacity10, ReadCapacity16, SynchronizeCache, WriteSame, Unmap, CompareAndWrite, ReportLuns, Wide, Bad, Unknown}
 use Rattle.cdb.specs.Need.{need_of}
 use Rattle.command_model.specs.Attention.{met}
 use Rattle.command_model.specs.Capacity.{is_in_range}
 use Rattle.command_model.specs.Facts.{Facts}
+use Rattle.command_model.specs.Wide.{wide_wants}
 
 -- where no attention stops the command, in a unit of so many blocks
 abbrev pub wants : ℕ → Command → Bool
@@ -23,6 +24,7 @@ wants blocks (WriteSame lba count) = is_in_range blocks lba count
 wants blocks (Unmap list_length) = false
 wants blocks (CompareAndWrite lba count) = is_in_range blocks lba count
 wants blocks (ReportLuns select allocation) = true
+wants blocks (Wide command) = wide_wants command
 wants blocks (Bad opcode) = false
 wants blocks Unknown = false
 

@@ -5,7 +5,7 @@ use Rattle.sense.specs.declared.Sense.{Sense}
 use Rattle.sense.specs.Conditions.{no_sense, parameter_list_length_error, invalid_opcode, lba_out_of_range, invalid_field_in_cdb, invalid_field_in_parameter_list, miscompare}
 use Rattle.sense.specs.Fixed.{fixed}
 use Rattle.cdb.specs.declared.commands.Command.{Command}
-use Rattle.cdb.specs.declared.commands.Command.TheVariants.{TestUnitReady, RequestSense, Read, Write, Inquiry, ReadCapacity10, ReadCapacity16, SynchronizeCache, WriteSame, Unmap, CompareAndWrite, ReportLuns, Bad, Unknown}
+use Rattle.cdb.specs.declared.commands.Command.TheVariants.{TestUnitReady, RequestSense, Read, Write, Inquiry, ReadCapacity10, ReadCapacity16, SynchronizeCache, WriteSame, Unmap, CompareAndWrite, ReportLuns, Wide, Bad, Unknown}
 use Rattle.block_store.specs.Blocks.{Blocks, run}
 use Rattle.command_model.specs.Data.{Answer}
 use Rattle.command_model.specs.PlainReply.{PlainReply, refusal, replied}
@@ -16,6 +16,7 @@ use Rattle.command_model.specs.Facts.{Facts}
 use Rattle.command_model.specs.Inquiry.{inquiry_data}
 use Rattle.command_model.specs.Luns.{listed, lun_list}
 use Rattle.command_model.specs.UnmapList.{descriptors, blocks_named, are_in_range}
+use Rattle.command_model.specs.Wide.{wide_answer}
 
 -- no data
 abbrev pub done : Answer
@@ -55,7 +56,7 @@ answer_of facts (Read lba count) bytes blocks = within facts.capacity lba count 
 answer_of facts (Write lba count) bytes blocks = within facts.capacity lba count done
 -- SPC-4 §6.6
 answer_of facts (Inquiry what allocation) bytes blocks =
-    Ok (take allocation (inquiry_data what facts.target facts.lun))
+    Ok (take allocation (inquiry_data facts.profile what facts.target facts.lun))
 -- SBC-3 §5.15, §5.16
 answer_of facts ReadCapacity10 bytes blocks = Ok (capacity_10 facts.capacity)
 answer_of facts (ReadCapacity16 allocation) bytes blocks = Ok (take allocation (capacity_16 facts.capacity))
@@ -69,6 +70,7 @@ answer_of facts (CompareAndWrite lba count) bytes blocks =
 -- SPC-4 §6.33
 answer_of facts (ReportLuns select allocation) bytes blocks =
     Ok (take allocation (lun_list (listed select facts.luns)))
+answer_of facts (Wide command) bytes blocks = wide_answer facts.capacity command
 -- SPC-4 §4.5
 answer_of facts (Bad opcode) bytes blocks = Err invalid_field_in_cdb
 answer_of facts Unknown bytes blocks = Err invalid_opcode

@@ -1,5 +1,5 @@
 -- The standard data of INQUIRY, SPC-4 §6.6.2.
-use Rattle.std.specs.Prelude.{ℕ, List, [], ◌∷◌, ◌++◌, codes}
+use Rattle.std.specs.Prelude.{ℕ, List, [], ◌∷◌, ◌++◌, codes, replicate}
 
 -- byte 0, the peripheral qualifier and device type, where there is no device
 abbrev pub no_device : ℕ
@@ -15,3 +15,13 @@ unfoldable pub standard_data : ℕ → List ℕ
 standard_data peripheral =
     (peripheral ∷ 0x00 ∷ 0x06 ∷ 0x02 ∷ 0x1f ∷ 0x00 ∷ 0x00 ∷ 0x02 ∷ [])
     ++ vendor ++ codes "TASK SET DISK   " ++ codes "0001"
+
+-- the standard data of a block device of the wide profile, 96 bytes: 91 more bytes; bytes 58 to 63 have the version
+-- descriptors of SAM-5, SPC-4 and SBC-3, no version of them claimed
+unfoldable pub wide_standard_data : List ℕ
+wide_standard_data =
+    (0x00 ∷ 0x00 ∷ 0x06 ∷ 0x02 ∷ 0x5b ∷ 0x00 ∷ 0x00 ∷ 0x02 ∷ [])
+    ++ vendor ++ codes "TASK SET DISK   " ++ codes "0001"
+    ++ replicate 22 0x00
+    ++ (0x00 ∷ 0xa0 ∷ 0x04 ∷ 0x60 ∷ 0x04 ∷ 0xc0 ∷ [])
+    ++ replicate 32 0x00

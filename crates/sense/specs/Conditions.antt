@@ -30,6 +30,9 @@ logical_unit_not_supported = condition 0x5 0x25 0x00
 abbrev pub invalid_field_in_parameter_list : Sense
 invalid_field_in_parameter_list = condition 0x5 0x26 0x00
 
+abbrev pub saving_parameters_not_supported : Sense
+saving_parameters_not_supported = condition 0x5 0x39 0x00
+
 abbrev pub invalid_message_error : Sense
 invalid_message_error = condition 0x5 0x49 0x00
 

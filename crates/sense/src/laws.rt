@@ -1,7 +1,7 @@
 //! The meaning of the constants.
 
 ghost use Rattle.std.specs.Prelude.{◌≡◌};
-ghost use Rattle.sense.specs.Conditions.{no_sense, parameter_list_length_error, invalid_opcode, lba_out_of_range, invalid_field_in_cdb, logical_unit_not_supported, invalid_field_in_parameter_list, invalid_message_error};
+ghost use Rattle.sense.specs.Conditions.{no_sense, parameter_list_length_error, invalid_opcode, lba_out_of_range, invalid_field_in_cdb, logical_unit_not_supported, invalid_field_in_parameter_list, saving_parameters_not_supported, invalid_message_error};
 
 use crate::Sense;
 
@@ -14,5 +14,6 @@ pub fn constants()
     ensures cdb { Sense.INVALID_FIELD_IN_CDB ≡ invalid_field_in_cdb }
     ensures unit { Sense.LOGICAL_UNIT_NOT_SUPPORTED ≡ logical_unit_not_supported }
     ensures list { Sense.INVALID_FIELD_IN_PARAMETER_LIST ≡ invalid_field_in_parameter_list }
+    ensures saving { Sense.SAVING_PARAMETERS_NOT_SUPPORTED ≡ saving_parameters_not_supported }
     ensures message { Sense.INVALID_MESSAGE_ERROR ≡ invalid_message_error }
 {}

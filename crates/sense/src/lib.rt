@@ -104,6 +104,14 @@ impl Sense {
         information: None,
     };
 
+    /// SAVING PARAMETERS NOT SUPPORTED: mode parameters that were saved are asked for.
+    pub const SAVING_PARAMETERS_NOT_SUPPORTED: Sense = Sense {
+        key: ILLEGAL_REQUEST,
+        asc: 0x39,
+        ascq: 0x00,
+        information: None,
+    };
+
     /// INVALID MESSAGE ERROR: the task attribute isn't one that the device takes.
     pub const INVALID_MESSAGE_ERROR: Sense = Sense {
         key: ILLEGAL_REQUEST,

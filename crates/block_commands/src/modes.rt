@@ -1,0 +1,243 @@
+//! The data of MODE SENSE (SPC-4 §6.11, §7.5, SBC-3 §6.4).
+
+ghost use Rattle.std.specs.Prelude.{◌≡◌, ◌≤◌, ◌++◌, false, true, length, take, IfOk, OnOk};
+ghost use Rattle.command_model.specs.Modes.{block_descriptor, descriptor_length, is_mask, is_saved, long_lba, mode_data, mode_header, page_list};
+
+use block_store::BLOCK_BYTES;
+use cdb::{ModeDescriptor, ModeForm, ModePages, ModeRequest, ModeValues};
+use std::alloc::{AllocError, Global};
+
+/// The most bytes that are returned: a header, a block descriptor and all pages.
+const MOST_BYTES: usize = 80;
+
+/// The device-specific parameter: DPOFUA.
+const DEVICE_SPECIFIC: u8 = 0x10;
+
+/// Read-Write Error Recovery.
+const ERROR_RECOVERY: [u8; 12] = [0x01, 0x0a, 0, 0, 0, 0, 0, 0, 0, 0, 0, 0];
+
+/// Caching.
+const CACHING: [u8; 20] = [
+    0x08, 0x12, 0, 0, 0, 0, 0, 0, 0, 0, 0, 0, 0, 0, 0, 0, 0, 0, 0, 0,
+];
+
+/// Control: SIMPLE commands may be reordered.
+const CONTROL: [u8; 12] = [0x0a, 0x0a, 0, 0x10, 0, 0, 0, 0, 0, 0, 0, 0];
+
+/// The mask of what can be changed of it.
+const CONTROL_MASK: [u8; 12] = [0x0a, 0x0a, 0, 0, 0, 0, 0, 0, 0, 0, 0, 0];
+
+/// Informational Exceptions Control: DEXCPT.
+const EXCEPTIONS: [u8; 12] = [0x1c, 0x0a, 0x08, 0, 0, 0, 0, 0, 0, 0, 0, 0];
+
+/// The mask of what can be changed of it.
+const EXCEPTIONS_MASK: [u8; 12] = [0x1c, 0x0a, 0, 0, 0, 0, 0, 0, 0, 0, 0, 0];
+
+/// Returns the mode parameter list that a MODE SENSE asks for, cut to the allocation length.
+pub(crate) fn mode_data(
+    alloc: Global,
+    request: &ModeRequest,
+    capacity: u64,
+) -> Result<Vec<u8>, AllocError>
+    ensures { IfOk result (λ bytes. bytes.items ≡ take request.now.allocation (mode_data request.now capacity)) }
+{
+    let mut list = Vec::with_capacity(alloc, MOST_BYTES)?;
+    put_header(&mut list, request)?;
+    put_descriptor(&mut list, request.descriptor, capacity)?;
+    put_pages(&mut list, is_mask(request.values), request.pages)?;
+    list.truncate(usize::from(request.allocation));
+    Ok(list)
+}
+
+/// Returns true if a mask of what can be changed is asked for.
+fn is_mask(values: ModeValues) -> bool
+    ensures { result ≡ is_mask values }
+{
+    matches!(values, ModeValues::Changeable)
+}
+
+/// Returns true if saved values are asked for.
+pub(crate) fn is_saved(values: ModeValues) -> bool
+    ensures { result ≡ is_saved values }
+{
+    matches!(values, ModeValues::Saved)
+}
+
+/// Appends the header.
+fn put_header(list: &mut Vec<u8>, request: &ModeRequest) -> Result<(), AllocError>
+    ensures { OnOk result (list.new.items ≡ list.old.items
+        ++ mode_header request.now.form request.now.descriptor (length (page_list false request.now.pages))) }
+{
+    let pages = pages_length(request.pages);
+    match request.form {
+        ModeForm::Six => list.extend_from_slice(&header_6(request.descriptor, pages)),
+        ModeForm::Ten => list.extend_from_slice(&header_10(request.descriptor, pages)),
+    }
+}
+
+/// Returns how many bytes the pages have.
+#[tactic(auto, unfolding(command_model::specs::Modes::page_list))]
+fn pages_length(pages: ModePages) -> u8
+    ensures length { result ≡ length (page_list false pages) }
+    ensures few { result ≤ 56 }
+{
+    match pages {
+        ModePages::ErrorRecovery => 12,
+        ModePages::Caching => 20,
+        ModePages::Control => 12,
+        ModePages::InformationalExceptions => 12,
+        ModePages::All => 56,
+    }
+}
+
+/// Returns how many bytes the block descriptor has.
+fn descriptor_length(descriptor: ModeDescriptor) -> u8
+    ensures length { result ≡ descriptor_length descriptor }
+    ensures few { result ≤ 16 }
+{
+    match descriptor {
+        ModeDescriptor::Absent => 0,
+        ModeDescriptor::Short => 8,
+        ModeDescriptor::Long => 16,
+    }
+}
+
+/// Returns LONGLBA.
+fn long_lba(descriptor: ModeDescriptor) -> u8
+    ensures { result ≡ long_lba descriptor }
+{
+    match descriptor {
+        ModeDescriptor::Long => 0x01,
+        ModeDescriptor::Absent => 0x00,
+        ModeDescriptor::Short => 0x00,
+    }
+}
+
+/// Makes the header of 4 bytes before pages of so many bytes.
+#[tactic(auto, unfolding(command_model::specs::Modes::mode_header))]
+fn header_6(descriptor: ModeDescriptor, pages: u8) -> [u8; 4]
+    requires { pages ≤ 56 }
+    ensures { result ≡ mode_header ModeForm.Six descriptor pages }
+{
+    let descriptor = descriptor_length(descriptor);
+    [3 + descriptor + pages, 0x00, DEVICE_SPECIFIC, descriptor]
+}
+
+/// Makes the header of 8 bytes before pages of so many bytes.
+#[tactic(auto, unfolding(command_model::specs::Modes::mode_header))]
+fn header_10(descriptor: ModeDescriptor, pages: u8) -> [u8; 8]
+    requires { pages ≤ 56 }
+    ensures { result ≡ mode_header ModeForm.Ten descriptor pages }
+{
+    let length = u16::from(descriptor_length(descriptor));
+    let mut header = [0; 8];
+    header[..2].copy_from_slice(&(6 + length + u16::from(pages)).to_be_bytes());
+    header[3] = DEVICE_SPECIFIC;
+    header[4] = long_lba(descriptor);
+    header[6..].copy_from_slice(&length.to_be_bytes());
+    header
+}
+
+/// Appends the block descriptor of a unit of so many blocks.
+#[tactic(auto, unfolding(command_model::specs::Modes::block_descriptor))]
+fn put_descriptor(
+    list: &mut Vec<u8>,
+    descriptor: ModeDescriptor,
+    capacity: u64,
+) -> Result<(), AllocError>
+    ensures { OnOk result (list.new.items ≡ list.old.items ++ block_descriptor descriptor capacity) }
+{
+    match descriptor {
+        ModeDescriptor::Absent => list.extend_from_slice(&[]),
+        ModeDescriptor::Short => list.extend_from_slice(&short_descriptor(capacity)),
+        ModeDescriptor::Long => list.extend_from_slice(&long_descriptor(capacity)),
+    }
+}
+
+/// Makes the block descriptor of 8 bytes.
+#[tactic(auto, unfolding(command_model::specs::Modes::block_descriptor))]
+fn short_descriptor(capacity: u64) -> [u8; 8]
+    ensures { result ≡ block_descriptor ModeDescriptor.Short capacity }
+{
+    let blocks = capacity.min(u64::from(u32::MAX)) as u32;
+    let mut descriptor = [0; 8];
+    descriptor[..4].copy_from_slice(&blocks.to_be_bytes());
+    descriptor[4..].copy_from_slice(&(BLOCK_BYTES as u32).to_be_bytes());
+    descriptor
+}
+
+/// Makes the block descriptor of 16 bytes.
+#[tactic(auto, unfolding(command_model::specs::Modes::block_descriptor))]
+fn long_descriptor(capacity: u64) -> [u8; 16]
+    ensures { result ≡ block_descriptor ModeDescriptor.Long capacity }
+{
+    let mut descriptor = [0; 16];
+    descriptor[..8].copy_from_slice(&capacity.to_be_bytes());
+    descriptor[12..].copy_from_slice(&(BLOCK_BYTES as u32).to_be_bytes());
+    descriptor
+}
+
+/// Appends the pages, or the masks of what can be changed of them.
+fn put_pages(list: &mut Vec<u8>, is_mask: bool, pages: ModePages) -> Result<(), AllocError>
+    ensures { OnOk result (list.new.items ≡ list.old.items ++ page_list is_mask pages) }
+{
+    if is_mask {
+        put_masks(list, pages)
+    } else {
+        put_current(list, pages)
+    }
+}
+
+/// Appends the pages.
+#[tactic(auto, unfolding(command_model::specs::Modes::page_list))]
+fn put_current(list: &mut Vec<u8>, pages: ModePages) -> Result<(), AllocError>
+    ensures { OnOk result (list.new.items ≡ list.old.items ++ page_list false pages) }
+{
+    match pages {
+        ModePages::ErrorRecovery => list.extend_from_slice(&ERROR_RECOVERY),
+        ModePages::Caching => list.extend_from_slice(&CACHING),
+        ModePages::Control => list.extend_from_slice(&CONTROL),
+        ModePages::InformationalExceptions => list.extend_from_slice(&EXCEPTIONS),
+        ModePages::All => list.extend_from_slice(&all_pages()),
+    }
+}
+
+/// Returns all pages, by rising code.
+#[tactic(auto, unfolding(command_model::specs::Modes::page_list))]
+fn all_pages() -> [u8; 56]
+    ensures { result ≡ page_list false ModePages.All }
+{
+    let mut pages = [0; 56];
+    pages[..12].copy_from_slice(&ERROR_RECOVERY);
+    pages[12..32].copy_from_slice(&CACHING);
+    pages[32..44].copy_from_slice(&CONTROL);
+    pages[44..].copy_from_slice(&EXCEPTIONS);
+    pages
+}
+
+/// Returns the masks of what can be changed of them.
+#[tactic(auto, unfolding(command_model::specs::Modes::page_list))]
+fn all_masks() -> [u8; 56]
+    ensures { result ≡ page_list true ModePages.All }
+{
+    let mut masks = [0; 56];
+    masks[..12].copy_from_slice(&ERROR_RECOVERY);
+    masks[12..32].copy_from_slice(&CACHING);
+    masks[32..44].copy_from_slice(&CONTROL_MASK);
+    masks[44..].copy_from_slice(&EXCEPTIONS_MASK);
+    masks
+}
+
+/// Appends the masks of what can be changed of them: nothing.
+#[tactic(auto, unfolding(command_model::specs::Modes::page_list))]
+fn put_masks(list: &mut Vec<u8>, pages: ModePages) -> Result<(), AllocError>
+    ensures { OnOk result (list.new.items ≡ list.old.items ++ page_list true pages) }
+{
+    match pages {
+        ModePages::ErrorRecovery => list.extend_from_slice(&ERROR_RECOVERY),
+        ModePages::Caching => list.extend_from_slice(&CACHING),
+        ModePages::Control => list.extend_from_slice(&CONTROL_MASK),
+        ModePages::InformationalExceptions => list.extend_from_slice(&EXCEPTIONS_MASK),
+        ModePages::All => list.extend_from_slice(&all_masks()),
+    }
+}

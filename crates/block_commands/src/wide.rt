@@ -1,0 +1,59 @@
+//! The commands of the wide profile alone.
+
+ghost use Rattle.std.specs.Prelude.{◌≡◌, ◌≤◌, ◌<◌, vec_len, take, IfOk};
+ghost use Rattle.cdb.specs.Need.{wide_need};
+ghost use Rattle.command_model.specs.Modes.{mode_answer};
+ghost use Rattle.command_model.specs.Wide.{lba_status, wide_answer, wide_wants};
+ghost use Rattle.block_commands.specs.Inner.Steps.{Gives, Wants};
+
+use crate::data::cut;
+use crate::failure::Failure;
+use crate::modes::{is_saved, mode_data};
+use cdb::{ModeRequest, WideCommand};
+use sense::Sense;
+use std::alloc::Global;
+
+/// The bytes that follow byte 3 of the data of GET LBA STATUS.
+const STATUS_LENGTH: u32 = 20;
+
+/// Runs a command of the wide profile alone, of a unit of this capacity. None changes a block.
+pub(crate) fn wide(alloc: Global, capacity: u64, command: &WideCommand) -> Result<Vec<u8>, Failure>
+    ensures answer { Gives (λ bytes. bytes.items) (wide_answer capacity command.now) result }
+    ensures room { IfOk result (λ bytes. vec_len bytes ≤ (wide_need command.now).into) }
+    ensures want { Wants (wide_wants command.now) result }
+{
+    match *command {
+        WideCommand::ModeSense(request) => mode_sense(alloc, &request, capacity),
+        WideCommand::GetLbaStatus { allocation, lba } => {
+            if lba >= capacity {
+                return Err(Failure::Refused(Sense::LBA_OUT_OF_RANGE));
+            }
+            Ok(cut(alloc, &lba_status(capacity, lba), allocation)?)
+        }
+    }
+}
+
+/// Returns the data of MODE SENSE (SPC-4 §6.11), unless saved values are asked for.
+fn mode_sense(alloc: Global, request: &ModeRequest, capacity: u64) -> Result<Vec<u8>, Failure>
+    ensures answer { Gives (λ bytes. bytes.items) (mode_answer request.now capacity) result }
+    ensures room { IfOk result (λ bytes. vec_len bytes ≤ request.now.allocation) }
+{
+    if is_saved(request.values) {
+        return Err(Failure::Refused(Sense::SAVING_PARAMETERS_NOT_SUPPORTED));
+    }
+    Ok(mode_data(alloc, request, capacity)?)
+}
+
+/// Makes the data of GET LBA STATUS (SBC-3 §5.4).
+#[tactic(auto, unfolding(command_model::specs::Wide::lba_status))]
+fn lba_status(capacity: u64, lba: u64) -> [u8; 24]
+    requires { lba < capacity }
+    ensures { result ≡ lba_status capacity lba }
+{
+    let blocks = (capacity - lba).min(u64::from(u32::MAX)) as u32;
+    let mut data = [0; 24];
+    data[..4].copy_from_slice(&STATUS_LENGTH.to_be_bytes());
+    data[8..16].copy_from_slice(&lba.to_be_bytes());
+    data[16..20].copy_from_slice(&blocks.to_be_bytes());
+    data
+}

@@ -1,0 +1,126 @@
+-- The rows of the wide profile's own: SPC-4 and SBC-3.
+use Rattle.std.specs.Prelude.{ℕ, ◌==◌, Bool, ◌||◌, not, List, [], ◌∷◌, if◌then◌else◌, Option, find, unwrap_or, option_map, is_none}
+use Rattle.std.specs.List.{list_any}
+use Rattle.cdb.specs.Fields.{byte, bits, bit, number, is_set, is_over}
+use Rattle.cdb.specs.Profile.{Row, row, never, protect}
+use Rattle.cdb.specs.declared.commands.Command.{Command}
+use Rattle.cdb.specs.declared.commands.Command.TheVariants.{TestUnitReady, Write, ReadCapacity16, SynchronizeCache, Wide}
+use Rattle.cdb.specs.declared.wide_commands.WideCommand.TheVariants.{ModeSense, GetLbaStatus}
+use Rattle.cdb.specs.declared.wide_commands.ModeRequest.{ModeRequest}
+use Rattle.cdb.specs.declared.wide_commands.ModeForm.{ModeForm}
+use Rattle.cdb.specs.declared.wide_commands.ModeForm.TheVariants.{Six, Ten}
+use Rattle.cdb.specs.declared.wide_commands.ModeDescriptor.{ModeDescriptor}
+use Rattle.cdb.specs.declared.wide_commands.ModeDescriptor.TheVariants.{Absent, Short, Long}
+use Rattle.cdb.specs.declared.wide_commands.ModePages.{ModePages}
+use Rattle.cdb.specs.declared.wide_commands.ModePages.TheVariants.{ErrorRecovery, Caching, Control, InformationalExceptions, All}
+use Rattle.cdb.specs.declared.wide_commands.ModeValues.{ModeValues}
+use Rattle.cdb.specs.declared.wide_commands.ModeValues.TheVariants.{Current, Changeable, Default, Saved}
+
+-- the mode pages by page code, SPC-4 §7.5 and SBC-3 §6.4
+abbrev pub mode_codes : List (ℕ × ModePages)
+mode_codes =
+    (0x01, ErrorRecovery)
+    ∷ (0x08, Caching)
+    ∷ (0x0a, Control)
+    ∷ (0x1c, InformationalExceptions)
+    ∷ (0x3f, All)
+    ∷ []
+
+abbrev pub mode_pages_of : ℕ → Option ModePages
+mode_pages_of code = option_map (λ page. page.1) (find (λ page. page.0 == code) mode_codes)
+
+-- the field PC, SPC-4 §6.11
+abbrev pub mode_values : ℕ → ModeValues
+mode_values control =
+    if control == 0 then Current
+    else (if control == 1 then Changeable else (if control == 2 then Default else Saved))
+
+-- the subpage codes: that of the page itself, and that of the page with all its subpages, of which there are none
+abbrev pub subpages : List ℕ
+subpages = 0x00 ∷ 0xff ∷ []
+
+-- MODE SENSE: a page or a subpage that the unit lacks
+abbrev pub mode_causes : List ℕ → List Bool
+mode_causes cdb =
+    is_none (mode_pages_of (bits 2 5 0 cdb)) ∷ not (list_any (λ known. known == byte 3 cdb) subpages) ∷ []
+
+-- MODE SENSE in a form, with the block descriptor that is to be returned
+abbrev pub mode_sense_of : ModeForm → ModeDescriptor → ℕ → List ℕ → Command
+mode_sense_of form descriptor allocation cdb =
+    Wide (ModeSense (record {
+      form = form;
+      descriptor = descriptor;
+      pages = unwrap_or (mode_pages_of (bits 2 5 0 cdb)) All;
+      values = mode_values (bits 2 7 6 cdb);
+      allocation = allocation;
+    }))
+
+-- WRITE AND VERIFY, SBC-3 §5.37: BYTCHK 10b and 11b, and what makes a WRITE bad
+abbrev pub written_causes : ℕ → List ℕ → List Bool
+written_causes count cdb = bit 1 2 cdb ∷ protect cdb ∷ is_over 2048 count ∷ []
+
+-- VERIFY, SBC-3 §5.29: a comparison, VRPROTECT
+abbrev pub verified_causes : ℕ → List ℕ → List Bool
+verified_causes count cdb = is_set (bits 1 2 1 cdb) ∷ protect cdb ∷ is_over 2048 count ∷ []
+
+-- SERVICE ACTION IN (16): a service action but READ CAPACITY (16) and GET LBA STATUS
+abbrev pub action_causes : List ℕ → List Bool
+action_causes cdb = not (bits 1 4 0 cdb == 0x10 || bits 1 4 0 cdb == 0x12) ∷ []
+
+abbrev pub action_meaning : List ℕ → Command
+action_meaning cdb =
+    if bits 1 4 0 cdb == 0x10 then ReadCapacity16 (number 10 13 cdb)
+    else Wide (GetLbaStatus (number 10 13 cdb) (number 2 9 cdb))
+
+abbrev pub service_row : Row
+service_row = row 0x9e 15 action_causes action_meaning
+
+abbrev pub wide_rows : List Row
+wide_rows =
+    -- MODE SENSE (6), SPC-4 §6.11: DBD is bit 3 of byte 1
+    row 0x1a 5 mode_causes
+    (λ cdb. mode_sense_of Six (if bit 1 3 cdb then Absent else Short) (byte 4 cdb) cdb)
+    -- START STOP UNIT, SBC-3 §5.25: POWER CONDITION, LOEJ, and START where it is 0
+    ∷ row 0x1b 5
+    (λ cdb. is_set (bits 4 7 4 cdb) ∷ bit 4 1 cdb ∷ not (bit 4 0 cdb) ∷ [])
+    (λ cdb. TestUnitReady)
+    -- SEND DIAGNOSTIC, SPC-4 §6.42: SELF-TEST CODE, a parameter list
+    ∷ row 0x1d 5
+    (λ cdb. is_set (bits 1 7 5 cdb) ∷ is_set (number 3 4 cdb) ∷ [])
+    (λ cdb. TestUnitReady)
+    -- PREVENT ALLOW MEDIUM REMOVAL, SBC-3 §5.10: the obsolete values of PREVENT
+    ∷ row 0x1e 5 (λ cdb. bit 4 1 cdb ∷ []) (λ cdb. TestUnitReady)
+    -- WRITE AND VERIFY (10), SBC-3 §5.37
+    ∷ row 0x2e 9
+    (λ cdb. written_causes (number 7 8 cdb) cdb)
+    (λ cdb. Write (number 2 5 cdb) (number 7 8 cdb))
+    -- VERIFY (10), SBC-3 §5.29
+    ∷ row 0x2f 9
+    (λ cdb. verified_causes (number 7 8 cdb) cdb)
+    (λ cdb. SynchronizeCache (number 2 5 cdb) (number 7 8 cdb))
+    -- PRE-FETCH (10), SBC-3 §5.8
+    ∷ row 0x34 9 never (λ cdb. SynchronizeCache (number 2 5 cdb) (number 7 8 cdb))
+    -- MODE SENSE (10), SPC-4 §6.12: DBD is bit 3 of byte 1, LLBAA bit 4
+    ∷ row 0x5a 9 mode_causes
+    (λ cdb. mode_sense_of Ten (if bit 1 3 cdb then Absent else (if bit 1 4 cdb then Long else Short)) (number 7 8 cdb) cdb)
+    -- WRITE AND VERIFY (16), SBC-3 §5.39
+    ∷ row 0x8e 15
+    (λ cdb. written_causes (number 10 13 cdb) cdb)
+    (λ cdb. Write (number 2 9 cdb) (number 10 13 cdb))
+    -- VERIFY (16), SBC-3 §5.31
+    ∷ row 0x8f 15
+    (λ cdb. verified_causes (number 10 13 cdb) cdb)
+    (λ cdb. SynchronizeCache (number 2 9 cdb) (number 10 13 cdb))
+    -- PRE-FETCH (16), SBC-3 §5.9
+    ∷ row 0x90 15 never (λ cdb. SynchronizeCache (number 2 9 cdb) (number 10 13 cdb))
+    -- READ CAPACITY (16), SBC-3 §5.16, and GET LBA STATUS, SBC-3 §5.4
+    ∷ service_row
+    -- WRITE AND VERIFY (12), SBC-3 §5.38
+    ∷ row 0xae 11
+    (λ cdb. written_causes (number 6 9 cdb) cdb)
+    (λ cdb. Write (number 2 5 cdb) (number 6 9 cdb))
+    -- VERIFY (12), SBC-3 §5.30
+    ∷ row 0xaf 11
+    (λ cdb. verified_causes (number 6 9 cdb) cdb)
+    (λ cdb. SynchronizeCache (number 2 5 cdb) (number 6 9 cdb))
+    ∷ []

@@ -1,0 +1,79 @@
+//! The commands that the wide profile has and the narrow one lacks.
+
+/// A command that only the wide profile has. Its small fields stand first, so that a [`crate::Command`] is no larger
+/// for it.
+#[derive(Clone, Copy, PartialEq, Eq)]
+pub enum WideCommand {
+    /// MODE SENSE (6) or (10) (SPC-4 §6.11, §6.12).
+    ModeSense(ModeRequest),
+    /// GET LBA STATUS (SBC-3 §5.4).
+    GetLbaStatus {
+        /// The most bytes to return.
+        allocation: u32,
+        /// The first block to tell of.
+        lba: u64,
+    },
+}
+
+/// What a MODE SENSE asks for.
+#[derive(Clone, Copy, PartialEq, Eq)]
+pub struct ModeRequest {
+    /// The form of the header.
+    pub form: ModeForm,
+    /// The block descriptor to return.
+    pub descriptor: ModeDescriptor,
+    /// The pages to return.
+    pub pages: ModePages,
+    /// The values to return of them.
+    pub values: ModeValues,
+    /// The most bytes to return, 0 to 65,535.
+    pub allocation: u16,
+}
+
+/// The form of a mode parameter list: its header (SPC-4 §7.5.5).
+#[derive(Clone, Copy, PartialEq, Eq)]
+pub enum ModeForm {
+    /// 4 bytes, of MODE SENSE (6) and MODE SELECT (6).
+    Six,
+    /// 8 bytes, of MODE SENSE (10) and MODE SELECT (10).
+    Ten,
+}
+
+/// The block descriptor of a mode parameter list (SBC-3 §6.4.2).
+#[derive(Clone, Copy, PartialEq, Eq)]
+pub enum ModeDescriptor {
+    /// None: DBD is 1.
+    Absent,
+    /// 8 bytes, with a number of blocks of 32 bits.
+    Short,
+    /// 16 bytes, with a number of blocks of 64 bits: LLBAA is 1.
+    Long,
+}
+
+/// The mode pages that a page code names (SPC-4 §7.5, SBC-3 §6.4).
+#[derive(Clone, Copy, PartialEq, Eq)]
+pub enum ModePages {
+    /// Page 01h, Read-Write Error Recovery.
+    ErrorRecovery,
+    /// Page 08h, Caching.
+    Caching,
+    /// Page 0Ah, Control.
+    Control,
+    /// Page 1Ch, Informational Exceptions Control.
+    InformationalExceptions,
+    /// Page code 3Fh: all of these, by rising code.
+    All,
+}
+
+/// The values of mode parameters that a MODE SENSE asks for: the field PC (SPC-4 §6.11).
+#[derive(Clone, Copy, PartialEq, Eq)]
+pub enum ModeValues {
+    /// 00b: as they are.
+    Current,
+    /// 01b: a mask of the bits that MODE SELECT can change.
+    Changeable,
+    /// 10b: as they are at the start.
+    Default,
+    /// 11b: as they were saved.
+    Saved,
+}
