@@ -1,6 +1,7 @@
 //! The commands, and the limits of the device on their fields.
 
 use crate::wide_commands::WideCommand;
+use std::mem::size_of;
 
 /// The bytes of the CDB field of a request (VIRTIO 1.2 §5.6.6.1). A shorter CDB stands at its
 /// front.
@@ -101,6 +102,9 @@ pub enum Command {
     /// A command that the profile lacks: INVALID COMMAND OPERATION CODE.
     Unknown,
 }
+
+// The commands of the wide profile alone take no more room than the others.
+const _: () = prove!(size_of::<Command>() == 24);
 
 /// The data that an INQUIRY asks for: the standard data, or a page of vital product data (SPC-4 §6.6, §7.8).
 #[derive(Clone, Copy, PartialEq, Eq)]
