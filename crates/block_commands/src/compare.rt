@@ -50,7 +50,7 @@ pub(crate) fn compare_and_write<S: Store>(
 
 /// Returns the offset of the first byte in which the two differ. Where they are equal, as most often, they are compared
 /// whole.
-fn first_unequal(left: &[u8], right: &[u8]) -> Option<usize>
+pub(crate) fn first_unequal(left: &[u8], right: &[u8]) -> Option<usize>
     ensures offset { result ≡ first_unequal left.now right.now }
     ensures bound { IfSome result (λ offset. offset < length left.now) }
 {

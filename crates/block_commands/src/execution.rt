@@ -132,7 +132,7 @@ fn run<S: Store>(
         Command::ReportLuns { select, allocation } => {
             Ok(lun_list(alloc, listed_luns(select, &facts.luns), allocation)?)
         }
-        Command::Wide(command) => wide(alloc, store.capacity(), &command),
+        Command::Wide(command) => wide(alloc, store.capacity(), &command, bytes),
         Command::Bad { .. } => Err(Failure::Refused(Sense::INVALID_FIELD_IN_CDB)),
         Command::Unknown => Err(Failure::Refused(Sense::INVALID_OPCODE)),
     }

@@ -22,6 +22,7 @@ mod in_place;
 mod inquiry;
 pub mod laws;
 mod luns;
+mod mode_lists;
 mod modes;
 mod prepared;
 mod readiness;

@@ -156,7 +156,7 @@ fn put_descriptor(
 
 /// Makes the block descriptor of 8 bytes.
 #[tactic(auto, unfolding(command_model::specs::Modes::block_descriptor))]
-fn short_descriptor(capacity: u64) -> [u8; 8]
+pub(crate) fn short_descriptor(capacity: u64) -> [u8; 8]
     ensures { result ≡ block_descriptor ModeDescriptor.Short capacity }
 {
     let blocks = capacity.min(u64::from(u32::MAX)) as u32;
@@ -168,7 +168,7 @@ fn short_descriptor(capacity: u64) -> [u8; 8]
 
 /// Makes the block descriptor of 16 bytes.
 #[tactic(auto, unfolding(command_model::specs::Modes::block_descriptor))]
-fn long_descriptor(capacity: u64) -> [u8; 16]
+pub(crate) fn long_descriptor(capacity: u64) -> [u8; 16]
     ensures { result ≡ block_descriptor ModeDescriptor.Long capacity }
 {
     let mut descriptor = [0; 16];
@@ -226,6 +226,38 @@ fn all_masks() -> [u8; 56]
     masks[32..44].copy_from_slice(&CONTROL_MASK);
     masks[44..].copy_from_slice(&EXCEPTIONS_MASK);
     masks
+}
+
+/// Returns the page Read-Write Error Recovery.
+#[tactic(auto, unfolding(command_model::specs::Modes::page_list))]
+pub(crate) fn error_recovery() -> [u8; 12]
+    ensures { result ≡ page_list false ModePages.ErrorRecovery }
+{
+    ERROR_RECOVERY
+}
+
+/// Returns the page Caching.
+#[tactic(auto, unfolding(command_model::specs::Modes::page_list))]
+pub(crate) fn caching() -> [u8; 20]
+    ensures { result ≡ page_list false ModePages.Caching }
+{
+    CACHING
+}
+
+/// Returns the page Control.
+#[tactic(auto, unfolding(command_model::specs::Modes::page_list))]
+pub(crate) fn control() -> [u8; 12]
+    ensures { result ≡ page_list false ModePages.Control }
+{
+    CONTROL
+}
+
+/// Returns the page Informational Exceptions Control.
+#[tactic(auto, unfolding(command_model::specs::Modes::page_list))]
+pub(crate) fn exceptions() -> [u8; 12]
+    ensures { result ≡ page_list false ModePages.InformationalExceptions }
+{
+    EXCEPTIONS
 }
 
 /// Appends the masks of what can be changed of them: nothing.

@@ -1,29 +1,53 @@
 //! The commands of the wide profile alone.
 
-ghost use Rattle.std.specs.Prelude.{◌≡◌, ◌≤◌, ◌<◌, vec_len, take, IfOk};
+ghost use Rattle.std.specs.Prelude.{◌≡◌, ◌≤◌, ◌<◌, nat_lt, vec_len, take, IfOk, OnErr, IsTrue};
 ghost use Rattle.cdb.specs.Need.{wide_need};
 ghost use Rattle.command_model.specs.Modes.{mode_answer};
-ghost use Rattle.command_model.specs.Wide.{lba_status, wide_answer, wide_wants};
+ghost use Rattle.command_model.specs.Wide.{lba_status, task_management_data, wide_answer, wide_wants};
 ghost use Rattle.block_commands.specs.Inner.Steps.{Gives, Wants};
 
 use crate::data::cut;
 use crate::failure::Failure;
+use crate::mode_lists::mode_select;
 use crate::modes::{is_saved, mode_data};
 use cdb::{ModeRequest, WideCommand};
 use sense::Sense;
-use std::alloc::Global;
+use std::alloc::{AllocError, Global};
+
+/// The data of REPORT SUPPORTED TASK MANAGEMENT FUNCTIONS: ABORT TASK, ABORT TASK SET, CLEAR TASK SET, LOGICAL UNIT RESET
+/// and QUERY TASK; QUERY TASK SET and I_T NEXUS RESET.
+const TASK_MANAGEMENT: [u8; 4] = [0xdc, 0x03, 0x00, 0x00];
+
+/// The same with 12 more bytes, which give no timeouts.
+const EXTENDED_TASK_MANAGEMENT: [u8; 16] = [
+    0xdc, 0x03, 0x00, 0x0c, 0, 0, 0, 0, 0, 0, 0, 0, 0, 0, 0, 0,
+];
 
 /// The bytes that follow byte 3 of the data of GET LBA STATUS.
 const STATUS_LENGTH: u32 = 20;
 
-/// Runs a command of the wide profile alone, of a unit of this capacity. None changes a block.
-pub(crate) fn wide(alloc: Global, capacity: u64, command: &WideCommand) -> Result<Vec<u8>, Failure>
-    ensures answer { Gives (λ bytes. bytes.items) (wide_answer capacity command.now) result }
+/// Runs a command of the wide profile alone, of a unit of this capacity, on exactly the data that it needs. None changes
+/// a block.
+pub(crate) fn wide(
+    alloc: Global,
+    capacity: u64,
+    command: &WideCommand,
+    bytes: &[u8],
+) -> Result<Vec<u8>, Failure>
+    ensures answer { Gives (λ bytes. bytes.items) (wide_answer capacity command.now bytes.now) result }
     ensures room { IfOk result (λ bytes. vec_len bytes ≤ (wide_need command.now).into) }
     ensures want { Wants (wide_wants command.now) result }
 {
     match *command {
         WideCommand::ModeSense(request) => mode_sense(alloc, &request, capacity),
+        WideCommand::ModeSelect { form, .. } => {
+            mode_select(form, capacity, bytes)?;
+            Ok(Vec::new(alloc))
+        }
+        WideCommand::ReportTaskManagement {
+            extended,
+            allocation,
+        } => Ok(task_management(alloc, extended, allocation)?),
         WideCommand::GetLbaStatus { allocation, lba } => {
             if lba >= capacity {
                 return Err(Failure::Refused(Sense::LBA_OUT_OF_RANGE));
@@ -42,6 +66,18 @@ fn mode_sense(alloc: Global, request: &ModeRequest, capacity: u64) -> Result<Vec
         return Err(Failure::Refused(Sense::SAVING_PARAMETERS_NOT_SUPPORTED));
     }
     Ok(mode_data(alloc, request, capacity)?)
+}
+
+/// Returns the task management functions that a unit has, cut to the allocation length (SPC-4 §6.36).
+fn task_management(alloc: Global, extended: bool, allocation: u32) -> Result<Vec<u8>, AllocError>
+    ensures data { IfOk result (λ bytes. bytes.items ≡ take allocation (task_management_data extended)) }
+    ensures want { OnErr result (IsTrue (nat_lt 0 allocation)) }
+{
+    if extended {
+        cut(alloc, &EXTENDED_TASK_MANAGEMENT, allocation)
+    } else {
+        cut(alloc, &TASK_MANAGEMENT, allocation)
+    }
 }
 
 /// Makes the data of GET LBA STATUS (SBC-3 §5.4).

@@ -5,7 +5,7 @@ use Rattle.cdb.specs.declared.transfers.Transfer.{Transfer}
 use Rattle.cdb.specs.declared.commands.Command.{Command}
 use Rattle.cdb.specs.declared.commands.Command.TheVariants.{TestUnitReady, RequestSense, Read, Write, Inquiry, ReadCapacity10, ReadCapacity16, SynchronizeCache, WriteSame, Unmap, CompareAndWrite, ReportLuns, Wide, Bad, Unknown}
 use Rattle.cdb.specs.declared.wide_commands.WideCommand.{WideCommand}
-use Rattle.cdb.specs.declared.wide_commands.WideCommand.TheVariants.{ModeSense, GetLbaStatus}
+use Rattle.cdb.specs.declared.wide_commands.WideCommand.TheVariants.{ModeSense, ModeSelect, ReportTaskManagement, GetLbaStatus}
 
 abbrev pub no_bytes : Transfer
 no_bytes = record { out = 0; into = 0 }
@@ -21,6 +21,8 @@ bytes_in n = record { out = 0; into = n }
 -- of a command of the wide profile alone
 abbrev pub wide_need : WideCommand → Transfer
 wide_need (ModeSense request) = bytes_in request.allocation
+wide_need (ModeSelect form list_length) = bytes_out list_length
+wide_need (ReportTaskManagement extended allocation) = bytes_in allocation
 wide_need (GetLbaStatus allocation lba) = bytes_in allocation
 
 abbrev pub need_of : Command → Transfer

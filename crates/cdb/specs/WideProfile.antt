@@ -1,11 +1,11 @@
 -- The rows of the wide profile's own: SPC-4 and SBC-3.
-use Rattle.std.specs.Prelude.{ℕ, ◌==◌, Bool, ◌||◌, not, List, [], ◌∷◌, if◌then◌else◌, Option, find, unwrap_or, option_map, is_none}
+use Rattle.std.specs.Prelude.{ℕ, ◌==◌, Bool, ◌||◌, not, nat_lt, List, [], ◌∷◌, if◌then◌else◌, Option, find, unwrap_or, option_map, is_none}
 use Rattle.std.specs.List.{list_any}
 use Rattle.cdb.specs.Fields.{byte, bits, bit, number, is_set, is_over}
 use Rattle.cdb.specs.Profile.{Row, row, never, protect}
 use Rattle.cdb.specs.declared.commands.Command.{Command}
 use Rattle.cdb.specs.declared.commands.Command.TheVariants.{TestUnitReady, Write, ReadCapacity16, SynchronizeCache, Wide}
-use Rattle.cdb.specs.declared.wide_commands.WideCommand.TheVariants.{ModeSense, GetLbaStatus}
+use Rattle.cdb.specs.declared.wide_commands.WideCommand.TheVariants.{ModeSense, ModeSelect, ReportTaskManagement, GetLbaStatus}
 use Rattle.cdb.specs.declared.wide_commands.ModeRequest.{ModeRequest}
 use Rattle.cdb.specs.declared.wide_commands.ModeForm.{ModeForm}
 use Rattle.cdb.specs.declared.wide_commands.ModeForm.TheVariants.{Six, Ten}
@@ -55,6 +55,10 @@ mode_sense_of form descriptor allocation cdb =
       allocation = allocation;
     }))
 
+-- MODE SELECT: PF where it is 0, SP
+abbrev pub select_causes : List ℕ → List Bool
+select_causes cdb = not (bit 1 4 cdb) ∷ bit 1 0 cdb ∷ []
+
 -- WRITE AND VERIFY, SBC-3 §5.37: BYTCHK 10b and 11b, and what makes a WRITE bad
 abbrev pub written_causes : ℕ → List ℕ → List Bool
 written_causes count cdb = bit 1 2 cdb ∷ protect cdb ∷ is_over 2048 count ∷ []
@@ -77,8 +81,10 @@ service_row = row 0x9e 15 action_causes action_meaning
 
 abbrev pub wide_rows : List Row
 wide_rows =
+    -- MODE SELECT (6), SPC-4 §6.9
+    row 0x15 5 select_causes (λ cdb. Wide (ModeSelect Six (byte 4 cdb)))
     -- MODE SENSE (6), SPC-4 §6.11: DBD is bit 3 of byte 1
-    row 0x1a 5 mode_causes
+    ∷ row 0x1a 5 mode_causes
     (λ cdb. mode_sense_of Six (if bit 1 3 cdb then Absent else Short) (byte 4 cdb) cdb)
     -- START STOP UNIT, SBC-3 §5.25: POWER CONDITION, LOEJ, and START where it is 0
     ∷ row 0x1b 5
@@ -100,6 +106,8 @@ wide_rows =
     (λ cdb. SynchronizeCache (number 2 5 cdb) (number 7 8 cdb))
     -- PRE-FETCH (10), SBC-3 §5.8
     ∷ row 0x34 9 never (λ cdb. SynchronizeCache (number 2 5 cdb) (number 7 8 cdb))
+    -- MODE SELECT (10), SPC-4 §6.10
+    ∷ row 0x55 9 select_causes (λ cdb. Wide (ModeSelect Ten (number 7 8 cdb)))
     -- MODE SENSE (10), SPC-4 §6.12: DBD is bit 3 of byte 1, LLBAA bit 4
     ∷ row 0x5a 9 mode_causes
     (λ cdb. mode_sense_of Ten (if bit 1 3 cdb then Absent else (if bit 1 4 cdb then Long else Short)) (number 7 8 cdb) cdb)
@@ -115,6 +123,11 @@ wide_rows =
     ∷ row 0x90 15 never (λ cdb. SynchronizeCache (number 2 9 cdb) (number 10 13 cdb))
     -- READ CAPACITY (16), SBC-3 §5.16, and GET LBA STATUS, SBC-3 §5.4
     ∷ service_row
+    -- REPORT SUPPORTED TASK MANAGEMENT FUNCTIONS, SPC-4 §6.36: a service action of MAINTENANCE IN other than 0dh; an
+    -- allocation length below 4
+    ∷ row 0xa3 11
+    (λ cdb. not (bits 1 4 0 cdb == 0x0d) ∷ nat_lt (number 6 9 cdb) 4 ∷ [])
+    (λ cdb. Wide (ReportTaskManagement (bit 2 7 cdb) (number 6 9 cdb)))
     -- WRITE AND VERIFY (12), SBC-3 §5.38
     ∷ row 0xae 11
     (λ cdb. written_causes (number 6 9 cdb) cdb)

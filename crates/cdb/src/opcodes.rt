@@ -42,6 +42,8 @@ pub(crate) const WRITE_12: u8 = 0xaa;
 
 // Those of the wide profile alone.
 
+pub(crate) const MODE_SELECT_6: u8 = 0x15;
+
 pub(crate) const MODE_SENSE_6: u8 = 0x1a;
 
 pub(crate) const START_STOP_UNIT: u8 = 0x1b;
@@ -56,6 +58,8 @@ pub(crate) const VERIFY_10: u8 = 0x2f;
 
 pub(crate) const PRE_FETCH_10: u8 = 0x34;
 
+pub(crate) const MODE_SELECT_10: u8 = 0x55;
+
 pub(crate) const MODE_SENSE_10: u8 = 0x5a;
 
 pub(crate) const WRITE_AND_VERIFY_16: u8 = 0x8e;
@@ -63,6 +67,8 @@ pub(crate) const WRITE_AND_VERIFY_16: u8 = 0x8e;
 pub(crate) const VERIFY_16: u8 = 0x8f;
 
 pub(crate) const PRE_FETCH_16: u8 = 0x90;
+
+pub(crate) const MAINTENANCE_IN: u8 = 0xa3;
 
 pub(crate) const WRITE_AND_VERIFY_12: u8 = 0xae;
 

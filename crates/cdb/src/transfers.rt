@@ -54,7 +54,9 @@ fn wide_need(command: &WideCommand) -> Transfer
 {
     match *command {
         WideCommand::ModeSense(request) => from_device(u32::from(request.allocation)),
-        WideCommand::GetLbaStatus { allocation, .. } => from_device(allocation),
+        WideCommand::ModeSelect { list_length, .. } => from_driver(u32::from(list_length)),
+        WideCommand::ReportTaskManagement { allocation, .. }
+        | WideCommand::GetLbaStatus { allocation, .. } => from_device(allocation),
     }
 }
 

@@ -6,6 +6,20 @@
 pub enum WideCommand {
     /// MODE SENSE (6) or (10) (SPC-4 §6.11, §6.12).
     ModeSense(ModeRequest),
+    /// MODE SELECT (6) or (10) (SPC-4 §6.9, §6.10).
+    ModeSelect {
+        /// The form of the header.
+        form: ModeForm,
+        /// The bytes of the parameter list, 0 to 65,535.
+        list_length: u16,
+    },
+    /// REPORT SUPPORTED TASK MANAGEMENT FUNCTIONS (SPC-4 §6.36).
+    ReportTaskManagement {
+        /// True if the extended parameter data are asked for: REPD is 1.
+        extended: bool,
+        /// The most bytes to return, at least 4.
+        allocation: u32,
+    },
     /// GET LBA STATUS (SBC-3 §5.4).
     GetLbaStatus {
         /// The most bytes to return.

@@ -4,7 +4,7 @@ ghost use Rattle.std.specs.Prelude.{◌≡◌, ◌<◌, ◌≤◌, ◌∷◌, �
 ghost use Rattle.std.specs.List.{list_any};
 ghost use Rattle.cdb.specs.Fields.{bit, bits, byte, is_over, is_set};
 ghost use Rattle.cdb.specs.Profile.{protect};
-ghost use Rattle.cdb.specs.WideProfile.{mode_causes, mode_pages_of, mode_sense_of, mode_values, subpages};
+ghost use Rattle.cdb.specs.WideProfile.{mode_causes, mode_pages_of, mode_sense_of, mode_values, select_causes, subpages};
 ghost use Rattle.cdb.specs.Decoding.{command, row_of};
 ghost use Rattle.cdb.specs.Inner.Decoding.{fields_of, unless};
 ghost use Rattle.cdb.specs.Need.{need_of};
@@ -23,6 +23,12 @@ use byteorder::{BigEndian, ByteOrder};
 
 /// The service action of SERVICE ACTION IN (16) that is GET LBA STATUS (SBC-3 §5.4).
 const GET_LBA_STATUS: u8 = 0x12;
+
+/// The service action of MAINTENANCE IN that is REPORT SUPPORTED TASK MANAGEMENT FUNCTIONS (SPC-4 §6.36).
+const REPORT_TASK_MANAGEMENT: u8 = 0x0d;
+
+/// The least allocation length of that command.
+const LEAST_TASK_MANAGEMENT_BYTES: u32 = 4;
 
 /// The subpage code that asks for a page with all its subpages (SPC-4 §6.11).
 const ALL_SUBPAGES: u8 = 0xff;
@@ -65,6 +71,7 @@ fn wide_6(cdb: &[u8; CDB_BYTES]) -> Command
     ensures data_out { (need_of result).out ≤ 1048576 }
 {
     let fields = match cdb[0] {
+        opcodes::MODE_SELECT_6 => mode_select(cdb, ModeForm::Six, u16::from(cdb[4])),
         opcodes::MODE_SENSE_6 => mode_sense_6(cdb),
         opcodes::START_STOP_UNIT => start_stop_unit(cdb),
         opcodes::SEND_DIAGNOSTIC => send_diagnostic(cdb),
@@ -87,6 +94,9 @@ fn wide_10(cdb: &[u8; CDB_BYTES]) -> Command
         opcodes::WRITE_AND_VERIFY_10 => write_and_verify(cdb, blocks_10(cdb)),
         opcodes::VERIFY_10 => verify(cdb, blocks_10(cdb)),
         opcodes::PRE_FETCH_10 => Some(synchronize_cache(blocks_10(cdb))),
+        opcodes::MODE_SELECT_10 => {
+            mode_select(cdb, ModeForm::Ten, BigEndian::read_u16(&cdb[7..9]))
+        }
         opcodes::MODE_SENSE_10 => mode_sense_10(cdb),
         _ => return Command::Unknown,
     };
@@ -121,6 +131,7 @@ fn wide_12(cdb: &[u8; CDB_BYTES]) -> Command
     ensures data_out { (need_of result).out ≤ 1048576 }
 {
     let fields = match cdb[0] {
+        opcodes::MAINTENANCE_IN => report_task_management(cdb),
         opcodes::WRITE_AND_VERIFY_12 => write_and_verify(cdb, blocks_12(cdb)),
         opcodes::VERIFY_12 => verify(cdb, blocks_12(cdb)),
         _ => return Command::Unknown,
@@ -194,6 +205,36 @@ fn prevent_allow(cdb: &[u8; CDB_BYTES]) -> Option<Command>
         return None;
     }
     Some(Command::TestUnitReady)
+}
+
+/// Decodes MODE SELECT, of this form.
+fn mode_select(cdb: &[u8; CDB_BYTES], form: ModeForm, list_length: u16) -> Option<Command>
+    ensures meaning { result
+        ≡ unless (select_causes cdb.now) (Command.Wide (WideCommand.ModeSelect form list_length)) }
+    ensures data_out { IfSome result (λ c. (need_of c).out ≤ 1048576) }
+{
+    let page_format = has_bit(cdb[1], 4);
+    let save_pages = has_bit(cdb[1], 0);
+    if !page_format || save_pages {
+        return None;
+    }
+    Some(Command::Wide(WideCommand::ModeSelect { form, list_length }))
+}
+
+/// Decodes REPORT SUPPORTED TASK MANAGEMENT FUNCTIONS, one of the service actions of MAINTENANCE IN.
+fn report_task_management(cdb: &[u8; CDB_BYTES]) -> Option<Command>
+    ensures meaning { result ≡ fields_of Profile.Wide 0xa3 cdb.now }
+    ensures data_out { IfSome result (λ c. (need_of c).out ≤ 1048576) }
+{
+    let service_action = low_bits(cdb[1], 5);
+    let allocation = BigEndian::read_u32(&cdb[6..10]);
+    if service_action != REPORT_TASK_MANAGEMENT || allocation < LEAST_TASK_MANAGEMENT_BYTES {
+        return None;
+    }
+    Some(Command::Wide(WideCommand::ReportTaskManagement {
+        extended: has_bit(cdb[2], 7),
+        allocation,
+    }))
 }
 
 /// Decodes MODE SENSE (6).

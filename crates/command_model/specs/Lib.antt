@@ -14,6 +14,7 @@ pub mod Effects
 pub mod Facts
 pub mod Inquiry
 pub mod Luns
+pub mod ModeLists
 pub mod Modes
 pub mod Replies
 pub mod UnmapList

@@ -70,7 +70,7 @@ answer_of facts (CompareAndWrite lba count) bytes blocks =
 -- SPC-4 §6.33
 answer_of facts (ReportLuns select allocation) bytes blocks =
     Ok (take allocation (lun_list (listed select facts.luns)))
-answer_of facts (Wide command) bytes blocks = wide_answer facts.capacity command
+answer_of facts (Wide command) bytes blocks = wide_answer facts.capacity command bytes
 -- SPC-4 §4.5
 answer_of facts (Bad opcode) bytes blocks = Err invalid_field_in_cdb
 answer_of facts Unknown bytes blocks = Err invalid_opcode
