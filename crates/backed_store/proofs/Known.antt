@@ -3,7 +3,7 @@ use Rattle.std.proofs.Common.{◌≡◌, ℕ, Bool, true, false, IsTrue, Option,
 use Rattle.std.specs.Option.{option_map}
 use Rattle.backed_store.specs.Changed.{unknown}
 use Rattle.backed_store.specs.Known.{IsKnown}
-use Rattle.backed_store.specs.Marks.{state_of, is_wanted, is_reading, is_coming, is_listed, is_queued, has_room}
+use Rattle.backed_store.specs.Marks.{state_of, is_wanted, is_reading, is_coming, is_listed, has_room, number_of, again_of}
 use Rattle.backed_store.specs.Slots.{slot_at, mark_at, bytes_of, bytes_at}
 use Rattle.backed_store.specs.declared.mark.Mark.{Mark}
 use Rattle.backed_store.specs.declared.slot.Slot.{Slot}
@@ -45,7 +45,8 @@ module _ (old new : Slots) (page : ℕ) (slot : Slot) (is : slot.mark ≡ unknow
     reading = each is_reading refl;
     coming = each is_coming refl;
     listed = each is_listed refl;
-    queued = each is_queued refl;
+    number = each number_of refl;
+    again = each again_of refl;
     room = each has_room refl;
     bytes = kept;
   }
@@ -58,7 +59,8 @@ known-same old new same = record {
   reading = λ p. ap (λ (s : Option Slot). is_reading (option_map (λ x. x.mark) s)) (same p);
   coming = λ p. ap (λ (s : Option Slot). is_coming (option_map (λ x. x.mark) s)) (same p);
   listed = λ p. ap (λ (s : Option Slot). is_listed (option_map (λ x. x.mark) s)) (same p);
-  queued = λ p. ap (λ (s : Option Slot). is_queued (option_map (λ x. x.mark) s)) (same p);
+  number = λ p. ap (λ (s : Option Slot). number_of (option_map (λ x. x.mark) s)) (same p);
+  again = λ p. ap (λ (s : Option Slot). again_of (option_map (λ x. x.mark) s)) (same p);
   room = λ p. ap (λ (s : Option Slot). has_room (option_map (λ x. x.mark) s)) (same p);
   bytes = λ p held. ap bytes_of (same p);
 }

@@ -4,3 +4,5 @@ pub mod Dealt
 pub mod CutOff
 pub mod Over
 pub mod Known
+pub mod Pairs
+pub mod Fenced

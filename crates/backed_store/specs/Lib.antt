@@ -3,6 +3,7 @@ pub mod Changed
 pub mod Slots
 pub mod Known
 pub mod Queues
+pub mod Sets
 pub mod Standing
 pub mod Caches
 pub mod Spared

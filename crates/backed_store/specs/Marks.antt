@@ -1,5 +1,5 @@
 -- What is known of a page.
-use Rattle.std.specs.Prelude.{Bool, true, false, ◌&&◌, ◌||◌, not, Option, Some, None}
+use Rattle.std.specs.Prelude.{ℕ, Bool, true, false, ◌&&◌, ◌||◌, not, Option, Some, None}
 use Rattle.backed_store.specs.declared.mark.Mark.{Mark}
 
 -- the state of a page: whether its bytes are in memory, whether they may differ from those that the host's storage has,
@@ -55,15 +55,29 @@ abbrev pub is_listed : Option Mark → Bool
 is_listed None = false
 is_listed (Some m) = m.listed
 
--- it stands in the queue of the pages that may go
-abbrev pub is_queued : Option Mark → Bool
-is_queued None = false
-is_queued (Some m) = m.queued
+-- the number of its oldest change that the host's storage may lack
+abbrev pub number_of : Option Mark → ℕ
+number_of None = 0
+number_of (Some m) = m.number
+
+-- the number of its first change since the host was given it
+abbrev pub again_of : Option Mark → ℕ
+again_of None = 0
+again_of (Some m) = m.again
+
+-- it was changed since the host was given it, and the host has not answered
+abbrev pub is_rewritten : State → Bool
+is_rewritten s = s.held && (s.writing && not s.steady)
 
 -- it can be changed: it will be written after that
 abbrev pub has_room : Option Mark → Bool
 has_room None = false
 has_room (Some m) = m.listed || m.writing
+
+-- it may go: it is clean, the host has nothing to do with it, and it isn't about to be changed
+abbrev pub may_go : Option Mark → Bool
+may_go None = false
+may_go (Some m) = (m.held && not m.dirty) && not (m.writing || (m.reading || (m.wanted || m.listed)))
 
 -- a page whose bytes came from the host's storage
 abbrev pub loaded : State → State

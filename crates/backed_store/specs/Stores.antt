@@ -1,9 +1,9 @@
 -- A backed store.
-use Rattle.std.specs.Prelude.{◌≡◌, ℕ, ◌+◌, ◌*◌, ◌/◌, ◌%◌, ◌<◌, Bool, List, if◌then◌else◌}
+use Rattle.std.specs.Prelude.{◌≡◌, ℕ, ◌+◌, ◌*◌, ◌/◌, ◌%◌, ◌<◌, Bool, List, IsTrue, if◌then◌else◌}
 use Rattle.block_store.specs.Blocks.{Blocks, nth_block}
 use Rattle.backed_store.specs.Marks as marks
 use Rattle.backed_store.specs.Marks.{State}
-use Rattle.backed_store.specs.Caches.{mark_at, state_at, bytes_at}
+use Rattle.backed_store.specs.Caches.{mark_at, state_at, bytes_at, number_at, again_at}
 use Rattle.backed_store.specs.Backing.{Host, after_all, opening}
 use Rattle.backed_store.specs.declared.backed.BackedStore.{BackedStore}
 
@@ -47,6 +47,29 @@ is_reading s p = marks.is_reading (mark_at s.cache p)
 abbrev pub is_writing : BackedStore → ℕ → Bool
 is_writing s p = marks.is_writing (state_at s.cache p)
 
+-- whether page p was changed since the host was given it, and the host has not answered
+abbrev pub is_rewritten : BackedStore → ℕ → Bool
+is_rewritten s p = marks.is_rewritten (state_at s.cache p)
+
+-- whether page p may go: it is clean, the host has nothing to do with it, and it isn't about to be changed
+abbrev pub may_go : BackedStore → ℕ → Bool
+may_go s p = marks.may_go (mark_at s.cache p)
+
+-- the number of the oldest change of page p that the host's storage may lack
+abbrev pub number_of : BackedStore → ℕ → ℕ
+number_of s p = number_at s.cache p
+
+-- the number of the first change of page p since the host was given it
+abbrev pub again_of : BackedStore → ℕ → ℕ
+again_of s p = again_at s.cache p
+
+-- page p owes the host's storage the same changes, if it was dirty
+pub record IsOwed (old new : BackedStore) (p : ℕ) : Type 0 where
+  pub dirty : IsTrue (is_dirty old p) → IsTrue (is_dirty new p)
+  pub number : IsTrue (is_dirty old p) → number_of new p ≡ number_of old p
+  pub rewritten : IsTrue (is_rewritten old p) → IsTrue (is_rewritten new p)
+  pub again : IsTrue (is_rewritten old p) → again_of new p ≡ again_of old p
+
 -- the bytes are the 8 blocks of page p
 abbrev pub IsPageOf : Blocks → ℕ → List ℕ → Type 0
 IsPageOf blocks p bytes = (k : ℕ) → k < 8 → nth_block bytes k ≡ blocks (8 * p + k)
@@ -56,7 +79,8 @@ pub record IsSame (old new : BackedStore) : Type 0 where
   pub blocks : (b : ℕ) → contents new b ≡ contents old b
   pub size : new.capacity ≡ old.capacity
 
--- what the host was given and kept
+-- what the host was given and kept, and is owed
 pub record IsHost (old new : BackedStore) : Type 0 where
   pub given : (b : ℕ) → (host_of new).given b ≡ (host_of old).given b
   pub kept : (b : ℕ) → (host_of new).kept b ≡ (host_of old).kept b
+  pub owed : (p : ℕ) → IsOwed old new p

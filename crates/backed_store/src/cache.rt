@@ -2,12 +2,14 @@
 
 ghost use Rattle.std.specs.Prelude.{◌≤◌};
 ghost use Rattle.backed_store.specs.Slots.{slot_count};
-ghost use Rattle.backed_store.specs.Standing.{AreQueued};
+ghost use Rattle.backed_store.specs.Standing.{AreIndexed};
 
 use crate::mark::Mark;
+use crate::page_set::PageSet;
 use crate::queue::PageQueue;
 use crate::slot::Slot;
 use crate::slots::Slots;
+use crate::unkept::Unkept;
 use block_store::{BLOCK_BYTES, Readiness};
 use foundation::NoMemory;
 use std::alloc::Global;
@@ -21,32 +23,39 @@ pub(crate) struct Cache {
     // The pages that the host is to be asked for.
     pub(crate) wanted: PageQueue,
     // The pages that were changed, or are about to be.
-    pub(crate) unwritten: PageQueue,
-    // The pages that may go.
-    pub(crate) idle: PageQueue,
+    pub(crate) unkept: Unkept,
+    // The pages that are in memory as the host's storage has them.
+    pub(crate) clean: PageSet,
+    // The place from which a page is looked for that may go.
+    pub(crate) hand: u64,
+    // The number of the latest change.
+    pub(crate) latest: u64,
     ghost bound: { slot_count slots ≤ budget },
-    ghost queued: { AreQueued slots wanted unwritten idle },
+    ghost indexed: { AreIndexed slots wanted unkept clean latest },
 }
 
 impl Cache {
-    ghost use Rattle.std.specs.Prelude.{◌≡◌, ◌≢◌, ℕ, ◌+◌, ◌%◌, ◌<◌, ◌==◌, None, IsTrue, OnOk, is_some, length, if◌then◌else◌};
+    ghost use Rattle.std.specs.Prelude.{◌≡◌, ◌≢◌, ℕ, ◌+◌, ◌%◌, ◌<◌, ◌==◌, None, false, IsTrue, OnOk, is_some, length, if◌then◌else◌};
     ghost use Rattle.block_store.specs.Blocks.{block_count, nth_block, overwritten, filled};
     ghost use Rattle.block_store.specs.declared.readiness.Readiness.TheVariants.{Ready, Full};
-    ghost use Rattle.backed_store.specs.Marks.{is_coming, is_listed, has_room, changed};
-    ghost use Rattle.backed_store.specs.Caches.{mark_at, state_at, bytes_at, IsKept};
+    ghost use Rattle.backed_store.specs.Marks.{is_coming, is_listed, is_rewritten, has_room, changed};
+    ghost use Rattle.backed_store.specs.Caches.{mark_at, state_at, bytes_at, number_at, again_at, IsKept};
 
     /// Makes a cache of no page. Takes no memory.
     pub(crate) fn new(alloc: Global, budget: usize) -> Cache
         ensures none { (p : ℕ) → mark_at result p ≡ None }
         ensures budget { result.budget ≡ budget }
+        ensures latest { result.latest ≡ 0 }
     {
         Cache {
             alloc,
             budget,
             slots: Slots::new(alloc),
             wanted: PageQueue::new(alloc),
-            unwritten: PageQueue::new(alloc),
-            idle: PageQueue::new(alloc),
+            unkept: Unkept::new(alloc),
+            clean: PageSet::new(alloc),
+            hand: 0,
+            latest: 0,
         }
     }
 
@@ -57,7 +66,7 @@ impl Cache {
         ensures some { OnOk result (IsTrue (is_some (mark_at self.new page))) }
         ensures kept { IsKept self.old self.new }
         ensures coming { (p : ℕ) → IsTrue (is_coming (mark_at self.old p)) → IsTrue (is_coming (mark_at self.new p)) }
-        ensures room { (p : ℕ) → IsTrue (has_room (mark_at self.old p)) → IsTrue (has_room (mark_at self.new p)) }
+        ensures room { (p : ℕ) → has_room (mark_at self.new p) ≡ has_room (mark_at self.old p) }
         ensures budget { self.new.budget ≡ self.old.budget }
     {
         let slot = Slot::unknown(self.alloc)?;
@@ -70,7 +79,7 @@ impl Cache {
         ensures some { IsTrue result → IsTrue (is_some (mark_at self.new page)) }
         ensures kept { IsKept self.old self.new }
         ensures coming { (p : ℕ) → IsTrue (is_coming (mark_at self.old p)) → IsTrue (is_coming (mark_at self.new p)) }
-        ensures room { (p : ℕ) → IsTrue (has_room (mark_at self.old p)) → IsTrue (has_room (mark_at self.new p)) }
+        ensures room { (p : ℕ) → has_room (mark_at self.new p) ≡ has_room (mark_at self.old p) }
         ensures budget { self.new.budget ≡ self.old.budget }
     {
         if self.slots.mark(page).is_some() {
@@ -80,6 +89,20 @@ impl Cache {
             return false;
         }
         self.add(page).is_ok()
+    }
+
+    /// Frees the slot of a page of which nothing is known.
+    fn give_back(&mut self, page: u64)
+        ensures kept { IsKept self.old self.new }
+        ensures coming { (p : ℕ) → is_coming (mark_at self.new p) ≡ is_coming (mark_at self.old p) }
+        ensures room { (p : ℕ) → has_room (mark_at self.new p) ≡ has_room (mark_at self.old p) }
+        ensures budget { self.new.budget ≡ self.old.budget }
+    {
+        if let Some(mark) = self.slots.mark(page) {
+            if mark.is_nothing() && !mark.listed {
+                self.slots.remove(page);
+            }
+        }
     }
 
     /// Puts a page that has a slot into the queue of the pages that the host is to be asked for. `NoMemory` where memory
@@ -105,21 +128,26 @@ impl Cache {
         Ok(())
     }
 
-    /// Puts a page that has a slot into the queue of the pages to be written. `NoMemory` where memory was refused.
+    /// Gives a change of a page that has a slot a number, and puts the page into the queue of those to be written. `NoMemory`
+    /// where memory was refused.
     pub(crate) fn list(&mut self, page: u64) -> Result<(), NoMemory>
         requires some { IsTrue (is_some (mark_at self.old page)) }
+        requires new { has_room (mark_at self.old page) ≡ false }
         ensures listed { OnOk result (IsTrue (is_listed (mark_at self.new page))) }
         ensures kept { IsKept self.old self.new }
         ensures coming { (p : ℕ) → IsTrue (is_coming (mark_at self.old p)) → IsTrue (is_coming (mark_at self.new p)) }
         ensures room { (p : ℕ) → IsTrue (has_room (mark_at self.old p)) → IsTrue (has_room (mark_at self.new p)) }
         ensures budget { self.new.budget ≡ self.old.budget }
     {
-        self.unwritten.push(page)?;
+        let number = self.latest.saturating_add(1);
+        self.unkept.insert(page, number)?;
+        self.latest = number;
         if let Some(mark) = self.slots.mark(page) {
             self.slots.set(
                 page,
                 Mark {
                     listed: true,
+                    number,
                     ..mark
                 },
             );
@@ -141,7 +169,10 @@ impl Cache {
         }
         match self.want(page) {
             Ok(()) => Readiness::Asked,
-            Err(_) => Readiness::Full,
+            Err(_) => {
+                self.give_back(page);
+                Readiness::Full
+            }
         }
     }
 
@@ -181,7 +212,11 @@ impl Cache {
         if !self.reach(page) {
             return false;
         }
-        self.list(page).is_ok()
+        if self.list(page).is_err() {
+            self.give_back(page);
+            return false;
+        }
+        true
     }
 
     /// Puts the bytes over blocks of a page that can be changed.
@@ -193,9 +228,14 @@ impl Cache {
         ensures others { (p : ℕ) → p ≢ page → bytes_at self.new p ≡ bytes_at self.old p }
         ensures states { (p : ℕ) → state_at self.new p ≡ (if p == page then changed (state_at self.old p) else state_at self.old p) }
         ensures keeps_room { (p : ℕ) → has_room (mark_at self.new p) ≡ has_room (mark_at self.old p) }
+        ensures numbers { (p : ℕ) → number_at self.new p ≡ number_at self.old p }
+        ensures again { (p : ℕ) → IsTrue (is_rewritten (state_at self.old p)) → again_at self.new p ≡ again_at self.old p }
         ensures budget { self.new.budget ≡ self.old.budget }
     {
-        self.slots.put(page, from, bytes);
+        let number = self.latest.saturating_add(1);
+        self.clean.remove(page);
+        self.latest = number;
+        self.slots.put(page, number, from, bytes);
     }
 
     /// Puts the block into each of `count` places of a page that can be changed.
@@ -206,8 +246,13 @@ impl Cache {
         ensures others { (p : ℕ) → p ≢ page → bytes_at self.new p ≡ bytes_at self.old p }
         ensures states { (p : ℕ) → state_at self.new p ≡ (if p == page then changed (state_at self.old p) else state_at self.old p) }
         ensures keeps_room { (p : ℕ) → has_room (mark_at self.new p) ≡ has_room (mark_at self.old p) }
+        ensures numbers { (p : ℕ) → number_at self.new p ≡ number_at self.old p }
+        ensures again { (p : ℕ) → IsTrue (is_rewritten (state_at self.old p)) → again_at self.new p ≡ again_at self.old p }
         ensures budget { self.new.budget ≡ self.old.budget }
     {
-        self.slots.fill(page, from, count, block);
+        let number = self.latest.saturating_add(1);
+        self.clean.remove(page);
+        self.latest = number;
+        self.slots.fill(page, number, from, count, block);
     }
 }

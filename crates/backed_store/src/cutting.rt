@@ -17,11 +17,16 @@ impl Cache {
         ensures budget { self.new.budget ≡ self.old.budget }
     {
         let place = place_of(end);
+        let page = page_of(end);
         if place == 0 {
-            self.slots.cut(page_of(end));
+            self.slots.cut(page);
+            self.unkept.cut(page);
+            self.clean.cut(page);
             return;
         }
-        self.slots.cut(page_of(end) + 1);
-        self.slots.wipe(page_of(end), place);
+        self.slots.cut(page + 1);
+        self.unkept.cut(page + 1);
+        self.clean.cut(page + 1);
+        self.slots.wipe(page, place);
     }
 }

@@ -1,8 +1,8 @@
 //! Pages that come.
 
-ghost use Rattle.std.specs.Prelude.{◌≡◌, ◌≢◌, ℕ, ◌<◌, true, false, None, IsTrue, IsFalse, IfSome, IfNone, OnOk, OnErr, is_some, length, if◌then◌else◌, ◌==◌};
-ghost use Rattle.backed_store.specs.Marks.{is_coming, is_wanted, is_reading, is_queued, has_room, loaded};
-ghost use Rattle.backed_store.specs.Caches.{mark_at, state_at, bytes_at, IsKept};
+ghost use Rattle.std.specs.Prelude.{◌≡◌, ◌≢◌, ℕ, ◌<◌, ◌&&◌, true, false, None, IsTrue, IsFalse, IfSome, IfNone, OnOk, OnErr, is_some, length, if◌then◌else◌, ◌==◌};
+ghost use Rattle.backed_store.specs.Marks.{is_coming, is_wanted, is_reading, has_room, loaded};
+ghost use Rattle.backed_store.specs.Caches.{mark_at, state_at, bytes_at, number_at, again_at, IsKept};
 ghost use Rattle.backed_store.specs.Queues.{queue_len};
 
 use crate::cache::Cache;
@@ -18,6 +18,8 @@ impl Cache {
         ensures reading { IfSome result (λ taken. IsTrue taken.1 → IsTrue (is_reading (mark_at self.new taken.0))) }
         ensures none { IfNone result ((p : ℕ) → is_wanted (mark_at self.new p) ≡ false) }
         ensures len { IfSome result (λ taken. queue_len self.new.wanted < queue_len self.old.wanted) }
+        ensures others { IfSome result (λ taken. (p : ℕ) → IsTrue (is_wanted (mark_at self.old p)) → (state_at self.old p).held ≡ false →
+            (taken.1 && p == taken.0) ≡ false → IsTrue (is_wanted (mark_at self.new p))) }
         ensures kept { IsKept self.old self.new }
         ensures coming { (p : ℕ) → IsTrue (is_coming (mark_at self.old p)) → IsTrue (is_coming (mark_at self.new p)) }
         ensures room { (p : ℕ) → IsTrue (has_room (mark_at self.old p)) → IsTrue (has_room (mark_at self.new p)) }
@@ -42,6 +44,8 @@ impl Cache {
     /// Returns the next page that the host is to be asked for, which it is from now on; `None` where no page is wanted.
     pub(crate) fn next_wanted(&mut self) -> Option<u64>
         ensures wanted { IfSome result (λ page. (state_at self.old page).held ≡ false) }
+        ensures others { IfSome result (λ page. (p : ℕ) → p ≢ page → IsTrue (is_wanted (mark_at self.old p)) → (state_at self.old p).held ≡ false →
+            IsTrue (is_wanted (mark_at self.new p))) }
         ensures reading { IfSome result (λ page. IsTrue (is_reading (mark_at self.new page))) }
         ensures none { IfNone result ((p : ℕ) → is_wanted (mark_at self.new p) ≡ false) }
         ensures kept { IsKept self.old self.new }
@@ -55,33 +59,6 @@ impl Cache {
             }
         }
         None
-    }
-
-    /// Puts a page that has a slot into the queue of those that may go, if it doesn't stand there. `NoMemory` where memory
-    /// was refused.
-    pub(crate) fn queue(&mut self, page: u64) -> Result<(), NoMemory>
-        requires some { IsTrue (is_some (mark_at self.old page)) }
-        ensures queued { OnOk result (IsTrue (is_queued (mark_at self.new page))) }
-        ensures kept { IsKept self.old self.new }
-        ensures coming { (p : ℕ) → IsTrue (is_coming (mark_at self.old p)) → IsTrue (is_coming (mark_at self.new p)) }
-        ensures room { (p : ℕ) → IsTrue (has_room (mark_at self.old p)) → IsTrue (has_room (mark_at self.new p)) }
-        ensures budget { self.new.budget ≡ self.old.budget }
-    {
-        let Some(mark) = self.slots.mark(page) else {
-            return Ok(());
-        };
-        if mark.queued {
-            return Ok(());
-        }
-        self.idle.push(page)?;
-        self.slots.set(
-            page,
-            Mark {
-                queued: true,
-                ..mark
-            },
-        );
-        Ok(())
     }
 
     /// Notes that the host's answer for a page isn't awaited any more.
@@ -129,6 +106,9 @@ impl Cache {
     pub(crate) fn load(&mut self, page: u64, bytes: &[u8]) -> Result<(), NoMemory>
         requires some { IsTrue (is_some (mark_at self.old page)) }
         requires len { length bytes.now ≡ PAGE_BYTES }
+        requires absent { (state_at self.old page).held ≡ false }
+        ensures numbers { (p : ℕ) → number_at self.new p ≡ number_at self.old p }
+        ensures again { (p : ℕ) → again_at self.new p ≡ again_at self.old p }
         ensures states { OnOk result ((p : ℕ) → state_at self.new p ≡ (if p == page then loaded (state_at self.old p) else state_at self.old p)) }
         ensures here { OnOk result (bytes_at self.new page ≡ bytes.now) }
         ensures others { OnOk result ((p : ℕ) → p ≢ page → IsTrue (state_at self.old p).held → bytes_at self.new p ≡ bytes_at self.old p) }
@@ -137,7 +117,7 @@ impl Cache {
         ensures room { (p : ℕ) → IsTrue (has_room (mark_at self.old p)) → IsTrue (has_room (mark_at self.new p)) }
         ensures budget { self.new.budget ≡ self.old.budget }
     {
-        self.queue(page)?;
+        self.clean.insert(page)?;
         self.slots.load(page, bytes);
         Ok(())
     }

@@ -5,21 +5,26 @@
 //! Each block is what the store holds of it, else what the host last said that it kept, whatever comes and goes. A page
 //! that isn't kept as it stands is never evicted. One that changed while it was written isn't clean. A load changes
 //! nothing that is held. A page that the host can't read isn't on its way until it is asked for again. At most as many
-//! pages are held as the budget allows. No unit of the device stands on it yet.
+//! pages are held as the budget allows. An eviction finds a page that may go and isn't spared, if there is one. Where no
+//! change up to a number is unkept, the storage has each block that didn't change later. A page stays dirty from its oldest
+//! change on until that is kept. No unit of the device stands on it yet.
 #![tactic(auto)]
 
 mod backed;
 mod cache;
+mod change_set;
 mod cutting;
 mod dealing;
 mod disk;
 mod disk_store;
 mod evicting;
+mod fencing;
 mod fetching;
 mod given;
 mod mark;
 mod numbers;
 mod page_range;
+mod page_set;
 mod paging;
 mod parts;
 mod queue;
@@ -27,6 +32,7 @@ mod ranges;
 mod slot;
 mod slots;
 mod storing;
+mod unkept;
 mod writing_back;
 
 pub use backed::BackedStore;

@@ -1,9 +1,9 @@
 //! Pages that come and go.
 
-ghost use Rattle.std.specs.Prelude.{◌≡◌, ◌≢◌, ℕ, ◌*◌, ◌/◌, ◌&&◌, not, true, false, length, IsTrue, IfOk, OnOk, OnErr, IfSome, IfNone, if◌then◌else◌};
+ghost use Rattle.std.specs.Prelude.{◌≡◌, ◌≢◌, ℕ, ◌*◌, ◌/◌, ◌^◌, ◌<◌, ◌&&◌, not, true, false, length, IsTrue, IsFalse, IfOk, OnOk, OnErr, IfSome, IfNone, if◌then◌else◌};
 ghost use Rattle.backed_store.specs.Backing.{with_page};
 ghost use Rattle.backed_store.specs.Spared.{is_spared};
-ghost use Rattle.backed_store.specs.Stores.{contents, holds, is_coming, has_room, is_wanted, is_reading, is_writing, is_dirty, host_of, backing_of, IsPageOf, IsSame, IsHost};
+ghost use Rattle.backed_store.specs.Stores.{contents, holds, is_coming, has_room, is_wanted, is_reading, is_writing, is_dirty, is_rewritten, may_go, number_of, again_of, host_of, backing_of, IsPageOf, IsSame, IsHost, IsOwed};
 
 use crate::backed::BackedStore;
 use crate::dealing::{Dealing, GivenPage};
@@ -19,6 +19,8 @@ impl BackedStore {
         ensures absent { IfSome result (λ page. holds self.old (8 * page) ≡ false) }
         ensures reading { IfSome result (λ page. IsTrue (is_reading self.new page)) }
         ensures none { IfNone result ((p : ℕ) → is_wanted self.new p ≡ false) }
+        // Each other page that is wanted is told later.
+        ensures others { IfSome result (λ page. (p : ℕ) → p ≢ page → IsTrue (is_wanted self.old p) → holds self.old (8 * p) ≡ false → IsTrue (is_wanted self.new p)) }
         ensures same { IsSame self.old self.new }
         ensures host { IsHost self.old self.new }
         ensures held { (b : ℕ) → holds self.new b ≡ holds self.old b }
@@ -79,15 +81,17 @@ impl BackedStore {
         ensures same { IsSame self.old self.new }
         // Of one page no two writes are under way.
         ensures alone { IfOk result (λ given. IfSome given (λ g. (is_writing self.old g.page ≡ false) × IsTrue (is_writing self.new g.page))) }
+        ensures others { IfOk result (λ given. IfSome given (λ g. (p : ℕ) → p ≢ g.page → is_writing self.new p ≡ is_writing self.old p)) }
         ensures dirty { IfOk result (λ given. IfSome given (λ g. IsTrue (is_dirty self.old g.page))) }
         ensures bytes { IfOk result (λ given. IfSome given (λ g. IsPageOf (contents self.old) g.page g.bytes.items)) }
         ensures given { IfOk result (λ given. IfSome given (λ g. (b : ℕ) →
             (host_of self.new).given b ≡ with_page g.page (contents self.old) (host_of self.old).given b)) }
         ensures none { IfOk result (λ given. IfNone given ((p : ℕ) → IsTrue (is_dirty self.new p) → IsTrue (is_writing self.new p))) }
         ensures kept { (b : ℕ) → backing_of self.new b ≡ backing_of self.old b }
+        ensures owed { (p : ℕ) → IsOwed self.old self.new p }
         ensures held { (b : ℕ) → holds self.new b ≡ holds self.old b }
     {
-        if self.cache.unwritten.len() == 0 {
+        if self.cache.unkept.unwritten.len() == 0 {
             return Ok(None);
         }
         let room = Vec::with_capacity(self.alloc, PAGE_BYTES)?;
@@ -113,6 +117,13 @@ impl BackedStore {
             ≡ (if kept && is_writing self.old page then with_page page (host_of self.old).given (backing_of self.old) b else backing_of self.old b)) }
         ensures err { OnErr result ((b : ℕ) → backing_of self.new b ≡ backing_of self.old b) }
         ensures over { OnOk result (is_writing self.new page ≡ false) }
+        // What changed since the page was given is owed from the first of these changes on.
+        ensures again { OnOk result (IsTrue kept → IsTrue (is_rewritten self.old page) → IsTrue (is_dirty self.new page)) }
+        ensures later { OnOk result (IsTrue kept → IsTrue (is_rewritten self.old page) → number_of self.new page ≡ again_of self.old page) }
+        ensures failed { OnOk result (IsFalse kept → IsTrue (is_dirty self.old page) → IsTrue (is_dirty self.new page)) }
+        ensures earlier { OnOk result (IsFalse kept → IsTrue (is_dirty self.old page) → number_of self.new page ≡ number_of self.old page) }
+        ensures others { OnOk result ((p : ℕ) → p ≢ page → IsOwed self.old self.new p) }
+        ensures owed { OnErr result ((p : ℕ) → IsOwed self.old self.new p) }
         ensures held { (b : ℕ) → holds self.new b ≡ holds self.old b }
     {
         let Some(mark) = self.cache.slots.mark(page) else {
@@ -121,15 +132,16 @@ impl BackedStore {
         if !mark.held || !mark.writing {
             return Ok(());
         }
-        self.cache.end_write(page, kept && mark.steady)?;
+        self.cache.end_write(page, kept)?;
         if kept {
             given::record(&mut self.dealings, &Dealing::Kept(page));
         }
         Ok(())
     }
 
-    /// Drops a clean page from memory with which the host has nothing to do, and that isn't spared. Returns the page;
-    /// `None` where none was found. Pages that were used since they were last considered are given another round.
+    /// Drops a clean page from memory with which the host has nothing to do, that isn't about to be changed, and that isn't
+    /// spared by one of at most 16 ranges. Returns the page; `None` where there is none. Goes round the pages as a clock
+    /// does: one that was used since it was last considered is given another round, at most 64 in one call.
     pub fn evict(&mut self, spared: &[PageRange]) -> Option<u64>
         ensures same { IsSame self.old self.new }
         ensures host { IsHost self.old self.new }
@@ -139,6 +151,7 @@ impl BackedStore {
         // So what the host was asked or given before comes to an end before the page is asked for again.
         ensures idle { IfSome result (λ page. (is_reading self.old page ≡ false) × (is_writing self.old page ≡ false)) }
         ensures others { IfSome result (λ page. (b : ℕ) → b / 8 ≢ page → holds self.new b ≡ holds self.old b) }
+        ensures none { IfNone result ((p : ℕ) → p < 2 ^ 64 → IsTrue (may_go self.old p) → IsTrue (is_spared spared.now p)) }
         ensures otherwise { IfNone result ((b : ℕ) → holds self.new b ≡ holds self.old b) }
     {
         self.cache.evict(spared)

@@ -146,6 +146,7 @@ impl BackedStore {
         ensures blocks { (b : ℕ) → contents self.new b ≡ overwritten (contents self.old) first bytes.now b }
         ensures held { (b : ℕ) → IsTrue (holds self.old b) → IsTrue (holds self.new b) }
         ensures keeps_room { (b : ℕ) → IsTrue (has_room self.old b) → IsTrue (has_room self.new b) }
+        ensures host { IsHost self.old self.new }
         ensures size { self.new.capacity ≡ self.old.capacity }
     {
         let count = bytes.len() / BLOCK_BYTES;
@@ -167,6 +168,7 @@ impl BackedStore {
         ensures blocks { (b : ℕ) → contents self.new b ≡ filled (contents self.old) first count block.now b }
         ensures held { (b : ℕ) → IsTrue (holds self.old b) → IsTrue (holds self.new b) }
         ensures keeps_room { (b : ℕ) → IsTrue (has_room self.old b) → IsTrue (has_room self.new b) }
+        ensures host { IsHost self.old self.new }
         ensures size { self.new.capacity ≡ self.old.capacity }
     {
         let mut done = 0;

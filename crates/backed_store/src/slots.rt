@@ -140,38 +140,45 @@ impl Slots {
         let _slot = self.pages.remove(&page);
     }
 
-    /// Puts the bytes over blocks of a page that has a slot.
-    pub(crate) fn put(&mut self, page: u64, from: usize, bytes: &[u8])
+    /// Puts the bytes over blocks of a page that has a slot, by the change of a number.
+    pub(crate) fn put(&mut self, page: u64, number: u64, from: usize, bytes: &[u8])
         requires some { IsTrue (is_some (mark_at self.old page)) }
         requires whole { length bytes.now % BLOCK_BYTES ≡ 0 }
         requires range { from + block_count bytes.now ≤ 8 }
         ensures here { (k : ℕ) → nth_block (bytes_at self.new page) k ≡ overwritten (nth_block (bytes_at self.old page)) from bytes.now k }
         ensures others { (p : ℕ) → p ≢ page → bytes_at self.new p ≡ bytes_at self.old p }
-        ensures marks { (p : ℕ) → mark_at self.new p ≡ (if p == page then option_map changed (mark_at self.old p) else mark_at self.old p) }
+        ensures marks { (p : ℕ) → mark_at self.new p ≡ (if p == page then option_map (changed number) (mark_at self.old p) else mark_at self.old p) }
         ensures count { slot_count self.new ≡ slot_count self.old }
     {
         match self.pages.get_mut(&page) {
             Some(slot) => {
                 slot.put(from, bytes);
-                slot.mark = slot.mark.changed();
+                slot.mark = slot.mark.changed(number);
             }
             None => {}
         }
     }
 
-    /// Puts the block into each of `count` places of a page that has a slot.
-    pub(crate) fn fill(&mut self, page: u64, from: usize, count: usize, block: &[u8; BLOCK_BYTES])
+    /// Puts the block into each of `count` places of a page that has a slot, by the change of a number.
+    pub(crate) fn fill(
+        &mut self,
+        page: u64,
+        number: u64,
+        from: usize,
+        count: usize,
+        block: &[u8; BLOCK_BYTES],
+    )
         requires some { IsTrue (is_some (mark_at self.old page)) }
         requires range { from + count ≤ 8 }
         ensures here { (k : ℕ) → nth_block (bytes_at self.new page) k ≡ filled (nth_block (bytes_at self.old page)) from count block.now k }
         ensures others { (p : ℕ) → p ≢ page → bytes_at self.new p ≡ bytes_at self.old p }
-        ensures marks { (p : ℕ) → mark_at self.new p ≡ (if p == page then option_map changed (mark_at self.old p) else mark_at self.old p) }
+        ensures marks { (p : ℕ) → mark_at self.new p ≡ (if p == page then option_map (changed number) (mark_at self.old p) else mark_at self.old p) }
         ensures count { slot_count self.new ≡ slot_count self.old }
     {
         match self.pages.get_mut(&page) {
             Some(slot) => {
                 slot.fill(from, count, block);
-                slot.mark = slot.mark.changed();
+                slot.mark = slot.mark.changed(number);
             }
             None => {}
         }

@@ -1,8 +1,8 @@
 //! Pages that the host writes.
 
-ghost use Rattle.std.specs.Prelude.{◌≡◌, ◌≢◌, ℕ, ◌<◌, ◌&&◌, not, true, false, None, IsTrue, IsFalse, IfSome, IfNone, OnOk, OnErr, is_some, length, if◌then◌else◌, ◌==◌};
-ghost use Rattle.backed_store.specs.Marks.{is_dirty, is_writing, given, answered};
-ghost use Rattle.backed_store.specs.Caches.{mark_at, state_at, bytes_at, IsKept};
+ghost use Rattle.std.specs.Prelude.{◌≡◌, ◌≢◌, ℕ, ◌<◌, ◌≤◌, ◌&&◌, not, true, false, None, IsTrue, IsFalse, IfSome, IfNone, OnOk, OnErr, is_some, length, if◌then◌else◌, ◌==◌};
+ghost use Rattle.backed_store.specs.Marks.{is_dirty, is_writing, is_rewritten, given, answered};
+ghost use Rattle.backed_store.specs.Caches.{mark_at, state_at, bytes_at, number_at, again_at, IsKept};
 ghost use Rattle.backed_store.specs.Queues.{queue_len};
 
 use crate::cache::Cache;
@@ -18,28 +18,25 @@ impl Cache {
         ensures bytes { (p : ℕ) → IsTrue (state_at self.old p).held → bytes_at self.new p ≡ bytes_at self.old p }
         ensures none { IfNone result ((p : ℕ) → IsTrue (is_dirty (state_at self.new p)) → IsTrue (is_writing (state_at self.new p))) }
         ensures kept { IfNone result (IsKept self.old self.new) }
-        ensures len { IfSome result (λ taken. queue_len self.new.unwritten < queue_len self.old.unwritten) }
+        ensures numbers { (p : ℕ) → IsTrue (is_dirty (state_at self.old p)) → number_at self.new p ≡ number_at self.old p }
+        ensures again { (p : ℕ) → IsTrue (is_rewritten (state_at self.old p)) → again_at self.new p ≡ again_at self.old p }
+        ensures len { IfSome result (λ taken. queue_len self.new.unkept.unwritten < queue_len self.old.unkept.unwritten) }
         ensures budget { self.new.budget ≡ self.old.budget }
     {
-        let page = self.unwritten.pop()?;
+        let page = self.unkept.unwritten.pop()?;
         let Some(mark) = self.slots.mark(page) else {
             return Some((page, false));
         };
         if mark.is_nothing() {
+            self.unkept.settle(page, mark.number, false);
             self.slots.remove(page);
             return Some((page, false));
         }
-        let now = mark.held && mark.dirty && !mark.writing;
-        self.slots.set(
-            page,
-            Mark {
-                listed: false,
-                writing: mark.writing || now,
-                steady: mark.steady || now,
-                ..mark
-            },
-        );
-        Some((page, now))
+        let due = mark.is_due();
+        let next = mark.taken(due);
+        self.unkept.settle(page, mark.number, next.writing);
+        self.slots.set(page, next);
+        Some((page, due))
     }
 
     /// Returns the next page that the host is to write, which it is given; `None` where each dirty page is given already.
@@ -47,6 +44,8 @@ impl Cache {
         ensures dirty { IfSome result (λ page. IsTrue (is_dirty (state_at self.old page)) × ((state_at self.old page).writing ≡ false)) }
         ensures states { IfSome result (λ page. (p : ℕ) → state_at self.new p ≡ (if p == page then given (state_at self.old p) else state_at self.old p)) }
         ensures kept { IfNone result (IsKept self.old self.new) }
+        ensures numbers { (p : ℕ) → IsTrue (is_dirty (state_at self.old p)) → number_at self.new p ≡ number_at self.old p }
+        ensures again { (p : ℕ) → IsTrue (is_rewritten (state_at self.old p)) → again_at self.new p ≡ again_at self.old p }
         ensures bytes { (p : ℕ) → IsTrue (state_at self.old p).held → bytes_at self.new p ≡ bytes_at self.old p }
         ensures none { IfNone result ((p : ℕ) → IsTrue (is_dirty (state_at self.new p)) → IsTrue (is_writing (state_at self.new p))) }
         ensures budget { self.new.budget ≡ self.old.budget }
@@ -61,20 +60,24 @@ impl Cache {
 
     /// Notes that the host has written a page as it is, which is clean then. `NoMemory` where memory was refused.
     fn keep(&mut self, page: u64) -> Result<(), NoMemory>
-        requires some { IsTrue (is_some (mark_at self.old page)) }
+        requires held { IsTrue (state_at self.old page).held }
         ensures states { OnOk result ((p : ℕ) → state_at self.new p ≡ (if p == page then answered true (state_at self.old p) else state_at self.old p)) }
         ensures bytes { (p : ℕ) → IsTrue (state_at self.old p).held → bytes_at self.new p ≡ bytes_at self.old p }
+        ensures numbers { OnOk result ((p : ℕ) → p ≢ page → number_at self.new p ≡ number_at self.old p) }
+        ensures again { OnOk result ((p : ℕ) → p ≢ page → again_at self.new p ≡ again_at self.old p) }
         ensures err { OnErr result (IsKept self.old self.new) }
         ensures budget { self.new.budget ≡ self.old.budget }
     {
-        self.queue(page)?;
+        self.clean.insert(page)?;
         if let Some(mark) = self.slots.mark(page) {
+            self.unkept.settle(page, mark.number, false);
             self.slots.set(
                 page,
                 Mark {
                     dirty: false,
                     writing: false,
                     steady: false,
+                    listed: false,
                     ..mark
                 },
             );
@@ -82,42 +85,62 @@ impl Cache {
         Ok(())
     }
 
-    /// Notes that a page is to be written again, since it changed while the host wrote it, or the host couldn't. `NoMemory`
-    /// where memory was refused.
-    fn write_again(&mut self, page: u64) -> Result<(), NoMemory>
-        requires some { IsTrue (is_some (mark_at self.old page)) }
+    /// Notes that a page is to be written again, from the change of a number on, since it changed while the host wrote it,
+    /// or the host couldn't. `NoMemory` where memory was refused.
+    fn write_again(&mut self, page: u64, number: u64) -> Result<(), NoMemory>
+        requires writing { IsTrue (is_writing (state_at self.old page)) }
+        requires bound { number ≤ self.old.latest }
         ensures states { OnOk result ((p : ℕ) → state_at self.new p ≡ (if p == page then answered false (state_at self.old p) else state_at self.old p)) }
         ensures bytes { (p : ℕ) → IsTrue (state_at self.old p).held → bytes_at self.new p ≡ bytes_at self.old p }
+        ensures number { OnOk result (number_at self.new page ≡ number) }
+        ensures numbers { OnOk result ((p : ℕ) → p ≢ page → number_at self.new p ≡ number_at self.old p) }
+        ensures again { OnOk result ((p : ℕ) → again_at self.new p ≡ again_at self.old p) }
         ensures err { OnErr result (IsKept self.old self.new) }
         ensures budget { self.new.budget ≡ self.old.budget }
     {
-        self.list(page)?;
-        if let Some(mark) = self.slots.mark(page) {
-            self.slots.set(
-                page,
-                Mark {
-                    dirty: true,
-                    writing: false,
-                    steady: false,
-                    ..mark
-                },
-            );
-        }
+        let Some(mark) = self.slots.mark(page) else {
+            return Ok(());
+        };
+        self.unkept.renumber(page, mark.number, number)?;
+        self.clean.remove(page);
+        self.slots.set(
+            page,
+            Mark {
+                dirty: true,
+                writing: false,
+                steady: false,
+                listed: true,
+                number,
+                ..mark
+            },
+        );
         Ok(())
     }
 
-    /// Notes that the host's write of a page is over. The page is clean then, or else is to be written again. `NoMemory`
-    /// where memory was refused.
-    pub(crate) fn end_write(&mut self, page: u64, clean: bool) -> Result<(), NoMemory>
-        requires some { IsTrue (is_some (mark_at self.old page)) }
-        ensures states { OnOk result ((p : ℕ) → state_at self.new p ≡ (if p == page then answered clean (state_at self.old p) else state_at self.old p)) }
+    /// Notes that the host's write of a page is over: it was kept, or it failed. The page is clean if it was kept as it is.
+    /// Else it is to be written again: from the first change behind the one that was kept, or from the same as before.
+    /// `NoMemory` where memory was refused.
+    pub(crate) fn end_write(&mut self, page: u64, kept: bool) -> Result<(), NoMemory>
+        requires writing { IsTrue (is_writing (state_at self.old page)) }
+        ensures states { OnOk result ((p : ℕ) → state_at self.new p
+            ≡ (if p == page then answered (kept && (state_at self.old p).steady) (state_at self.old p) else state_at self.old p)) }
         ensures bytes { (p : ℕ) → IsTrue (state_at self.old p).held → bytes_at self.new p ≡ bytes_at self.old p }
+        ensures failed { OnOk result (IsFalse kept → number_at self.new page ≡ number_at self.old page) }
+        ensures later { OnOk result (IsTrue kept → IsTrue (is_rewritten (state_at self.old page)) → number_at self.new page ≡ again_at self.old page) }
+        ensures numbers { OnOk result ((p : ℕ) → p ≢ page → number_at self.new p ≡ number_at self.old p) }
+        ensures again { OnOk result ((p : ℕ) → p ≢ page → again_at self.new p ≡ again_at self.old p) }
         ensures err { OnErr result (IsKept self.old self.new) }
         ensures budget { self.new.budget ≡ self.old.budget }
     {
-        if clean {
+        let Some(mark) = self.slots.mark(page) else {
+            return Ok(());
+        };
+        if !kept {
+            return self.write_again(page, mark.number);
+        }
+        if mark.steady {
             return self.keep(page);
         }
-        self.write_again(page)
+        self.write_again(page, mark.again)
     }
 }

@@ -1,6 +1,7 @@
 use Rattle.std.proofs.Common.{◌≡◌, ◌+◌, ◌%◌, ◌∙◌, arith}
 use Rattle.block_store.proofs.Paging.{covered-next}
 use Rattle.backed_store.specs.Stores.{contents}
+use Rattle.backed_store.proofs.Kept.{host-then}
 use Rattle.backed_store.proofs.backed.BackedStore.fill.Goals as goal
 
 pub loop-done-preserved : goal.loop-done-preserved
@@ -17,5 +18,6 @@ loop-done-preserved c =
           c.args.first c.loop-done.done c.in_page-some.result so_far.blocks here.blocks;
       held = λ b was. here.held b (so_far.held b was);
       keeps_room = λ b was. here.keeps_room b (so_far.keeps_room b was);
+      host = host-then so_far.host here.host;
       size = here.size ∙ so_far.size;
     }

@@ -1,6 +1,6 @@
 use Rattle.std.proofs.Common.{◌≡◌, ℕ, ◌+◌, ◌-◌, ◌%◌, ◌<◌, ◌≤◌, IsTrue}
 use Rattle.block_store.specs.Pages.{covered}
-use Rattle.backed_store.specs.Stores.{contents, holds, has_room}
+use Rattle.backed_store.specs.Stores.{contents, holds, has_room, IsHost}
 use Rattle.backed_store.proofs.backed.BackedStore.fill.Given as goal
 
 -- the first blocks are written, up to the end of a page
@@ -11,6 +11,7 @@ invariant-loop-done l = record {
   blocks : (b : ℕ) → contents l.self b ≡ covered (contents l.fn.self) (λ _. l.block) l.first l.done b;
   held : (b : ℕ) → IsTrue (holds l.fn.self b) → IsTrue (holds l.self b);
   keeps_room : (b : ℕ) → IsTrue (has_room l.fn.self b) → IsTrue (has_room l.self b);
+  host : IsHost l.fn.self l.self;
   size : l.self.capacity ≡ l.fn.self.capacity;
 }
 

@@ -2,6 +2,7 @@ use Rattle.std.proofs.Common.{◌≡◌, ◌+◌, ◌-◌, ◌*◌, ◌%◌, ◌
 use Rattle.block_store.specs.Blocks.{block_count, nth_block}
 use Rattle.block_store.proofs.Paging.{covered-next, chunk-covered}
 use Rattle.backed_store.specs.Stores.{contents}
+use Rattle.backed_store.proofs.Kept.{host-then}
 use Rattle.backed_store.proofs.backed.BackedStore.put.Goals as goal
 
 pub loop-done-preserved : goal.loop-done-preserved
@@ -25,5 +26,6 @@ loop-done-preserved c =
           (λ b. here.blocks b ∙ chunk-covered (contents c.loop-done.self) bytes first done some (512 * (done + some) - 512 * done) size fits b);
       held = λ b was. here.held b (so_far.held b was);
       keeps_room = λ b was. here.keeps_room b (so_far.keeps_room b was);
+      host = host-then so_far.host here.host;
       size = here.size ∙ so_far.size;
     }

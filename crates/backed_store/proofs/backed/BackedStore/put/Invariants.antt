@@ -1,7 +1,7 @@
 use Rattle.std.proofs.Common.{◌≡◌, ℕ, ◌+◌, ◌-◌, ◌%◌, ◌<◌, ◌≤◌, IsTrue}
 use Rattle.block_store.specs.Blocks.{nth_block}
 use Rattle.block_store.specs.Pages.{covered}
-use Rattle.backed_store.specs.Stores.{contents, holds, has_room}
+use Rattle.backed_store.specs.Stores.{contents, holds, has_room, IsHost}
 use Rattle.backed_store.proofs.backed.BackedStore.put.Given as goal
 
 -- the first blocks are written, up to the end of a page
@@ -12,6 +12,7 @@ invariant-loop-done l = record {
   blocks : (b : ℕ) → contents l.self b ≡ covered (contents l.fn.self) (λ c. nth_block l.bytes (c - l.first)) l.first l.done b;
   held : (b : ℕ) → IsTrue (holds l.fn.self b) → IsTrue (holds l.self b);
   keeps_room : (b : ℕ) → IsTrue (has_room l.fn.self b) → IsTrue (has_room l.self b);
+  host : IsHost l.fn.self l.self;
   size : l.self.capacity ≡ l.fn.self.capacity;
 }
 

@@ -1,0 +1,15 @@
+use Rattle.std.proofs.Common.{rules, ◌≡◌, true, ℕ, nat_lt, ap, ◌∙◌, arith}
+use Rattle.std.specs.Ordering.{nat_cmp, is_eq}
+use Rattle.std.specs.List.{list_any}
+use Rattle.std.proofs.lemmas.Bool.Decides.{nat_tests}
+use Rattle.std.proofs.lemmas.Fn.{filter_same}
+use Rattle.std.proofs.lemmas.Map.Views.{any-filter_same}
+use Rattle.backed_store.proofs.page_set.PageSet.cut.Goals as goal
+
+pub returns : goal.returns
+returns c = λ p.
+    let end = c.args.end in
+    let old = c.args.self.now.pages.keys in
+    let kept = filter_same _ (λ k. nat_lt k end) _ (λ k b f t. search rules) old c.retain.new.self.keys c.retain.ensures.filtered in
+    let same : (k : ℕ) → is_eq (nat_cmp p k) ≡ true → nat_lt k end ≡ nat_lt p end = λ k is. grind (arith, nat_tests, is) in
+    ap (λ ks. list_any (λ k. is_eq (nat_cmp p k)) ks) kept ∙ any-filter_same (λ k. is_eq (nat_cmp p k)) (λ k. nat_lt k end) (nat_lt p end) same old
