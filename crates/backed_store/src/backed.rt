@@ -18,6 +18,8 @@ pub struct BackedStore {
     pub(crate) alloc: Global,
     pub(crate) capacity: u64,
     pub(crate) cache: Cache,
+    // How many reads in place were noted, from 0 again behind the largest number.
+    pub(crate) reads: u32,
     // The bytes that the storage had at the opening.
     pub(crate) content: Record<u8>,
     // What the host was given since, and kept.
@@ -49,6 +51,7 @@ impl BackedStore {
             alloc,
             capacity: blocks,
             cache: Cache::new(alloc, budget),
+            reads: 0,
             content,
             dealings: Record::new(),
         }

@@ -82,7 +82,7 @@ impl Disk {
     ghost use Rattle.block_store.specs.Drafts.{edges_draft, prepared_draft};
     ghost use Rattle.block_store.specs.Inner.Drafts.{IsAsCopied};
     ghost use Rattle.block_store.specs.Pages.{covered};
-    ghost use Rattle.backed_store.specs.Disks.{size_of, blocks_of, holds, has_room, is_whole};
+    ghost use Rattle.backed_store.specs.Disks.{size_of, blocks_of, holds, is_coming, has_room, is_whole};
 
     /// Returns true if it isn't backed: all its blocks are in memory, now and later, and can be written over.
     #[inline(always)]
@@ -108,6 +108,22 @@ impl Disk {
         match self {
             Disk::Whole(store) => store.blocks_in_place(first, count),
             Disk::Backed(store) => store.blocks_in_place(first, count),
+        }
+    }
+
+    /// Notes that a block was read in place, so that its page is given another round before it goes. Nothing else changes.
+    #[inline(always)]
+    pub fn note_use(&mut self, block: u64)
+        ensures blocks { (b : ℕ) → blocks_of self.new b ≡ blocks_of self.old b }
+        ensures size { size_of self.new ≡ size_of self.old }
+        ensures held { (b : ℕ) → holds self.new b ≡ holds self.old b }
+        ensures coming { (b : ℕ) → is_coming self.new b ≡ is_coming self.old b }
+        ensures keeps_room { (b : ℕ) → has_room self.new b ≡ has_room self.old b }
+        ensures kind { is_whole self.new ≡ is_whole self.old }
+    {
+        match self {
+            Disk::Whole(_) => {}
+            Disk::Backed(store) => store.note_use(block),
         }
     }
 

@@ -22,6 +22,7 @@ mod fencing;
 mod fetching;
 mod given;
 mod mark;
+mod noting;
 mod numbers;
 mod page_range;
 mod page_set;
