@@ -5,7 +5,6 @@ use Rattle.cdb.specs.Decoding.{command}
 use Rattle.cdb.specs.Need.{need_of}
 use Rattle.cdb.specs.declared.commands.Command.{Command}
 use Rattle.scsi_codec.specs.Requests.{reading}
-use Rattle.scsi_codec.specs.declared.lun.Address.{Address}
 use Rattle.scsi_codec.specs.declared.requests.Request.{Request}
 use Rattle.scsi_codec.specs.declared.requests.CodecFault.{CodecFault}
 use Rattle.scsi_codec.specs.declared.requests.CodecFault.TheVariants.{ShortRequest, ShortResponse, BadAddress}
@@ -15,7 +14,7 @@ use Rattle.command_model.specs.Absent.{absent_reply}
 use Rattle.command_model.specs.PlainReply.{PlainReply, refusal}
 use Rattle.command_model.specs.Data.{data_of}
 use Rattle.request_intake.specs.Answers.{failed, answer_of_reply}
-use Rattle.request_intake.specs.Inventory.{has_target, place_of}
+use Rattle.request_intake.specs.Inventory.{PlainInventory, has_target, place_of, profile_of}
 use Rattle.request_intake.specs.declared.answer.ChainLengths.{ChainLengths}
 use Rattle.request_intake.specs.declared.attribute.TaskAttribute.{TaskAttribute}
 use Rattle.request_intake.specs.declared.attribute.TaskAttribute.TheVariants.{Simple, Ordered, HeadOfQueue}
@@ -50,26 +49,31 @@ decide_unit (Some place) n bytes r attribute c =
     Enter place (record { id = r.id; attribute = attribute; command = c; data_out = data_of c (drop 51 bytes) })
 
 -- a task attribute that isn't SIMPLE, ORDERED or HEAD OF QUEUE
-abbrev pub decide_attribute : Option TaskAttribute → List Address → ChainLengths → List ℕ → Request → Command → Decision
-decide_attribute None units n bytes r c = replies n (refusal invalid_message_error)
-decide_attribute (Some attribute) units n bytes r c = decide_unit (place_of units r.address) n bytes r attribute c
+abbrev pub decide_attribute : Option TaskAttribute → Option ℕ → ChainLengths → List ℕ → Request → Command → Decision
+decide_attribute None place n bytes r c = replies n (refusal invalid_message_error)
+decide_attribute (Some attribute) place n bytes r c = decide_unit place n bytes r attribute c
 
--- of a request whose target is there: OVERRUN first
-abbrev pub decide_command : List Address → ChainLengths → List ℕ → Request → Command → Decision
-decide_command units n bytes r c =
-    if overruns n c then fails code.Overrun else decide_attribute (attribute_of r.attribute) units n bytes r c
+-- of a request whose target is there, and whose unit is at this place, if anywhere: OVERRUN first
+abbrev pub decide_command : Option ℕ → ChainLengths → List ℕ → Request → Command → Decision
+decide_command place n bytes r c =
+    if overruns n c then fails code.Overrun else decide_attribute (attribute_of r.attribute) place n bytes r c
+
+-- a target that isn't there; else the command is that of the unit's profile
+abbrev pub decide_address : PlainInventory → ChainLengths → List ℕ → Request → Decision
+decide_address units n bytes r =
+    if has_target units.addresses r.address.target
+    then decide_command (place_of units.addresses r.address) n bytes r (command (profile_of units r.address) r.cdb)
+    else fails code.BadTarget
 
 -- too few writable bytes for a response; too few readable ones for a request, or data both ways; an address that isn't
--- readable, or a target that isn't there
-abbrev pub decide_reading : Result Request CodecFault → List Address → ChainLengths → List ℕ → Decision
+-- readable
+abbrev pub decide_reading : Result Request CodecFault → PlainInventory → ChainLengths → List ℕ → Decision
 decide_reading (Err ShortResponse) units n bytes = Direct []
 decide_reading (Err ShortRequest) units n bytes = fails code.Failure
 decide_reading (Err BadAddress) units n bytes = if goes_both_ways n then fails code.Failure else fails code.BadTarget
 decide_reading (Ok r) units n bytes =
-    if goes_both_ways n then fails code.Failure
-    else (if has_target units r.address.target then decide_command units n bytes r (command r.cdb)
-    else fails code.BadTarget)
+    if goes_both_ways n then fails code.Failure else decide_address units n bytes r
 
 -- what is decided of the first bytes of a chain with these lengths, where these units are there
-abbrev pub decided : List Address → List ℕ → ChainLengths → Decision
+abbrev pub decided : PlainInventory → List ℕ → ChainLengths → Decision
 decided units bytes n = decide_reading (reading bytes n.writable) units n bytes

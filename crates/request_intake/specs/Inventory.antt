@@ -1,11 +1,27 @@
--- Which logical units a device has: their addresses, in rising order of target and LUN.
-use Rattle.std.specs.Prelude.{ℕ, ◌==◌, ◌&&◌, ◌||◌, nat_lt, Bool, true, List, [], ◌∷◌, map, filter, Option, position}
+-- Which logical units a device has: their addresses, in rising order of target and LUN, and their profiles.
+use Rattle.std.specs.Prelude.{ℕ, ◌==◌, ◌&&◌, ◌||◌, nat_lt, Bool, true, List, [], ◌∷◌, map, filter, Option, Some, None, position, slice_get, unwrap_or}
 use Rattle.std.specs.List.{list_any}
+use Rattle.cdb.specs.declared.profile.Profile.{Profile}
+use Rattle.cdb.specs.declared.profile.Profile.TheVariants.{Narrow}
 use Rattle.scsi_codec.specs.declared.lun.Address.{Address}
+use Rattle.request_intake.specs.declared.inventory.Known.{Known}
 use Rattle.request_intake.specs.declared.inventory.UnitSpec.{UnitSpec}
 
 abbrev pub address_of : UnitSpec → Address
 address_of u = record { target = u.target; lun = u.lun }
+
+-- own: the address of each unit, and the profile of its commands, each at its unit's place
+pub record PlainInventory : Type 0 where
+  pub addresses : List Address
+  pub profiles : List Profile
+
+-- the inventory of units
+abbrev pub inventory_of : List UnitSpec → PlainInventory
+inventory_of units = record { addresses = map address_of units; profiles = map (λ (u : UnitSpec). u.profile) units }
+
+-- the profiles of units as they are kept
+abbrev pub profiles_of : List Known → List Profile
+profiles_of known = map (λ (k : Known). k.profile) known
 
 -- one address stands before another
 abbrev pub stands_before : Address → Address → Bool
@@ -23,6 +39,15 @@ has_target units target = list_any (λ u. u.target == target) units
 -- the place of an address
 abbrev pub place_of : List Address → Address → Option ℕ
 place_of units a = position (λ u. (u.target == a.target) && (u.lun == a.lun)) units
+
+-- own: the profile of the unit at a place that was found; narrow where none was
+abbrev pub profile_at : PlainInventory → Option ℕ → Profile
+profile_at units None = Narrow
+profile_at units (Some place) = unwrap_or (slice_get units.profiles place) Narrow
+
+-- own: the profile of the unit with this address; narrow where none is there
+abbrev pub profile_of : PlainInventory → Address → Profile
+profile_of units a = profile_at units (place_of units.addresses a)
 
 -- the LUNs of a target
 abbrev pub luns_of : List Address → ℕ → List ℕ

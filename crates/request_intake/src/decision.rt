@@ -1,8 +1,9 @@
 //! The decision on a request when it is fetched.
 
-ghost use Rattle.std.specs.Prelude.{◌≡◌, ◌+◌, ◌<◌, ◌≤◌, ◌^◌, length, min};
+ghost use Rattle.std.specs.Prelude.{◌≡◌, ◌+◌, ◌<◌, ◌≤◌, ◌^◌, ℕ, length, min, IfSome};
 ghost use Rattle.cdb.specs.Decoding.{command};
-ghost use Rattle.request_intake.specs.Decision.{decided, goes_both_ways, decide_command, fails};
+ghost use Rattle.request_intake.specs.Inventory.{place_of};
+ghost use Rattle.request_intake.specs.Decision.{decided, goes_both_ways, decide_command, decide_address, fails};
 ghost use Rattle.request_intake.specs.Inner.Decision.{IfDirect, Suits};
 
 use crate::answer::ChainLengths;
@@ -10,7 +11,7 @@ use crate::attribute::attribute_of;
 use crate::direct::DirectAnswer;
 use crate::inventory::Inventory;
 use crate::unit_request::UnitRequest;
-use cdb::{decode, need};
+use cdb::{Profile, decode, need};
 use scsi_codec::{CodecFault, REQUEST_BYTES, RESPONSE_BYTES, Request, ResponseCode, read_request};
 use sense::Sense;
 
@@ -40,9 +41,12 @@ fn fail(code: ResponseCode) -> Decision
     Decision::Direct(DirectAnswer::failed(code))
 }
 
-/// Returns the decision on a request whose target is there.
+/// Returns the decision on a request whose target is there, and whose unit, of this profile, is at this place of the
+/// inventory, if it is anywhere. It is inlined, so that a request to a unit that is there costs no further call.
+#[inline(always)]
 fn decide_by_command(
-    inventory: &Inventory,
+    place: Option<usize>,
+    profile: Profile,
     bytes: &mut Vec<u8>,
     lengths: &ChainLengths,
     request: &Request,
@@ -52,10 +56,10 @@ fn decide_by_command(
     requires sum { lengths.now.readable + lengths.now.writable ≤ 2 ^ 32 }
     requires room { RESPONSE_BYTES ≤ lengths.now.writable }
     ensures decision { result
-        ≡ decide_command inventory.now lengths.now bytes.old.items request.now (command request.now.cdb) }
-    ensures suits { Suits (length inventory.now) lengths.now result }
+        ≡ decide_command place lengths.now bytes.old.items request.now (command profile request.now.cdb) }
+    ensures suits { (units : ℕ) → IfSome place (λ at. at < units) → Suits units lengths.now result }
 {
-    let command = decode(&request.cdb);
+    let command = decode(profile, &request.cdb);
     let need = need(&command);
     let sent = lengths.readable.saturating_sub(REQUEST_BYTES as u64);
     let room = lengths.writable.saturating_sub(RESPONSE_BYTES as u64);
@@ -65,7 +69,7 @@ fn decide_by_command(
     let Some(attribute) = attribute_of(request.attribute) else {
         return Decision::Direct(DirectAnswer::refused(lengths, Sense::INVALID_MESSAGE_ERROR));
     };
-    match inventory.find(&request.address) {
+    match place {
         None => Decision::Direct(DirectAnswer::absent(lengths, &command)),
         Some(place) => {
             Decision::Enter(
@@ -73,6 +77,32 @@ fn decide_by_command(
                 UnitRequest::new(request.id, attribute, command, need.out, bytes),
             )
         }
+    }
+}
+
+/// Returns the decision on a request whose address was read.
+fn decide_by_address(
+    inventory: &Inventory,
+    bytes: &mut Vec<u8>,
+    lengths: &ChainLengths,
+    request: &Request,
+) -> Decision
+    requires fetched { length bytes.old.items ≡ min 1048627 lengths.now.readable }
+    requires whole { REQUEST_BYTES ≤ length bytes.old.items }
+    requires sum { lengths.now.readable + lengths.now.writable ≤ 2 ^ 32 }
+    requires room { RESPONSE_BYTES ≤ lengths.now.writable }
+    ensures decision { result ≡ decide_address inventory.now lengths.now bytes.old.items request.now }
+    ensures suits { Suits (length inventory.now.addresses) lengths.now result }
+{
+    match inventory.find(&request.address) {
+        Some(place) => {
+            let profile = inventory.profile_at(place);
+            decide_by_command(Some(place), profile, bytes, lengths, request)
+        }
+        None if inventory.has_target(request.address.target) => {
+            decide_by_command(None, Profile::Narrow, bytes, lengths, request)
+        }
+        None => fail(ResponseCode::BadTarget),
     }
 }
 
@@ -84,7 +114,7 @@ pub fn decide(inventory: &Inventory, bytes: &mut Vec<u8>, lengths: &ChainLengths
     requires fetched { length bytes.old.items ≡ min 1048627 lengths.now.readable }
     requires sum { lengths.now.readable + lengths.now.writable ≤ 2 ^ 32 }
     ensures decision { result ≡ decided inventory.now bytes.old.items lengths.now }
-    ensures suits { Suits (length inventory.now) lengths.now result }
+    ensures suits { Suits (length inventory.now.addresses) lengths.now result }
 {
     match read_request(bytes.as_slice(), lengths.writable) {
         Err(CodecFault::ShortResponse) => Decision::Direct(DirectAnswer::nothing()),
@@ -99,10 +129,8 @@ pub fn decide(inventory: &Inventory, bytes: &mut Vec<u8>, lengths: &ChainLengths
         Ok(request) => {
             if lengths.go_both_ways() {
                 fail(ResponseCode::Failure)
-            } else if !inventory.has_target(request.address.target) {
-                fail(ResponseCode::BadTarget)
             } else {
-                decide_by_command(inventory, bytes, lengths, &request)
+                decide_by_address(inventory, bytes, lengths, &request)
             }
         }
     }

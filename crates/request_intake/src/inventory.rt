@@ -1,9 +1,10 @@
 //! The inventory of logical units.
 
-ghost use Rattle.std.specs.Prelude.{◌≡◌, ◌<◌, ◌≤◌, true, map, length, IfSome, IfOk};
-ghost use Rattle.request_intake.specs.Inventory.{address_of, stands_before, is_rising, has_target, place_of, luns_of};
+ghost use Rattle.std.specs.Prelude.{◌≡◌, ◌<◌, ◌≤◌, true, map, length, slice_get, Some, IfSome, IfOk};
+ghost use Rattle.request_intake.specs.Inventory.{address_of, stands_before, inventory_of, is_rising, has_target, place_of, luns_of};
 
 use arrayvec::ArrayVec;
+use cdb::Profile;
 use scsi_codec::Address;
 use std::alloc::{AllocError, Global};
 use std::marker::Model;
@@ -22,6 +23,8 @@ pub struct UnitSpec {
     pub blocks: u64,
     /// True if nothing is pending at the start; else POWER ON, RESET, OR BUS DEVICE RESET OCCURRED is.
     pub calm: bool,
+    /// The profile of its commands: those that it knows.
+    pub profile: Profile,
 }
 
 impl UnitSpec {
@@ -36,42 +39,64 @@ impl UnitSpec {
     }
 }
 
-/// The addresses of a device's logical units, in rising order of target and LUN. It never changes, so a worker that
-/// holds one queue alone may ask it which units there are.
+/// The addresses of a device's logical units, in rising order of target and LUN, and their profiles. It never changes,
+/// so a worker that holds one queue alone may ask it which units there are.
 #[derive(Drop)]
 pub struct Inventory {
     addresses: ArrayVec<Address, MOST_UNITS>,
+    profiles: ArrayVec<Known, MOST_UNITS>,
+}
+
+/// The commands that a unit knows. Free places of a list have the narrow ones.
+#[derive(Clone, Copy)]
+struct Known {
+    profile: Profile,
+}
+
+impl Default for Known {
+    fn default() -> Known {
+        Known {
+            profile: Profile::Narrow,
+        }
+    }
 }
 
 impl Model for Inventory {
-    ghost use Rattle.std.specs.Prelude.{◌≡◌, List, true};
-    ghost use Rattle.scsi_codec.specs.declared.lun.Address.{Address};
-    ghost use Rattle.request_intake.specs.Inventory.{is_rising};
+    ghost use Rattle.std.specs.Prelude.{◌≡◌, true, length};
+    ghost use Rattle.request_intake.specs.Inventory.{PlainInventory, is_rising, profiles_of};
 
-    ghost Value = { List Address };
+    ghost Value = { PlainInventory };
 
-    ghost view = { λ i. i.addresses.items };
+    ghost view = { λ i. record { addresses = i.addresses.items; profiles = profiles_of i.profiles.items } };
 
-    ghost invariant = { λ i. is_rising i.addresses.items ≡ true };
+    ghost invariant = { λ i. (is_rising i.addresses.items ≡ true)
+        × (length i.profiles.items ≡ length i.addresses.items) };
 }
 
 impl Inventory {
-    /// Makes the addresses of these units. Called once, where a device is opened. It takes no memory.
+    /// Makes the inventory of these units. Called once, where a device is opened. It takes no memory.
     pub fn new(units: &[UnitSpec]) -> Inventory
         requires few { length units.now ≤ MOST_UNITS }
         requires rising { is_rising (map address_of units.now) ≡ true }
-        ensures { result ≡ map address_of units.now }
+        ensures { result ≡ inventory_of units.now }
     {
         let mut addresses = ArrayVec::new();
+        let mut profiles = ArrayVec::new();
         for unit in units {
             addresses.push(unit.address());
+            profiles.push(Known {
+                profile: unit.profile,
+            });
         }
-        Inventory { addresses }
+        Inventory {
+            addresses,
+            profiles,
+        }
     }
 
     /// Returns the addresses, each at its unit's place.
     pub fn as_slice(&self) -> &[Address]
-        ensures addresses { result.now ≡ self.now }
+        ensures addresses { result.now ≡ self.now.addresses }
         ensures few { length result.now ≤ MOST_UNITS }
     {
         self.addresses.as_slice()
@@ -79,7 +104,7 @@ impl Inventory {
 
     /// Returns true if a unit of this target is there.
     pub fn has_target(&self, target: u8) -> bool
-        ensures { result ≡ has_target self.now target }
+        ensures { result ≡ has_target self.now.addresses target }
     {
         self.addresses
             .as_slice()
@@ -89,8 +114,9 @@ impl Inventory {
 
     /// Returns the place of the unit with this address; `None` where it isn't there.
     pub fn find(&self, address: &Address) -> Option<usize>
-        ensures place { result ≡ place_of self.now address.now }
-        ensures within { IfSome result (λ place. place < length self.now) }
+        ensures place { result ≡ place_of self.now.addresses address.now }
+        ensures within { IfSome result (λ place. place < length self.now.addresses) }
+        ensures target { IfSome result (λ place. has_target self.now.addresses address.now.target ≡ true) }
     {
         self.addresses
             .as_slice()
@@ -98,9 +124,18 @@ impl Inventory {
             .position(|it| it.target == address.target && it.lun == address.lun)
     }
 
+    /// Returns the profile of the unit at this place.
+    #[inline(always)]
+    pub fn profile_at(&self, place: usize) -> Profile
+        requires place { place < length self.now.addresses }
+        ensures { slice_get self.now.profiles place ≡ Some result }
+    {
+        self.profiles.as_slice()[place].profile
+    }
+
     /// Returns the LUNs of a target, rising, for a unit that opens. `AllocError` where their list was refused memory.
     pub fn luns_of(&self, alloc: Global, target: u8) -> Result<Vec<u16>, AllocError>
-        ensures luns { IfOk result (λ luns. luns.items ≡ luns_of self.now target) }
+        ensures luns { IfOk result (λ luns. luns.items ≡ luns_of self.now.addresses target) }
         ensures few { IfOk result (λ luns. length luns.items ≤ MOST_UNITS) }
     {
         self.addresses
