@@ -1,6 +1,7 @@
 -- Small histories, which show what the definitions say.
 use Rattle.std.specs.Prelude.{ℕ, ◌+◌, true, List, [], ◌∷◌}
 use Rattle.cdb.specs.declared.commands.Command.TheVariants.{TestUnitReady, Read, Write}
+use Rattle.cdb.specs.declared.profile.Profile.TheVariants.{Narrow}
 use Rattle.request_intake.specs.declared.attribute.TaskAttribute.{TaskAttribute}
 use Rattle.request_intake.specs.declared.attribute.TaskAttribute.TheVariants.{Simple, Ordered, HeadOfQueue}
 use Rattle.command_model.specs.PlainReply.{PlainReply, success}
@@ -9,9 +10,9 @@ use Rattle.unit_model.specs.Tasks.{Entry}
 use Rattle.unit_model.specs.Steps.{Step}
 use Rattle.unit_model.specs.Contents.{Opening}
 
--- a calm unit of 1,000 blocks at address 0:0
+-- a calm unit of 1,000 blocks at address 0:0, of the narrow profile
 abbrev pub calm_unit : Opening
-calm_unit = record { target = 0; lun = 0; luns = 0 ∷ []; blocks = 1000; calm = true; content = [] }
+calm_unit = record { target = 0; lun = 0; luns = 0 ∷ []; blocks = 1000; calm = true; content = []; profile = Narrow }
 
 -- the chain of this number of queue 2
 abbrev pub nth : ℕ → Ticket

@@ -1,5 +1,6 @@
 -- What a unit's blocks contain, what it has pending, and what it replies to a command.
 use Rattle.std.specs.Prelude.{ℕ, ◌^◌, Bool, true, false, ◌&&◌, nat_le, nat_lt, min, List, [], ◌∷◌, Option, Some, None, if◌then◌else◌}
+use Rattle.cdb.specs.declared.profile.Profile.{Profile}
 use Rattle.sense.specs.declared.Sense.{Sense}
 use Rattle.sense.specs.Conditions.{unit_attention}
 use Rattle.block_store.specs.Blocks.{Blocks, zero_block}
@@ -16,7 +17,7 @@ use Rattle.unit_model.specs.Tasks.{Entry, task_of}
 use Rattle.unit_model.specs.Steps.{Step, alive}
 
 -- own: what a unit opens with: its address, the LUNs of its target by rising number, its capacity in blocks, whether
--- nothing is pending, and the bytes of its blocks, end to end; what these lack is zeros
+-- nothing is pending, the bytes of its blocks, end to end, and its profile; bytes that lack are zeros
 pub record Opening : Type 0 where
   pub target : ℕ
   pub lun : ℕ
@@ -24,6 +25,7 @@ pub record Opening : Type 0 where
   pub blocks : ℕ
   pub calm : Bool
   pub content : List ℕ
+  pub profile : Profile
 
 -- own: how many blocks a unit may have
 abbrev pub is_capacity : ℕ → Bool
@@ -86,6 +88,7 @@ facts_after o h =
       luns = o.luns;
       capacity = capacity_of o h;
       pending = oldest (pending_of o h);
+      profile = o.profile;
     }
 
 -- the reply to a task whose command runs next (SBC-3 §5, SPC-4 §6)
