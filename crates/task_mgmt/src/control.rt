@@ -20,7 +20,7 @@ pub enum ControlDecision {
 
 /// Returns the decision where there is room for the answer.
 fn decide_with_room(inventory: &Inventory, control: &Control) -> ControlDecision
-    ensures { result ≡ decided_with_room inventory.now control.now }
+    ensures { result ≡ decided_with_room inventory.now.addresses control.now }
 {
     match *control {
         Control::TaskManagement {
@@ -52,8 +52,8 @@ fn decide_with_room(inventory: &Inventory, control: &Control) -> ControlDecision
 
 /// Returns the decision on what a chain asks for.
 fn decide(inventory: &Inventory, control: &Control, writable: u64) -> ControlDecision
-    ensures decision { result ≡ decided_of inventory.now control.now writable }
-    ensures suits { Suits (length inventory.now) writable result }
+    ensures decision { result ≡ decided_of inventory.now.addresses control.now writable }
+    ensures suits { Suits (length inventory.now.addresses) writable result }
 {
     if writable < control.answer_len() as u64 {
         return ControlDecision::Direct(DirectAnswer::nothing());
@@ -65,8 +65,8 @@ fn decide(inventory: &Inventory, control: &Control, writable: u64) -> ControlDec
 /// inventory of units: an answer, or a function that begins. Called once for each chain that was fetched, while no
 /// function is open. It takes no memory.
 pub fn decide_control(inventory: &Inventory, bytes: &[u8], writable: u64) -> ControlDecision
-    ensures decision { Decides inventory.now bytes.now writable result }
-    ensures suits { Suits (length inventory.now) writable result }
+    ensures decision { Decides inventory.now.addresses bytes.now writable result }
+    ensures suits { Suits (length inventory.now.addresses) writable result }
 {
     one_control();
     decide(inventory, &read_control(bytes), writable)

@@ -46,7 +46,7 @@ fn places_of(units: &[Address], target: u8) -> ArrayVec<usize, MOST_UNITS>
 /// - [`FunctionResponse::BadTarget`] where the bytes name no unit, or the target isn't there;
 /// - [`FunctionResponse::IncorrectLun`] where the target lacks the LUN, but for I_T NEXUS RESET.
 pub fn begin(tmf: &TaskManagement, inventory: &Inventory) -> Result<Function, FunctionResponse>
-    ensures { result ≡ begun (demanded inventory.now tmf.now.subtype tmf.now.address tmf.now.id) }
+    ensures { result ≡ begun (demanded inventory.now.addresses tmf.now.subtype tmf.now.address tmf.now.id) }
 {
     let Some(kind) = kind_of(tmf.subtype, tmf.id) else {
         return Err(FunctionResponse::Rejected);

@@ -6,4 +6,4 @@ use Rattle.task_mgmt.proofs.control.decide.Goals as goal
 pub returns-clause-suits : goal.returns-clause-suits
 returns-clause-suits c =
     let room : answer_len c.args.control.now ≤ c.args.writable = omega (arith, c.answer_len.ensures) in
-    rw c.decide_with_room.ensures (suits_with_room c.args.inventory.now c.args.control.now c.args.writable room)
+    rw c.decide_with_room.ensures (suits_with_room c.args.inventory.now.addresses c.args.control.now c.args.writable room)
