@@ -15,9 +15,9 @@ use Rattle.scsi_codec.specs.declared.responses.ResponseCode.TheVariants as code
 use Rattle.scsi_codec.specs.declared.control_queue.Control.{Control}
 use Rattle.scsi_codec.specs.declared.control_queue.Control.TheVariants.{TaskManagement, AsynchronousNotification, MalformedFunction, MalformedNotification}
 use Rattle.scsi_codec.specs.declared.control_queue.FunctionResponse.{FunctionResponse}
-use Rattle.request_intake.specs.Inventory.{has_target, place_of}
+use Rattle.request_intake.specs.Inventory.{PlainInventory, has_target, place_of, profile_of}
 use Rattle.request_intake.specs.UnitRequest.{PlainRequest}
-use Rattle.request_intake.specs.Decision.{attribute_of, goes_both_ways, overruns, fails, decide_unit, decide_attribute, decide_command, decide_reading, decided}
+use Rattle.request_intake.specs.Decision.{attribute_of, goes_both_ways, overruns, fails, decide_unit, decide_attribute, decide_command, decide_address, decide_reading, decided}
 use Rattle.request_intake.specs.declared.answer.ChainLengths.{ChainLengths}
 use Rattle.request_intake.specs.declared.attribute.TaskAttribute.{TaskAttribute}
 use Rattle.request_intake.specs.declared.decision.Decision.{Decision}
@@ -54,41 +54,46 @@ unit_there None m n bytes r a c h = tt
 unit_there (Some place) m n bytes r a c h = h place refl
 
 -- whatever its task attribute
-attribute_there : (o : Option TaskAttribute) (units : List Address) (n : ChainLengths) (bytes : List ℕ) (r : Request)
-    (c : Command) → IsThere (length units) (decide_attribute o units n bytes r c)
-attribute_there None units n bytes r c = tt
-attribute_there (Some a) units n bytes r c =
-    unit_there (place_of units r.address) (length units) n bytes r a c
-    (λ place e. found_within (length units) _ place e)
+attribute_there : (o : Option TaskAttribute) (place : Option ℕ) (m : ℕ) (n : ChainLengths) (bytes : List ℕ) (r : Request)
+    (c : Command) → ((at : ℕ) → place ≡ Some at → at < m) → IsThere m (decide_attribute o place n bytes r c)
+attribute_there None place m n bytes r c h = tt
+attribute_there (Some a) place m n bytes r c h = unit_there place m n bytes r a c h
 
 -- whatever its command
 command_there : (units : List Address) (n : ChainLengths) (bytes : List ℕ) (r : Request) (c : Command)
-    → IsThere (length units) (decide_command units n bytes r c)
+    → IsThere (length units) (decide_command (place_of units r.address) n bytes r c)
 command_there units n bytes r c =
+    let place = place_of units r.address in
     there_either (overruns n c) (length units) (fails code.Overrun)
-    (decide_attribute (attribute_of r.attribute) units n bytes r c) tt
-    (attribute_there (attribute_of r.attribute) units n bytes r c)
+    (decide_attribute (attribute_of r.attribute) place n bytes r c) tt
+    (attribute_there (attribute_of r.attribute) place (length units) n bytes r c
+    (λ at e. found_within (length units) _ at e))
+
+-- whatever its address
+address_there : (units : PlainInventory) (n : ChainLengths) (bytes : List ℕ) (r : Request)
+    → IsThere (length units.addresses) (decide_address units n bytes r)
+address_there units n bytes r =
+    let c = command (profile_of units r.address) r.cdb in
+    there_either (has_target units.addresses r.address.target) (length units.addresses)
+    (decide_command (place_of units.addresses r.address) n bytes r c) (fails code.BadTarget)
+    (command_there units.addresses n bytes r c) tt
 
 -- whatever was read
-reading_there : (o : Result Request CodecFault) (units : List Address) (n : ChainLengths) (bytes : List ℕ)
-    → IsThere (length units) (decide_reading o units n bytes)
+reading_there : (o : Result Request CodecFault) (units : PlainInventory) (n : ChainLengths) (bytes : List ℕ)
+    → IsThere (length units.addresses) (decide_reading o units n bytes)
 reading_there (Err ShortResponse) units n bytes = tt
 reading_there (Err ShortRequest) units n bytes = tt
 reading_there (Err BadAddress) units n bytes =
-    there_either (goes_both_ways n) (length units) (fails code.Failure) (fails code.BadTarget) tt tt
+    there_either (goes_both_ways n) (length units.addresses) (fails code.Failure) (fails code.BadTarget) tt tt
 reading_there (Ok r) units n bytes =
-    let c = command r.cdb in
-    let goes = decide_command units n bytes r c in
-    there_either (goes_both_ways n) (length units) (fails code.Failure)
-    (if has_target units r.address.target then goes else fails code.BadTarget) tt
-    (there_either (has_target units r.address.target) (length units) goes (fails code.BadTarget)
-    (command_there units n bytes r c) tt)
+    there_either (goes_both_ways n) (length units.addresses) (fails code.Failure) (decide_address units n bytes r) tt
+    (address_there units n bytes r)
 
 -- the unit that a request goes to is there
-pub decided_there : (units : List Address) (bytes : List ℕ) (n : ChainLengths) (place : ℕ) (r : PlainRequest)
-    → decided units bytes n ≡ decision.Enter place r → place < length units
+pub decided_there : (units : PlainInventory) (bytes : List ℕ) (n : ChainLengths) (place : ℕ) (r : PlainRequest)
+    → decided units bytes n ≡ decision.Enter place r → place < length units.addresses
 decided_there units bytes n place r e =
-    subst (IsThere (length units)) e (reading_there (reading bytes n.writable) units n bytes)
+    subst (IsThere (length units.addresses)) e (reading_there (reading bytes n.writable) units n bytes)
 
 -- Of a function
 

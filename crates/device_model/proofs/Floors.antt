@@ -68,7 +68,7 @@ Ordered n us qs = Everywhere (IsOrdered n us) qs
 
 -- and they do in the device
 abbrev pub AreOrdered : PlainWorld → Type 0
-AreOrdered w = Ordered (length w.inventory) w.units w.queues
+AreOrdered w = Ordered (length w.inventory.addresses) w.units w.queues
 
 -- Slots
 
@@ -254,19 +254,19 @@ number_taken w f h = ap (λ (t : Ticket). t.number) h.taken.ticket
 -- a queue takes a chain, and has none in its slot
 opens : (g : PlainQueue → PlainQueue) (f : PlainFetch) (w : PlainWorld) (h : Finds w f)
     → ((q : PlainQueue) → (g q).slot ≡ q.slot) → ((q : PlainQueue) → accepted_of (g q) ≡ accepted_of q + 1)
-    → AreOrdered w → Ordered (length w.inventory) w.units (change g f.chain.ticket.queue w.queues)
+    → AreOrdered w → Ordered (length w.inventory.addresses) w.units (change g f.chain.ticket.queue w.queues)
 opens g f w h es more b =
     let q = h.queue in
     let slot = es q ∙ h.empty in
     let now = ap (λ s. front_of s (accepted_of (g q))) slot in
     let m = more q in
-    takes (length w.inventory) g f.chain.ticket.queue w.units w.queues q h.there h.empty
+    takes (length w.inventory.addresses) g f.chain.ticket.queue w.units w.queues q h.there h.empty
     (λ y e. absurd (not_empty (sym slot ∙ e))) (omega (arith, now, m)) b
 
 -- each transition leaves the tickets in their order
 pub transition_orders : (d : Transition) (w : PlainWorld) → May d w → AreOrdered w → AreOrdered (after d w)
 transition_orders (Transition.Arrive f x) w m h =
-    let n = length w.inventory in
+    let n = length w.inventory.addresses in
     let g = arriving f.chain (Slot.Arrived x) in
     let q = m.finds.queue in
     let number = ap (λ (t : Ticket). t.number) m.ticket ∙ number_taken w f m.finds in
@@ -282,7 +282,7 @@ transition_orders (Transition.Refuse f a) w m h =
     let g = arriving f.chain (Slot.Direct f.chain (Outcome.Decided a)) in
     let q = m.finds.queue in
     let more : accepted_of (g q) ≡ accepted_of q + 1 = one_more q.ring.log.accepted (next_ticket q.ring) in
-    takes (length w.inventory) g f.chain.ticket.queue w.units w.queues q m.finds.there m.finds.empty
+    takes (length w.inventory.addresses) g f.chain.ticket.queue w.units w.queues q m.finds.there m.finds.empty
     (λ y e. absurd (not_arrived e)) (omega (arith, more)) h
 transition_orders (Transition.Open f k) w m h =
     opens (taking f.chain) f w m.finds (λ q. refl) (λ q. one_more q.ring.log.accepted (next_ticket q.ring)) h
@@ -292,45 +292,45 @@ transition_orders (Transition.UseBuffer f xs) w m h =
     opens (spending xs.seen f.chain) f w m.finds (λ q. refl)
     (λ q. one_more q.ring.log.accepted (next_ticket q.ring)) h
 transition_orders (Transition.Break k e) w m h =
-    keeps (length w.inventory) (broken_by e) k w.units w.queues (λ q. refl) (λ q. refl) h
+    keeps (length w.inventory.addresses) (broken_by e) k w.units w.queues (λ q. refl) (λ q. refl) h
 transition_orders (Transition.Run x) w m h =
     let g = stepped (Step.Enter x.entry) in
-    enters (length w.inventory) g x w Slot.Empty m.comes (λ i u. refl) past_empty h
+    enters (length w.inventory.addresses) g x w Slot.Empty m.comes (λ i u. refl) past_empty h
 transition_orders (Transition.Park x) w m h =
-    enters (length w.inventory) (parking x) x w Slot.Empty m.comes (λ i u. refl) past_empty h
+    enters (length w.inventory.addresses) (parking x) x w Slot.Empty m.comes (λ i u. refl) past_empty h
 transition_orders (Transition.EnterFull x) w m h =
     let g = stepped (Step.Full x.entry.ticket) in
     let s = Slot.Direct x.chain (Outcome.Ended Ending.Full) in
-    enters (length w.inventory) g x w s m.comes (λ i u. refl) (past_ready x.chain (Outcome.Ended Ending.Full)) h
+    enters (length w.inventory.addresses) g x w s m.comes (λ i u. refl) (past_ready x.chain (Outcome.Ended Ending.Full)) h
 transition_orders (Transition.EnterBusy x) w m h =
     let s = Slot.Direct x.chain (Outcome.Ended Ending.Busy) in
-    sheds (length w.inventory) x w s m.comes (past_ready x.chain (Outcome.Ended Ending.Busy)) h
+    sheds (length w.inventory.addresses) x w s m.comes (past_ready x.chain (Outcome.Ended Ending.Busy)) h
 transition_orders (Transition.EnterStale x) w m h =
     let s = Slot.Direct x.chain (Outcome.Ended Ending.Lost) in
-    sheds (length w.inventory) x w s m.comes (past_ready x.chain (Outcome.Ended Ending.Lost)) h
+    sheds (length w.inventory.addresses) x w s m.comes (past_ready x.chain (Outcome.Ended Ending.Lost)) h
 transition_orders (Transition.Direct c o xs) w m h =
-    directs (length w.inventory) xs.seen c o w m.queue m.there m.ready h
+    directs (length w.inventory.addresses) xs.seen c o w m.queue m.there m.ready h
 transition_orders (Transition.Answer k x o xs) w m h =
     let g = completing xs.seen x.chain in
-    keeps (length w.inventory) g x.chain.ticket.queue w.units w.queues (λ q. refl) (λ q. refl) h
+    keeps (length w.inventory.addresses) g x.chain.ticket.queue w.units w.queues (λ q. refl) (λ q. refl) h
 transition_orders (Transition.Respond c r xs) w m h =
     let g = completing xs.seen c in
-    keeps (length w.inventory) g c.ticket.queue w.units w.queues (λ q. refl) (λ q. refl) h
+    keeps (length w.inventory.addresses) g c.ticket.queue w.units w.queues (λ q. refl) (λ q. refl) h
 transition_orders (Transition.Give e c xs) w m h =
     let g = completing xs.seen c in
-    keeps (length w.inventory) g c.ticket.queue w.units w.queues (λ q. refl) (λ q. refl) h
+    keeps (length w.inventory.addresses) g c.ticket.queue w.units w.queues (λ q. refl) (λ q. refl) h
 transition_orders (Transition.Commit k x r) w m h =
-    units_on (length w.inventory) (Step.Commit x.entry.ticket r) x.unit w.units w.queues (λ i l. refl) h
+    units_on (length w.inventory.addresses) (Step.Commit x.entry.ticket r) x.unit w.units w.queues (λ i l. refl) h
 transition_orders (Transition.CommitBusy k x) w m h =
-    units_on (length w.inventory) (Step.Busy x.entry.ticket) x.unit w.units w.queues (λ i l. refl) h
+    units_on (length w.inventory.addresses) (Step.Busy x.entry.ticket) x.unit w.units w.queues (λ i l. refl) h
 transition_orders (Transition.Leave k place t jobs) w m h =
-    units_on (length w.inventory) (Step.Leave t) place w.units w.queues (λ i l. refl) h
+    units_on (length w.inventory.addresses) (Step.Leave t) place w.units w.queues (λ i l. refl) h
 transition_orders (Transition.Mark t p s jobs) w m h =
-    units_on (length w.inventory) (step_by s) p.unit w.units w.queues (mark_floor s) h
+    units_on (length w.inventory.addresses) (step_by s) p.unit w.units w.queues (mark_floor s) h
 transition_orders (Transition.Hard p jobs) w m h =
-    units_on (length w.inventory) (Step.Reset hard_code) p.unit w.units w.queues (λ i l. refl) h
+    units_on (length w.inventory.addresses) (Step.Reset hard_code) p.unit w.units w.queues (λ i l. refl) h
 transition_orders (Transition.Resize place blocks) w m h =
-    units_on (length w.inventory) (Step.Resize blocks) place w.units w.queues (λ i l. refl) h
+    units_on (length w.inventory.addresses) (Step.Resize blocks) place w.units w.queues (λ i l. refl) h
 transition_orders d w m h = h
 
 -- a new queue has accepted none, and a new unit has no history
@@ -349,8 +349,8 @@ unit_at (u ∷ us) zero h = (u, refl)
 unit_at (u ∷ us) (suc k) h = unit_at us k (omega (arith, h))
 
 -- what is in the slot is the latest, and its unit is there
-latest : (w : PlainWorld) (q : PlainQueue) (s : Slot) → length w.units ≡ length w.inventory
-    → ((x : PlainJob) → s ≡ Slot.Arrived x → IsNext (length w.inventory) (accepted_of q) x) → SlotIsLatest w q s
+latest : (w : PlainWorld) (q : PlainQueue) (s : Slot) → length w.units ≡ length w.inventory.addresses
+    → ((x : PlainJob) → s ≡ Slot.Arrived x → IsNext (length w.inventory.addresses) (accepted_of q) x) → SlotIsLatest w q s
 latest w q Slot.Empty e h = tt
 latest w q (Slot.Direct c o) e h = tt
 latest w q (Slot.Arrived x) e h =
@@ -359,7 +359,7 @@ latest w q (Slot.Arrived x) e h =
     record { number = a.number; unit = u.0; there = u.1 }
 
 -- tickets rise
-pub all_behind : (w : PlainWorld) → length w.units ≡ length w.inventory → AreOrdered w → AreBehind w
+pub all_behind : (w : PlainWorld) → length w.units ≡ length w.inventory.addresses → AreOrdered w → AreBehind w
 all_behind w e h i q at =
     let o = h i q at in
     record { latest = latest w q q.slot e o.arrived; floors = o.floors }

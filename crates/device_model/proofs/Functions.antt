@@ -40,7 +40,7 @@ same_function e f = cc
 
 -- the units of the open function are those of the inventory's addresses
 abbrev pub FindsUnits : PlainWorld → Type 0
-FindsUnits w = FunctionIsThere (length w.inventory) w.function
+FindsUnits w = FunctionIsThere (length w.inventory.addresses) w.function
 
 -- the next unit is marked
 marks_there : (n : ℕ) (later : List ℕ) (p : Place) (f : PlainFunction) → f.left ≡ p.unit ∷ later → IsThere n f
@@ -59,30 +59,30 @@ looks_there n place later b f left h =
 
 -- no function is open yet
 pub new_finds : (w : PlainWorld) → Opens w → FindsUnits w
-new_finds w o = subst (FunctionIsThere (length w.inventory)) (sym o.function) tt
+new_finds w o = subst (FunctionIsThere (length w.inventory.addresses)) (sym o.function) tt
 
 -- each transition leaves the open function's units there
 pub transition_finds : (d : Transition) (w : PlainWorld) → May d w → FindsUnits w → FindsUnits (after d w)
 transition_finds (Transition.Open f g) w m h =
     let c = m.decided in
-    let n = length w.inventory in
-    let there = opened_there w.inventory c.0 (lengths_of f.chain).writable g c.2 in
+    let n = length w.inventory.addresses in
+    let there = opened_there w.inventory.addresses c.0 (lengths_of f.chain).writable g c.2 in
     (there.0, subst (AllByRecursion (λ (q : Place). q.unit < n)) (sym there.1) tt)
 transition_finds (Transition.Mark t p s jobs) w m h =
-    let n = length w.inventory in
+    let n = length w.inventory.addresses in
     goes_on n (marking p) w.function (λ x is i.
     let now : m.marking.opened ≡ x = same_function m.marking.there is in
     let left = subst (λ (z : Opened). z.function.left ≡ p.unit ∷ m.marking.later) now m.marking.left in
     marks_there n m.marking.later p x.function left i) h
 transition_finds (Transition.Ask t place rule b) w m h =
-    let n = length w.inventory in
+    let n = length w.inventory.addresses in
     goes_on n (asking b) w.function (λ x is i.
     let now : m.marking.opened ≡ x = same_function m.marking.there is in
     let left = subst (λ (z : Opened). z.function.left ≡ place ∷ m.marking.later) now m.marking.left in
     looks_there n place m.marking.later b x.function left i) h
-transition_finds (Transition.MarkRefused t) w m h = goes_on (length w.inventory) failing w.function (λ x is i. (tt, i.1)) h
+transition_finds (Transition.MarkRefused t) w m h = goes_on (length w.inventory.addresses) failing w.function (λ x is i. (tt, i.1)) h
 transition_finds (Transition.Check t p) w m h =
-    let n = length w.inventory in
+    let n = length w.inventory.addresses in
     goes_on n checking w.function (λ x is i. (i.0, all_drop (λ (q : Place). q.unit < n) x.function.waits i.1)) h
 transition_finds (Transition.Respond c r xs) w m h = tt
 transition_finds d w m h = h

@@ -74,13 +74,14 @@ never_lost k x w m h =
           })
     ]) refl
 
--- each unit has the address that stands in the inventory at its place
+-- each unit has the address and the profile that stand in the inventory at its place
 addressed_where : (old : PlainWorld) (ds : List Transition) (w : PlainWorld) → Opens old → w.inventory ≡ old.inventory → Says old ds w
     → AreAddressed w
 addressed_where old ds w o e h k u at =
     let told = (h.units k u at).0 in
     subst (λ inventory. IsAddressed inventory k u) (sym e)
-    (subst (λ z. slice_get old.inventory k ≡ Some (unit_address z)) (sym told.opening) (o.addressed k told.opened told.there))
+    (subst (λ z. (slice_get old.inventory.addresses k ≡ Some (unit_address z)) × (slice_get old.inventory.profiles k ≡ Some z.profile))
+    (sym told.opening) (o.addressed k told.opened told.there))
 
 -- each request that arrived names the unit that it is for
 named_where : (old : PlainWorld) (ds : List Transition) (w : PlainWorld) → Opens old → Says old ds w → AreNamedThere w
@@ -88,7 +89,7 @@ named_where old ds w o h x i q u at e there =
     let sent = sent_there old.inventory ds w x q i at e h.slots in
     let told = (h.units x.unit u there).0 in
     let one : x.address ≡ unit_address told.opened.opening =
-    same (sym sent.job.addressed ∙ o.addressed x.unit told.opened told.there) in
+    same (sym sent.job.addressed ∙ (o.addressed x.unit told.opened told.there).0) in
     one ∙ sym (ap (λ z. unit_address z) told.opening)
 
 -- no unit is given a request that names another, or a ticket before one that it saw

@@ -62,7 +62,7 @@ new_looks w o = subst LooksAreFree (sym o.function) tt
 pub transition_looks : (d : Transition) (w : PlainWorld) → May d w → LooksFree w → LooksFree (after d w)
 transition_looks (Transition.Open f g) w m h =
     let c = m.decided in
-    none_free g.kind g.waits (opened_there w.inventory c.0 (lengths_of f.chain).writable g c.2).1
+    none_free g.kind g.waits (opened_there w.inventory.addresses c.0 (lengths_of f.chain).writable g c.2).1
 transition_looks (Transition.Mark t p s jobs) w m h =
     on_free (marking p) w.function (λ x is i.
     let now : m.marking.opened ≡ x = same_function m.marking.there is in

@@ -71,7 +71,7 @@ lowers (Transition.Open f g) w h =
     let b = still_whole (taking f.chain) f.chain.ticket.queue w (λ q. refl) in
     let p = ap price_at h.control in
     let c = h.decided in
-    let none = ap (λ l. length l) (opened_there w.inventory c.0 (lengths_of f.chain).writable g c.2).1 in
+    let none = ap (λ l. length l) (opened_there w.inventory.addresses c.0 (lengths_of f.chain).writable g c.2).1 in
     let d = ap visits h.closed in
     omega (arith, a, b, p, none, d)
 lowers (Transition.Hold f) w h =

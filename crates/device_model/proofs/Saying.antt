@@ -2,9 +2,9 @@
 use Rattle.std.proofs.Common.{◌≡◌, ℕ, cond, not, List, [], ◌∷◌, drop, Some, None, refl, sym, ◌∙◌, ap, subst, inl, inr, eq-eqb}
 use Rattle.std.specs.Prelude.{slice_get, ⊤}
 use Rattle.std.specs.List.{AllByRecursion}
-use Rattle.scsi_codec.specs.declared.lun.Address.{Address}
 use Rattle.ring_core.specs.State.{PlainChain}
 use Rattle.ring_core.specs.Writes.{all_written}
+use Rattle.request_intake.specs.Inventory.{PlainInventory}
 use Rattle.request_intake.specs.declared.decision.Decision.TheVariants as decision
 use Rattle.unit_model.specs.Endings.{Ending}
 use Rattle.unit_model.specs.Steps.{Step}
@@ -43,7 +43,7 @@ each_rest P (x ∷ xs) h = h.1
 
 -- the outcome in a queue's slot: the direct answer of the bytes of the Fetch of the chain, or that its unit was full,
 -- or was refused memory
-abbrev pub IsRefused : List Address → PlainChain → Outcome → List Transition → Type 0
+abbrev pub IsRefused : PlainInventory → PlainChain → Outcome → List Transition → Type 0
 IsRefused units c (Outcome.Decided a) ds =
     (f : PlainFetch) × Happened (IsFetch f) ds × (f.chain ≡ c) × IsDirect units f.chain.ticket.queue f a
 IsRefused units c (Outcome.Ended Ending.Full) ds =
@@ -63,7 +63,7 @@ IsEndedBy x (Outcome.Ended Ending.Full) ds = ⊥
 IsEndedBy x (Outcome.Ended Ending.Lost) ds = ⊥
 IsEndedBy x (Outcome.Decided a) ds = ⊥
 
-abbrev pub SlotSays : List Address → List Transition → Slot → Type 0
+abbrev pub SlotSays : PlainInventory → List Transition → Slot → Type 0
 SlotSays units ds Slot.Empty = ⊤
 SlotSays units ds (Slot.Arrived x) = IsSent units ds x
 SlotSays units ds (Slot.Direct c o) = IsRefused units c o ds
@@ -83,7 +83,7 @@ SeatSays ds s = HandSays ds s.hand × Each (JobSays ds) s.out
 abbrev pub UnitSays : PlainWorld → List Transition → ℕ → PlainUnit → Type 0
 UnitSays old ds place u = IsToldOf old ds place u × Each (JobSays ds) u.parked
 
-abbrev Slots : List Address → List Transition → List PlainQueue → Type 0
+abbrev Slots : PlainInventory → List Transition → List PlainQueue → Type 0
 Slots units ds qs = Everywhere (λ i q. SlotSays units ds q.slot) qs
 
 abbrev Seats : List Transition → List Seat → Type 0
@@ -101,11 +101,11 @@ pub record Says (old : PlainWorld) (ds : List Transition) (w : PlainWorld) : Typ
 
 -- What was said before is still said
 
-pub older_sent : (units : List Address) (d : Transition) (ds : List Transition) (x : PlainJob) → IsSent units ds x
+pub older_sent : (units : PlainInventory) (d : Transition) (ds : List Transition) (x : PlainJob) → IsSent units ds x
     → IsSent units (d ∷ ds) x
 older_sent units d ds x h = record { fetch = h.fetch; fetched = inr h.fetched; job = h.job }
 
-older_refused : (units : List Address) (c : PlainChain) (o : Outcome) (d : Transition) (ds : List Transition)
+older_refused : (units : PlainInventory) (c : PlainChain) (o : Outcome) (d : Transition) (ds : List Transition)
     → IsRefused units c o ds → IsRefused units c o (d ∷ ds)
 older_refused units c (Outcome.Decided a) d ds h = (h.0, inr h.1, h.2, h.3)
 older_refused units c (Outcome.Ended Ending.Full) d ds h = (h.0, h.1, older_sent units d ds h.0 h.2, inr h.3)
@@ -122,7 +122,7 @@ older_ended x (Outcome.Ended (Ending.Replied r)) d ds h = inr h
 older_ended x (Outcome.Ended (Ending.Aborted why)) d ds h = inr h
 older_ended x (Outcome.Ended Ending.Lost) d ds h = h
 
-older_slot : (units : List Address) (s : Slot) (d : Transition) (ds : List Transition) → SlotSays units ds s
+older_slot : (units : PlainInventory) (s : Slot) (d : Transition) (ds : List Transition) → SlotSays units ds s
     → SlotSays units (d ∷ ds) s
 older_slot units Slot.Empty d ds h = tt
 older_slot units (Slot.Arrived x) d ds h = older_sent units d ds x h
@@ -137,7 +137,7 @@ older_hand (Hand.Answered place t) d ds h = tt
 older_jobs : (xs : List PlainJob) (d : Transition) (ds : List Transition) → Each (JobSays ds) xs → Each (JobSays (d ∷ ds)) xs
 older_jobs xs d ds h = each_map (JobSays ds) (JobSays (d ∷ ds)) xs (λ x q. inr q) h
 
-old_slots : (units : List Address) (d : Transition) (ds : List Transition) (qs : List PlainQueue) → Slots units ds qs
+old_slots : (units : PlainInventory) (d : Transition) (ds : List Transition) (qs : List PlainQueue) → Slots units ds qs
     → Slots units (d ∷ ds) qs
 old_slots units d ds qs h i q e = older_slot units q.slot d ds (h i q e)
 
@@ -159,7 +159,7 @@ old_units old d ds us e h i u at = old_unit old d ds i u (e i) (h i u at)
 -- One part changes
 
 -- a queue whose slot stays
-kept_slots : (units : List Address) (d : Transition) (ds : List Transition) (g : PlainQueue → PlainQueue) (k : ℕ)
+kept_slots : (units : PlainInventory) (d : Transition) (ds : List Transition) (g : PlainQueue → PlainQueue) (k : ℕ)
     (qs : List PlainQueue) → ((q : PlainQueue) → (g q).slot ≡ q.slot) → Slots units ds qs
     → Slots units (d ∷ ds) (change g k qs)
 kept_slots units d ds g k qs e h =
@@ -167,7 +167,7 @@ kept_slots units d ds g k qs e h =
     (λ q at p. subst (SlotSays units (d ∷ ds)) (sym (e q)) p) (old_slots units d ds qs h)
 
 -- a queue that gets this slot
-new_slots : (units : List Address) (d : Transition) (ds : List Transition) (g : PlainQueue → PlainQueue) (k : ℕ)
+new_slots : (units : PlainInventory) (d : Transition) (ds : List Transition) (g : PlainQueue → PlainQueue) (k : ℕ)
     (qs : List PlainQueue) (s : Slot) → ((q : PlainQueue) → (g q).slot ≡ s) → SlotSays units (d ∷ ds) s
     → Slots units ds qs → Slots units (d ∷ ds) (change g k qs)
 new_slots units d ds g k qs s e is h =
@@ -246,7 +246,7 @@ given old d ds s k us u jobs at e h =
     (all_filter (JobSays (d ∷ ds)) (is_job_of (released s u.steps)) u.parked all)
 
 -- the job of a slot
-pub sent_there : (units : List Address) (ds : List Transition) (w : PlainWorld) (x : PlainJob) (q : PlainQueue) (i : ℕ)
+pub sent_there : (units : PlainInventory) (ds : List Transition) (w : PlainWorld) (x : PlainJob) (q : PlainQueue) (i : ℕ)
     → slice_get w.queues i ≡ Some q → q.slot ≡ Slot.Arrived x → Slots units ds w.queues → IsSent units ds x
 sent_there units ds w x q i at e h = subst (SlotSays units ds) e (h i q at)
 
@@ -271,7 +271,7 @@ says_transition old (Transition.Arrive f x) ds w e n m h =
     let d = Transition.Arrive f x in
     let i = old.inventory in
     let decided = subst (λ z. DecidesRequest z f (decision.Enter x.unit (request_of x.entry))) e m.decided in
-    let addressed = subst (λ z. slice_get z x.unit ≡ Some x.address) e m.addressed in
+    let addressed = subst (λ (z : PlainInventory). slice_get z.addresses x.unit ≡ Some x.address) e m.addressed in
     let job : IsJobOf i f x =
     record { chain = sym m.chain; ticket = m.ticket; decided = decided; addressed = addressed } in
     let sent : IsSent i (d ∷ ds) x = record { fetch = f; fetched = inl refl; job = job } in

@@ -4,6 +4,7 @@ use Rattle.std.proofs.lemmas.List.{length-take-le}
 use Rattle.std.specs.Prelude.{slice_get, ◌≤◌}
 use Rattle.guest_mem.specs.Memory.{LiesIn, with_bytes}
 use Rattle.unit_model.specs.Steps.{Step}
+use Rattle.request_intake.specs.Inventory.{PlainInventory}
 use Rattle.unit_model.specs.Endings.{Ending}
 use Rattle.ring_core.specs.State.{PlainChain}
 use Rattle.ring_core.specs.Writes.{Write, all_written}
@@ -175,10 +176,10 @@ run_stays old trace w r =
 
 -- there are as many units as addresses
 pub units_listed : (old : PlainWorld) (trace : List Occurrence) (w : PlainWorld) → Opens old → Runs old trace w
-    → length w.units ≡ length w.inventory
+    → length w.units ≡ length w.inventory.addresses
 units_listed old trace w o r =
     let k = run_stays old trace w r in
-    k.units ∙ o.there ∙ ap length (sym k.inventory)
+    k.units ∙ o.there ∙ ap (λ (i : PlainInventory). length i.addresses) (sym k.inventory)
 
 long_with : (m : List ℕ) (at : ℕ) (bs : List ℕ) → LiesIn (length m) at (length bs)
     → length (with_bytes m at bs) ≡ length m

@@ -228,7 +228,7 @@ functions_open old f g ds o l s =
     let m = l.1 in
     let e = (parts_at old ds l.0).inventory in
     let decided = subst (λ z. DecidesControl z f (managed.Opens g)) e m.decided in
-    let fresh = opens_fresh old.inventory decided.0 (lengths_of f.chain).writable g decided.2 in
+    let fresh = opens_fresh old.inventory.addresses decided.0 (lengths_of f.chain).writable g decided.2 in
     let new = unfetched old t d ds o l (fetch_one f d refl) in
     record {
       function = record {

@@ -871,7 +871,7 @@ none_waits xs x later a b = cc
 check_wakes : (d : Transition) (w : PlainWorld) → Happens d w → Applies (after d w) Event.Check → Either w d Event.Check
 check_wakes (Transition.Open f g) w m h =
     let c = m.decided in
-    let none = (opened_there w.inventory c.0 (lengths_of f.chain).writable g c.2).1 in
+    let none = (opened_there w.inventory.addresses c.0 (lengths_of f.chain).writable g c.2).1 in
     let is = ap (λ (o : Opened). o.function.waits) (same h.there) in
     absurd (none_waits g.waits h.mark h.later none (is ∙ h.still))
 check_wakes (Transition.Run x) w m h =

@@ -1,8 +1,8 @@
 -- What enters the units of a reached device.
 use Rattle.std.specs.Prelude.{ℕ, ◌≡◌, ◌≤◌, List, ◌∷◌, Some, slice_get}
 use Rattle.std.specs.List.{sum_by}
-use Rattle.scsi_codec.specs.declared.lun.Address.{Address}
 use Rattle.ring_core.specs.declared.log.Ticket.{Ticket}
+use Rattle.request_intake.specs.Inventory.{PlainInventory}
 use Rattle.request_intake.specs.declared.decision.Decision.TheVariants as decision
 use Rattle.unit_model.specs.Tasks.{Entry}
 use Rattle.unit_model.specs.Steps.{Step}
@@ -19,20 +19,20 @@ use Rattle.device_model.specs.Histories.{Stands, history_of}
 
 -- the job is the fetched chain's, for the unit and with the task that were decided of its bytes, and names the address
 -- that stands in the inventory there
-pub record IsJobOf (inventory : List Address) (f : PlainFetch) (x : PlainJob) : Type 0 where
+pub record IsJobOf (inventory : PlainInventory) (f : PlainFetch) (x : PlainJob) : Type 0 where
   pub chain : f.chain ≡ x.chain
   pub ticket : x.entry.ticket ≡ f.chain.ticket
   pub decided : DecidesRequest inventory f (decision.Enter x.unit (request_of x.entry))
-  pub addressed : slice_get inventory x.unit ≡ Some x.address
+  pub addressed : slice_get inventory.addresses x.unit ≡ Some x.address
 
 -- the job is that of a chain that was fetched
-pub record IsSent (inventory : List Address) (ds : List Transition) (x : PlainJob) : Type 0 where
+pub record IsSent (inventory : PlainInventory) (ds : List Transition) (x : PlainJob) : Type 0 where
   pub fetch : PlainFetch
   pub fetched : Happened (IsFetch fetch) ds
   pub job : IsJobOf inventory fetch x
 
 -- a task that stands at a place is that of a job for this unit
-pub record IsEntered (inventory : List Address) (ds : List Transition) (place : ℕ) (e : Entry) : Type 0 where
+pub record IsEntered (inventory : PlainInventory) (ds : List Transition) (place : ℕ) (e : Entry) : Type 0 where
   pub job : PlainJob
   pub unit : job.unit ≡ place
   pub entry : job.entry ≡ e

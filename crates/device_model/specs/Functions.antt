@@ -2,11 +2,11 @@
 use Rattle.std.specs.Prelude.{ℕ, ◌≡◌, ◌⊎◌, ◌↔◌, Bool, true, List, [], ◌∷◌, length}
 use Rattle.std.specs.List.{AllByRecursion}
 use Rattle.scsi_codec.specs.ControlQueue.{function_bytes}
-use Rattle.scsi_codec.specs.declared.lun.Address.{Address}
 use Rattle.scsi_codec.specs.declared.control_queue.FunctionResponse.{FunctionResponse}
 use Rattle.scsi_codec.specs.declared.control_queue.FunctionResponse.TheVariants.{Complete, Failure, Succeeded}
 use Rattle.ring_core.specs.State.{PlainChain}
 use Rattle.ring_core.specs.declared.log.Ticket.{Ticket}
+use Rattle.request_intake.specs.Inventory.{PlainInventory}
 use Rattle.unit_model.specs.declared.rule.Rule.{Rule}
 use Rattle.unit_model.specs.Tasks.{Entry}
 use Rattle.unit_model.specs.Steps.{alive, has_left}
@@ -33,7 +33,7 @@ Among place [] = ⊥
 Among place (k ∷ left) = (k ≡ place) ⊎ Among place left
 
 -- what was decided of the bytes of a Fetch is this function
-pub record IsBegun (inventory : List Address) (ds : List Transition) (t : Ticket) : Type 0 where
+pub record IsBegun (inventory : PlainInventory) (ds : List Transition) (t : Ticket) : Type 0 where
   pub fetch : PlainFetch
   pub fetched : Happened (IsFetch fetch) ds
   pub ticket : fetch.chain.ticket ≡ t
@@ -41,7 +41,7 @@ pub record IsBegun (inventory : List Address) (ds : List Transition) (t : Ticket
   pub decided : DecidesControl inventory fetch (managed.Opens function)
 
 -- a function of this ticket and kind, and this unit is one of its units
-pub record IsFor (inventory : List Address) (ds : List Transition) (t : Ticket) (kind : Kind) (place : ℕ) : Type 0 where
+pub record IsFor (inventory : PlainInventory) (ds : List Transition) (t : Ticket) (kind : Kind) (place : ℕ) : Type 0 where
   pub begun : IsBegun inventory ds t
   pub does : begun.function.kind ≡ kind
   pub among : Among place begun.function.left

@@ -1,7 +1,6 @@
 -- What a transition asks of the unit, or of the queue with the memory, that one lock lends, and what it leaves there.
 use Rattle.std.specs.Prelude.{ℕ, ◌≡◌, ◌≤◌, ◌⊎◌, ◌||◌, Bool, true, false, List, [], ◌∷◌, length, Some, None, slice_get, ⊤, Option}
 use Rattle.guest_mem.specs.Memory.{LiesIn}
-use Rattle.scsi_codec.specs.declared.lun.Address.{Address}
 use Rattle.scsi_codec.specs.declared.event_queue.Event.{Event as EventRecord}
 use Rattle.scsi_codec.specs.EventQueue.{event_bytes}
 use Rattle.scsi_codec.specs.ControlQueue.{function_bytes}
@@ -10,6 +9,7 @@ use Rattle.ring_core.specs.Writes.{all_written}
 use Rattle.ring_core.specs.Offer.{Offers, Refused}
 use Rattle.ring_core.specs.Fetch.{Takes}
 use Rattle.ring_core.specs.declared.log.Ticket.{Ticket}
+use Rattle.request_intake.specs.Inventory.{PlainInventory}
 use Rattle.request_intake.specs.declared.decision.Decision.TheVariants as decision
 use Rattle.unit_model.specs.Tasks.{is_blocked, task_of}
 use Rattle.unit_model.specs.Steps.{Step, alive, is_alive, next_number}
@@ -113,11 +113,11 @@ abbrev pub GivesChain : PlainQueue → List ℕ → PlainFetch → Type 0
 GivesChain q m f = Takes q.ring m f.chain f.bytes (with_chain f.chain q.ring)
 
 -- what it asks of the queue and of memory, which is shared or not, where these units are and an event was missed or not
-abbrev pub AsksQueue : Bool → List Address → Bool → Transition → PlainQueue → List ℕ → Type 0
+abbrev pub AsksQueue : Bool → PlainInventory → Bool → Transition → PlainQueue → List ℕ → Type 0
 AsksQueue shared inventory missed (Transition.Arrive f x) q m =
     GivesChain q m f × (x.chain ≡ f.chain) × (x.entry.ticket ≡ f.chain.ticket)
     × DecidesRequest inventory f (decision.Enter x.unit (request_of x.entry))
-    × (slice_get inventory x.unit ≡ Some x.address)
+    × (slice_get inventory.addresses x.unit ≡ Some x.address)
 AsksQueue shared inventory missed (Transition.Refuse f a) q m = GivesChain q m f × IsDirect inventory f.chain.ticket.queue f a
 AsksQueue shared inventory missed (Transition.Open f g) q m = GivesChain q m f × DecidesControl inventory f (managed.Opens g)
 AsksQueue shared inventory missed (Transition.Hold f) q m = GivesChain q m f × ((is_short f.chain || missed) ≡ false)

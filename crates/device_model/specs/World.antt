@@ -1,8 +1,8 @@
 -- The device as a plain value: memory, queues, units, seats, the hand-off, one function, the event port.
 use Rattle.std.specs.Prelude.{ℕ, Bool, false, zero, suc, ◌≡◌, ◌-◌, ◌%◌, ◌+◌, ◌<◌, ◌≤◌, ◌⊎◌, List, [], ◌∷◌, ◌++◌, length, Option, Some, None, slice_get}
-use Rattle.scsi_codec.specs.declared.lun.Address.{Address}
 use Rattle.scsi_codec.specs.declared.event_queue.Event.{Event as EventRecord}
 use Rattle.ring_core.specs.State.{RingState, PlainChain}
+use Rattle.request_intake.specs.Inventory.{PlainInventory}
 use Rattle.unit_model.specs.Jobs.{PlainJob}
 use Rattle.unit_model.specs.Unit.{PlainUnit}
 use Rattle.unit_model.specs.Receipts.{unit_address}
@@ -32,8 +32,8 @@ pub record PlainWorld : Type 0 where
   -- the guest may write into memory at any time, also between an answer and the look whether a notice of it is wanted;
   -- else it does so between two steps alone
   pub shared : Bool
-  -- the addresses of the units, in their order
-  pub inventory : List Address
+  -- the addresses and profiles of the units, in their order
+  pub inventory : PlainInventory
   pub queues : List PlainQueue
   pub units : List PlainUnit
   pub seats : List Seat
@@ -97,8 +97,9 @@ pub record IsNewSeat (s : Seat) : Type 0 where
 pub record Opens (w : PlainWorld) : Type 0 where
   pub queues : Everywhere (λ i q. IsNewQueue i q) w.queues
   pub units : Everywhere (λ i u. IsNewUnit u) w.units
-  pub there : length w.units ≡ length w.inventory
-  pub addressed : Everywhere (λ i u. slice_get w.inventory i ≡ Some (unit_address u.opening)) w.units
+  pub there : length w.units ≡ length w.inventory.addresses
+  pub addressed : Everywhere (λ i u. (slice_get w.inventory.addresses i ≡ Some (unit_address u.opening))
+      × (slice_get w.inventory.profiles i ≡ Some u.opening.profile)) w.units
   pub seats : Everywhere (λ i s. IsNewSeat s) w.seats
   pub working : 1 ≤ w.workers
   pub seated : length w.seats ≡ w.workers + 1

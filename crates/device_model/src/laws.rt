@@ -196,7 +196,7 @@ pub fn requests_come_to_their_units()
     ensures { (old : PlainWorld) (trace : List Occurrence) (w : PlainWorld) → Reached old trace w → AreNamedThere w }
 {}
 
-/// Each unit has the address that stands in the inventory at its place, in every world that is reached. So a function
+/// Each unit has the address and the profile that stand in the inventory at its place, in every world that is reached. So a function
 /// and the operator come to the unit that they name.
 pub fn units_keep_their_addresses()
     ensures { (old : PlainWorld) (trace : List Occurrence) (w : PlainWorld) → Reached old trace w → AreAddressed w }

@@ -1,7 +1,6 @@
 -- A queue takes its next chain: a request arrives, an answer is decided directly, a function opens, an event buffer is held or
 -- used at once, or a fault breaks the queue.
 use Rattle.std.specs.Prelude.{ℕ, zero, suc, ◌≡◌, ◌≤◌, ◌⊎◌, ◌||◌, true, false, if◌then◌else◌, List, [], ◌∷◌, Some, None, slice_get, ⊤, ◌+◌, ◌&&◌, ◌++◌}
-use Rattle.scsi_codec.specs.declared.lun.Address.{Address}
 use Rattle.scsi_codec.specs.EventQueue.{event_bytes, missed_event}
 use Rattle.scsi_codec.specs.ControlQueue.{IsControl}
 use Rattle.scsi_codec.specs.declared.control_queue.Control.{Control}
@@ -10,6 +9,7 @@ use Rattle.ring_core.specs.Writes.{all_written}
 use Rattle.ring_core.specs.Offer.{Offers, Refused, MayLackMemory, Nothing}
 use Rattle.ring_core.specs.Fetch.{Takes}
 use Rattle.ring_core.specs.declared.fault.RingFault.{RingFault}
+use Rattle.request_intake.specs.Inventory.{PlainInventory}
 use Rattle.request_intake.specs.Decision.{decided}
 use Rattle.request_intake.specs.declared.decision.Decision.{Decision}
 use Rattle.request_intake.specs.declared.decision.Decision.TheVariants as decision
@@ -36,15 +36,15 @@ IsOpenTo w zero = w.function ≡ None
 IsOpenTo w (suc q) = ⊤
 
 -- what is decided of a chain of a request queue, of the control queue
-abbrev pub DecidesRequest : List Address → PlainFetch → Decision → Type 0
+abbrev pub DecidesRequest : PlainInventory → PlainFetch → Decision → Type 0
 DecidesRequest inventory f d = decided inventory f.bytes (lengths_of f.chain) ≡ d
 
-abbrev pub DecidesControl : List Address → PlainFetch → ControlDecision → Type 0
+abbrev pub DecidesControl : PlainInventory → PlainFetch → ControlDecision → Type 0
 DecidesControl inventory f d =
-    (c : Control) × IsControl f.bytes c × (decided_of inventory c (lengths_of f.chain).writable ≡ d)
+    (c : Control) × IsControl f.bytes c × (decided_of inventory.addresses c (lengths_of f.chain).writable ≡ d)
 
 -- the direct answer of a chain of a queue
-abbrev pub IsDirect : List Address → ℕ → PlainFetch → List ℕ → Type 0
+abbrev pub IsDirect : PlainInventory → ℕ → PlainFetch → List ℕ → Type 0
 IsDirect inventory zero f a = DecidesControl inventory f (managed.Direct a)
 IsDirect inventory (suc q) f a = DecidesRequest inventory f (decision.Direct a)
 
@@ -54,7 +54,7 @@ pub record Arrives (w : PlainWorld) (f : PlainFetch) (x : PlainJob) : Type 0 whe
   pub chain : x.chain ≡ f.chain
   pub ticket : x.entry.ticket ≡ f.chain.ticket
   pub decided : DecidesRequest w.inventory f (decision.Enter x.unit (request_of x.entry))
-  pub addressed : slice_get w.inventory x.unit ≡ Some x.address
+  pub addressed : slice_get w.inventory.addresses x.unit ≡ Some x.address
 
 -- the request stands in its queue's slot
 abbrev pub after_arrive : PlainFetch → PlainJob → PlainWorld → PlainWorld
