@@ -21,6 +21,7 @@ opening_of u =
       blocks = u.opening_blocks;
       calm = u.calm;
       content = content_of u.opened.items;
+      profile = u.facts.profile;
     }
 
 abbrev pub plain_unit : Inside → PlainUnit

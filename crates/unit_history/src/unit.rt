@@ -156,6 +156,7 @@ impl UnitState {
           blocks = spec.now.blocks;
           calm = spec.now.calm;
           content = [];
+          profile = spec.now.profile;
         }) keeps_replies) }
     {
         let luns = Vec::from_slice(alloc, luns)?;
@@ -166,6 +167,7 @@ impl UnitState {
                 lun: spec.lun,
                 luns,
                 pending: None,
+                profile: spec.profile,
             },
             calm: spec.calm,
             attentions: attentions_at_start(spec.calm),

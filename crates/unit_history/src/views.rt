@@ -5,6 +5,7 @@ use crate::kind::StepKind;
 use crate::outcomes::Receipt;
 use crate::unit::{Place, UnitState, has_address};
 use block_store::Store;
+use cdb::Profile;
 use foundation::NoMemory;
 use ring_core::Ticket;
 use scsi_codec::Address;
@@ -138,6 +139,13 @@ impl UnitState {
         ensures { result ≡ self.now.opening.lun }
     {
         self.facts.lun
+    }
+
+    /// Returns the profile of its commands.
+    pub fn profile(&self) -> Profile
+        ensures { result ≡ self.now.opening.profile }
+    {
+        self.facts.profile
     }
 
     /// Returns how many blocks it opened with.

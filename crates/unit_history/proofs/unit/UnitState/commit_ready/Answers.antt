@@ -56,7 +56,7 @@ invariant_of-self-in-Ready c =
           (keep_run c.self.invariant.kept c.ticket-ticket.result c.in-Some.task.now.seen.entry c.keeps_replies-keeps.result
           (facts_of (told c.self.inside.facts c.self.inside.attentions) (disks.size_of c.self.inside.store)) (option_map performed_of c.in-Ok.performed) _ _ _
           (is_ready c.self.invariant.kept c.ticket-ticket.result c.in-Some.task.now at turns.1 turns.2 turns.3)
-          (told_is c.self.invariant.kept c.self.inside.facts (disks.size_of c.self.inside.store) refl refl refl c.self.invariant.sized)
+          (told_is c.self.invariant.kept c.self.inside.facts (disks.size_of c.self.inside.store) refl refl refl refl c.self.invariant.sized)
           (rw (c.command-command.ensures, c.data-bytes.ensures.data) at c.in-Ok.ensures.performed) c.record_run.ensures.room);
       based =
           based_on _ _ n _ (step_for c.ticket-ticket.result _) c.self.inside.log.steps _ (seen_of c.self.inside.tasks) _ c.self.invariant.based (ran_folds c.ticket-ticket.result _)
@@ -107,5 +107,5 @@ returns-in-Ok-clause-step c =
     (disks.blocks_of c.perform_if_ready.new.store) c.perform_if_ready.new.attentions
     (is_of c.self.invariant.kept c.args.job.now c.in-Some.task.now at turns.0)
     (is_ready c.self.invariant.kept c.args.job.now.entry.ticket c.in-Some.task.now at turns.1 turns.2 turns.3)
-    (told_is c.self.invariant.kept c.self.inside.facts (disks.size_of c.self.inside.store) refl refl refl c.self.invariant.sized)
+    (told_is c.self.invariant.kept c.self.inside.facts (disks.size_of c.self.inside.store) refl refl refl refl c.self.invariant.sized)
     (rw keeps (rw (c.command-command.ensures, c.data-bytes.ensures.data) at c.in-Ok.ensures.performed)))
