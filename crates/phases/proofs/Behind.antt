@@ -1,8 +1,8 @@
 -- What is found, left and seen of a memory that others may write too.
 use Rattle.std.proofs.Common.{◌≡◌, ℕ, Bool, true, false, List, ◌++◌, refl, sym, ap, ◌∙◌, subst}
-use Rattle.scsi_codec.specs.declared.lun.Address.{Address}
 use Rattle.ring_core.specs.Writes.{Write, Wrote, all_written}
 use Rattle.ring_core.proofs.Scattering.{written_in_order}
+use Rattle.request_intake.specs.Inventory.{PlainInventory}
 use Rattle.device_model.specs.Parts.{IsSeen}
 use Rattle.device_model.specs.World.{PlainQueue}
 use Rattle.device_model.specs.Transitions.{Transition}
@@ -73,7 +73,7 @@ any_seen : (shared : Bool) (left seen : List ℕ) → seen ≡ left → IsSeen s
 any_seen shared left seen is = subst (λ k. IsSeen shared left k) (sym is) (seen_as_left shared left)
 
 -- and so may what a transition asks
-pub asks_any : (shared : Bool) (inventory : List Address) (missed : Bool) (d : Transition) (q : PlainQueue) (m : List ℕ)
+pub asks_any : (shared : Bool) (inventory : PlainInventory) (missed : Bool) (d : Transition) (q : PlainQueue) (m : List ℕ)
     → AsksQueue false inventory missed d q m → AsksQueue shared inventory missed d q m
 asks_any shared inventory missed (Transition.UseBuffer f xs) q m (gives, spent, writes, is) =
     (gives, spent, writes, any_seen shared (all_written m xs.writes) xs.seen is)
@@ -88,7 +88,7 @@ asks_any shared inventory missed (Transition.Give e c xs) q m (writes, is) =
 asks_any shared inventory missed d q m asks = asks
 
 -- a transition on a queue
-pub does_own : (inventory : List Address) (d : Transition) (q q' : PlainQueue) (m m' : List ℕ)
+pub does_own : (inventory : PlainInventory) (d : Transition) (q q' : PlainQueue) (m m' : List ℕ)
     → DoesQueueIn false inventory d q m q' m' → DoesQueue inventory d q m q' m'
 does_own inventory d q q' m m' does =
     record {

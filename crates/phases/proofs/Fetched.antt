@@ -1,9 +1,9 @@
 -- What a fetch does to its queue, as transitions.
 use Rattle.std.proofs.Common.{◌≡◌, ℕ, List, Option, None, zero, suc, ◌≤◌, inl, inr, refl, ap, ◌∙◌, subst, arith}
-use Rattle.scsi_codec.specs.declared.lun.Address.{Address}
 use Rattle.ring_core.specs.State.{RingState, PlainChain}
 use Rattle.ring_core.specs.Fetch.{Takes}
 use Rattle.ring_core.specs.declared.log.Ticket.{Ticket}
+use Rattle.request_intake.specs.Inventory.{PlainInventory}
 use Rattle.request_intake.specs.declared.decision.Decision.TheVariants as decision
 use Rattle.task_mgmt.specs.declared.control.ControlDecision.TheVariants as managed
 use Rattle.device_model.specs.Parts.{PlainFetch, Outcome, Slot}
@@ -19,13 +19,13 @@ use Rattle.phases.specs.Fetching.{IsRequestFetch, IsControlFetch, opens}
 use Rattle.phases.specs.Inner.Fetching.{Arrives, IsDecided}
 
 -- a direct answer to a chain of a request queue is decided as that of a request
-request_direct : (inventory : List Address) (n : ℕ) (f : PlainFetch) (a : List ℕ) → 2 ≤ n
+request_direct : (inventory : PlainInventory) (n : ℕ) (f : PlainFetch) (a : List ℕ) → 2 ≤ n
     → DecidesRequest inventory f (decision.Direct a) → IsDirect inventory n f a
 request_direct inventory zero f a two decides = absurd (omega (arith, two))
 request_direct inventory (suc n) f a two decides = decides
 
 -- a direct answer to a chain of the control queue is decided as that of a control request
-control_direct : (inventory : List Address) (n : ℕ) (f : PlainFetch) (a : List ℕ) → n ≡ 0
+control_direct : (inventory : PlainInventory) (n : ℕ) (f : PlainFetch) (a : List ℕ) → n ≡ 0
     → DecidesControl inventory f (managed.Direct a) → IsDirect inventory n f a
 control_direct inventory zero f a none decides = decides
 control_direct inventory (suc n) f a none decides = absurd (omega (arith, none))
@@ -39,7 +39,7 @@ same_queue q r s n ring slot notices =
     ∙ ap (λ (x : ℕ). record q { ring = r; slot = s; notices = x }) notices
 
 -- A chain with these bytes was taken from a queue:
-module _ (inventory : List Address) (old new : BareQueue) (m : List ℕ) (c : PlainChain) (bytes : List ℕ) (s : Slot)
+module _ (inventory : PlainInventory) (old new : BareQueue) (m : List ℕ) (c : PlainChain) (bytes : List ℕ) (s : Slot)
     (taken : Takes old.ring m c bytes new.ring) (same : new.notices ≡ old.notices) where
   abbrev fetch : PlainFetch
   fetch = record { chain = c; bytes = bytes }
@@ -108,7 +108,7 @@ module _ (inventory : List Address) (old new : BareQueue) (m : List ℕ) (c : Pl
       )
 
 -- a fault of the guest that breaks a queue is the transition that breaks it
-pub broken : (inventory : List Address) (old new : BareQueue) (m : List ℕ) (s : Slot) (b : Breaks old m new)
+pub broken : (inventory : PlainInventory) (old new : BareQueue) (m : List ℕ) (s : Slot) (b : Breaks old m new)
     → DoesQueue inventory (Transition.Break old.ring.queue b.fault) (with_slot s old) m (with_slot s new) m
 broken inventory old new m s b =
     record {

@@ -3,6 +3,7 @@ use Rattle.std.specs.Prelude.{ℕ, ◌≡◌, Bool, true, false, List, Option, S
 use Rattle.scsi_codec.specs.ControlQueue.{function_bytes}
 use Rattle.ring_core.specs.State.{RingState, PlainChain}
 use Rattle.ring_core.specs.Writes.{Write}
+use Rattle.request_intake.specs.Inventory.{PlainInventory}
 use Rattle.task_mgmt.specs.Functions.{is_over, response_of}
 use Rattle.device_model.specs.Parts.{Outcome, Slot, as_left, lengths_of, bytes_of, answer_writes}
 use Rattle.device_model.specs.World.{Opened}
@@ -27,7 +28,7 @@ pub record LetsGo (q : BareQueue) (m : List ℕ) (c : PlainChain) (q' : BareQueu
 
 abbrev pub Directs : Slot → BareQueue → List ℕ → Bool → BareQueue → List ℕ → Slot → Type 0
 Directs (Slot.Direct c o) q m true q' m' s' =
-    ((inventory : List _) → DoesQueue inventory (Transition.Direct c o (as_left m (decided_writes q.ring c o)))
+    ((inventory : PlainInventory) → DoesQueue inventory (Transition.Direct c o (as_left m (decided_writes q.ring c o)))
     (with_slot (Slot.Direct c o) q) m (with_slot s' q') m') × (s' ≡ Slot.Empty)
 Directs (Slot.Direct c o) q m false q' m' s' = LetsGo q m c q' m' × (s' ≡ Slot.Empty)
 Directs s q m true q' m' s' = ⊥

@@ -1,11 +1,11 @@
 -- What the phases do that work on the event queue: a fetch from it, and the raising of an event.
 use Rattle.std.specs.Prelude.{ℕ, ◌≡◌, ◌<◌, ◌&&◌, ◌++◌, Bool, true, false, List, [], ◌∷◌, length, drop, Result, Ok, Err}
 use Rattle.foundation.specs.declared.NoMemory.{NoMemory}
-use Rattle.scsi_codec.specs.declared.lun.Address.{Address}
 use Rattle.scsi_codec.specs.declared.event_queue.Event.{Event as EventRecord}
 use Rattle.scsi_codec.specs.EventQueue.{event_bytes}
 use Rattle.ring_core.specs.State.{PlainChain}
 use Rattle.ring_core.specs.Offer.{MayLackMemory}
+use Rattle.request_intake.specs.Inventory.{PlainInventory}
 use Rattle.event_queue.specs.Port.{PlainPort}
 use Rattle.device_model.specs.Parts.{answer_writes, as_left, is_short}
 use Rattle.device_model.specs.World.{PlainQueue}
@@ -36,7 +36,7 @@ port_after d p = p
 -- a transition on the queue with memory and the port, which says whether an event was missed, whatever units there are
 pub record DoesAtPort (d : Transition) (q : PlainQueue) (m : List ℕ) (p : PlainPort) (q' : PlainQueue) (m' : List ℕ)
     (p' : PlainPort) : Type 0 where
-  pub asks : (shared : Bool) (inventory : List Address) → AsksQueue shared inventory p.missed d q m
+  pub asks : (shared : Bool) (inventory : PlainInventory) → AsksQueue shared inventory p.missed d q m
   pub queue : q' ≡ queue_after d m q
   pub memory : m' ≡ bytes_after d m
   pub port : p' ≡ port_after d p

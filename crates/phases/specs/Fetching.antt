@@ -1,8 +1,8 @@
 -- What a fetch does: of a request queue, and of the control queue.
 use Rattle.std.specs.Prelude.{ℕ, ◌≡◌, ◌≤◌, Bool, true, false, List, length, Option, Some, None, Result, Ok, Err}
 use Rattle.foundation.specs.declared.NoMemory.{NoMemory}
-use Rattle.scsi_codec.specs.declared.lun.Address.{Address}
 use Rattle.ring_core.specs.Offer.{Offers, Nothing, MayLackMemory}
+use Rattle.request_intake.specs.Inventory.{PlainInventory}
 use Rattle.device_model.specs.Parts.{Slot}
 use Rattle.device_model.specs.World.{PlainQueue, Opened}
 use Rattle.device_model.specs.Transitions.{Transition}
@@ -27,7 +27,7 @@ IsRequestFetch i (Transition.Break q n) = q ≡ i
 IsRequestFetch i d = ⊥
 
 -- a request arrived, was refused, or a fault broke the queue; nothing was there; or memory was refused
-abbrev pub FetchesRequest : List Address → List ℕ → PlainQueue → Result Bool NoMemory → PlainQueue → Type 0
+abbrev pub FetchesRequest : PlainInventory → List ℕ → PlainQueue → Result Bool NoMemory → PlainQueue → Type 0
 FetchesRequest inventory m q (Ok true) q' =
     (2 ≤ q.ring.queue) × IsFree q m
     × ((d : Transition) × IsRequestFetch q.ring.queue d × DoesQueue inventory d q m q' m)
@@ -48,7 +48,7 @@ opens d = None
 
 -- a function opened, a request was answered directly, or a fault broke the queue; nothing was there, or a function is
 -- open; or memory was refused
-abbrev pub FetchesControl : List Address → List ℕ → PlainQueue → Option Opened → Result Bool NoMemory → PlainQueue
+abbrev pub FetchesControl : PlainInventory → List ℕ → PlainQueue → Option Opened → Result Bool NoMemory → PlainQueue
     → Option Opened → Type 0
 FetchesControl inventory m q f (Ok true) q' f' =
     (q.ring.queue ≡ 0) × IsFree q m × (f ≡ None)

@@ -1,7 +1,7 @@
 -- What the operator's reset of a unit does.
 use Rattle.std.specs.Prelude.{ℕ, ◌≡◌, ◌<◌, ◌++◌, Bool, true, false, List, [], ◌∷◌, Result, Ok, Err}
-use Rattle.scsi_codec.specs.declared.lun.Address.{Address}
 use Rattle.scsi_codec.specs.declared.event_queue.Event.{Event as EventRecord}
+use Rattle.request_intake.specs.Inventory.{PlainInventory}
 use Rattle.unit_model.specs.Steps.{Step}
 use Rattle.unit_model.specs.Jobs.{Jobs}
 use Rattle.unit_model.specs.Unit.{PlainUnit}
@@ -23,7 +23,7 @@ pub record StaysReset (u : PlainUnit) (out : Jobs) (w : List EventRecord) (u' : 
 
 -- the unit of this place of the inventory is reset, its released jobs are appended, and the event waits; there is no room
 -- for the jobs, or no event may name the unit's LUN; or it is another unit; or memory was refused
-abbrev pub Resets : List Address → ℕ → PlainUnit → Jobs → List EventRecord → Result Bool ResetFault → PlainUnit → Jobs
+abbrev pub Resets : PlainInventory → ℕ → PlainUnit → Jobs → List EventRecord → Result Bool ResetFault → PlainUnit → Jobs
     → List EventRecord → Type 0
 Resets inventory place u out w (Ok true) u' out' w' =
     IsAddressed inventory place u

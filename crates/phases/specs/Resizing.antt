@@ -1,7 +1,7 @@
 -- What the operator's resize of a unit does.
 use Rattle.std.specs.Prelude.{ℕ, ◌≡◌, ◌<◌, ◌++◌, Bool, true, false, List, Some, Result, Ok, Err}
-use Rattle.scsi_codec.specs.declared.lun.Address.{Address}
 use Rattle.scsi_codec.specs.declared.event_queue.Event.{Event as EventRecord}
+use Rattle.request_intake.specs.Inventory.{PlainInventory}
 use Rattle.unit_model.specs.Unit.{PlainUnit}
 use Rattle.unit_model.specs.Contents.{is_capacity}
 use Rattle.phases.specs.declared.resizing.ResizeFault.{ResizeFault}
@@ -13,14 +13,14 @@ use Rattle.phases.specs.DoingUnit.{DoesUnit}
 
 -- a resize is refused where the unit is another than the one at this place of the inventory, else where no unit may have
 -- so many blocks, and memory only where one may
-abbrev pub RefusesResize : List Address → ℕ → PlainUnit → ℕ → ResizeFault → Type 0
+abbrev pub RefusesResize : PlainInventory → ℕ → PlainUnit → ℕ → ResizeFault → Type 0
 RefusesResize inventory place u blocks fault.WrongUnit = IsAddressed inventory place u → ⊥
 RefusesResize inventory place u blocks fault.BadCapacity = IsAddressed inventory place u × (is_capacity blocks ≡ false)
 RefusesResize inventory place u blocks fault.NoMemory = IsAddressed inventory place u × (is_capacity blocks ≡ true)
 
 -- the unit of this place of the inventory has so many blocks, and the event waits where the driver is told; or no event may
 -- name the unit's LUN; or it is refused, and nothing changed
-abbrev pub ResizesUnit : List Address → ℕ → PlainUnit → ℕ → Bool → List EventRecord → Result Bool ResizeFault → PlainUnit
+abbrev pub ResizesUnit : PlainInventory → ℕ → PlainUnit → ℕ → Bool → List EventRecord → Result Bool ResizeFault → PlainUnit
     → List EventRecord → Type 0
 ResizesUnit inventory place u blocks told w (Ok true) u' w' =
     IsAddressed inventory place u × DoesUnit (Transition.Resize place blocks) u u'

@@ -1,6 +1,6 @@
 -- What the phases do that work on a unit.
 use Rattle.std.specs.Prelude.{ℕ, ◌≡◌, ◌⊎◌, Bool, true, false, List, [], ◌∷◌, length}
-use Rattle.scsi_codec.specs.declared.lun.Address.{Address}
+use Rattle.request_intake.specs.Inventory.{PlainInventory}
 use Rattle.unit_model.specs.Tasks.{task_of}
 use Rattle.unit_model.specs.Steps.{Step, alive}
 use Rattle.unit_model.specs.Endings.{Ending}
@@ -114,7 +114,7 @@ pub record FailsMark (u u' : PlainUnit) (f f' : Opened) (out out' : Jobs) : Type
 
 -- the unit is the one that the function names, and is marked or looked at; or the function fails: there, or where a mark is
 -- refused memory
-abbrev pub MarksUnit : List Address → Opened → ℕ → Kind → PlainUnit → Jobs → PlainUnit → Opened → Jobs → Type 0
+abbrev pub MarksUnit : PlainInventory → Opened → ℕ → Kind → PlainUnit → Jobs → PlainUnit → Opened → Jobs → Type 0
 MarksUnit inventory f place (Marking m) u out u' f' out' =
     (IsAddressed inventory place u
     × DoesUnit (Transition.Mark f.chain.ticket (mark_at place u) m (handed_out u (step_by m))) u u'
@@ -127,7 +127,7 @@ MarksUnit inventory f place (Querying rule) u out u' f' out' =
     × (f' ≡ record f { function = asking (any_met rule (alive u.steps)) f.function }) × (out' ≡ out))
     ⊎ ((IsAddressed inventory place u → ⊥) × FailsMark u u' f f' out out')
 
-abbrev pub MarksNext : List Address → Opened → List ℕ → PlainUnit → Jobs → Bool → PlainUnit → Opened → Jobs → Type 0
+abbrev pub MarksNext : PlainInventory → Opened → List ℕ → PlainUnit → Jobs → Bool → PlainUnit → Opened → Jobs → Type 0
 MarksNext inventory f (place ∷ later) u out true u' f' out' =
     MarksUnit inventory f place f.function.kind u out u' f' out'
 MarksNext inventory f (place ∷ later) u out false u' f' out' = (HasPlaces out → ⊥) × StaysMark u u' f f' out out'
@@ -135,24 +135,24 @@ MarksNext inventory f [] u out true u' f' out' = ⊥
 MarksNext inventory f [] u out false u' f' out' = StaysMark u u' f f' out out'
 
 -- a function goes on at its next unit, whose address stands in the inventory
-abbrev pub Marks : List Address → Opened → PlainUnit → Jobs → Bool → PlainUnit → Opened → Jobs → Type 0
+abbrev pub Marks : PlainInventory → Opened → PlainUnit → Jobs → Bool → PlainUnit → Opened → Jobs → Type 0
 Marks inventory f u out result u' f' out' = MarksNext inventory f f.function.left u out result u' f' out'
 
 -- Check
 
 -- the first mark is clear at its unit; or the unit is another: the function fails, and waits for this mark no more
-abbrev pub ChecksMark : List Address → Opened → Place → PlainUnit → Opened → Type 0
+abbrev pub ChecksMark : PlainInventory → Opened → Place → PlainUnit → Opened → Type 0
 ChecksMark inventory f p u f' =
     (IsAddressed inventory p.unit u × DoesUnit (Transition.Check f.chain.ticket p) u u
     × (f' ≡ record f { function = checking f.function }))
     ⊎ ((IsAddressed inventory p.unit u → ⊥) × (f' ≡ record f { function = checking (failing f.function) }))
 
-abbrev pub ChecksFirst : List Address → Opened → List ℕ → List Place → PlainUnit → Bool → Opened → Type 0
+abbrev pub ChecksFirst : PlainInventory → Opened → List ℕ → List Place → PlainUnit → Bool → Opened → Type 0
 ChecksFirst inventory f [] (p ∷ later) u true f' = ChecksMark inventory f p u f'
 ChecksFirst inventory f [] (p ∷ later) u false f' =
     IsAddressed inventory p.unit u × (is_clear p.place u.steps ≡ false) × (f' ≡ f)
 ChecksFirst inventory f left waits u true f' = ⊥
 ChecksFirst inventory f left waits u false f' = f' ≡ f
 
-abbrev pub Checks : List Address → Opened → PlainUnit → Bool → Opened → Type 0
+abbrev pub Checks : PlainInventory → Opened → PlainUnit → Bool → Opened → Type 0
 Checks inventory f u result f' = ChecksFirst inventory f f.function.left f.function.waits u result f'

@@ -85,7 +85,7 @@ pub fn phase_fetch_in<M: Memory>(
 /// Returns the decision on a chain of the control queue with these bytes.
 fn decision_of_chain(inventory: &Inventory, chain: &Chain, bytes: &[u8]) -> ControlDecision
     ensures decision { DecidesControl inventory.now (record { chain = chain.now; bytes = bytes.now }) result }
-    ensures suits { Suits (length inventory.now) (writable_total chain.now.parts) result }
+    ensures suits { Suits (length inventory.now.addresses) (writable_total chain.now.parts) result }
 {
     one_control();
     decide_control(inventory, bytes, chain.writable_len())

@@ -1,12 +1,12 @@
 -- What the phases do that work on the event queue, in a memory that others may write too: found, left and seen as in InMemory.
 use Rattle.std.specs.Prelude.{ℕ, ◌≡◌, ◌&&◌, ◌||◌, ◌++◌, Bool, true, false, List, [], ◌∷◌, Result, Ok, Err, ⊤}
 use Rattle.foundation.specs.declared.NoMemory.{NoMemory}
-use Rattle.scsi_codec.specs.declared.lun.Address.{Address}
 use Rattle.scsi_codec.specs.declared.event_queue.Event.{Event as EventRecord}
 use Rattle.scsi_codec.specs.EventQueue.{event_bytes}
 use Rattle.ring_core.specs.State.{PlainChain, Owns}
 use Rattle.ring_core.specs.Writes.{Write, all_written}
 use Rattle.ring_core.specs.Offer.{MayLackMemory}
+use Rattle.request_intake.specs.Inventory.{PlainInventory}
 use Rattle.event_queue.specs.Port.{PlainPort}
 use Rattle.device_model.specs.Parts.{Slot, answer_writes, is_short}
 use Rattle.device_model.specs.World.{PlainQueue}
@@ -29,7 +29,7 @@ use Rattle.phases.specs.EventsInMemory.{SeesBy}
 -- `DoesAtPort` in such a memory
 pub record DoesAtPortIn (shared : Bool) (d : Transition) (q : PlainQueue) (found : List ℕ) (p : PlainPort) (q' : PlainQueue)
     (left seen : List ℕ) (p' : PlainPort) : Type 0 where
-  pub asks : (inventory : List Address) → AsksQueue shared inventory p.missed d q found
+  pub asks : (inventory : PlainInventory) → AsksQueue shared inventory p.missed d q found
   pub queue : q' ≡ queue_after d found q
   pub memory : left ≡ bytes_after d found
   pub sees : SeesBy (completion_of d) left seen

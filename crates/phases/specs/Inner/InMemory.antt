@@ -2,9 +2,9 @@
 -- found by the phase, left by its writes, and seen behind them, by which the notice is decided.
 use Rattle.std.specs.Prelude.{ℕ, ◌≡◌, Bool, true, false, List, Option, Some, None}
 use Rattle.scsi_codec.specs.ControlQueue.{function_bytes}
-use Rattle.scsi_codec.specs.declared.lun.Address.{Address}
 use Rattle.ring_core.specs.State.{PlainChain}
 use Rattle.ring_core.specs.Writes.{Write}
+use Rattle.request_intake.specs.Inventory.{PlainInventory}
 use Rattle.task_mgmt.specs.Functions.{is_over, response_of}
 use Rattle.device_model.specs.Parts.{Completion, Slot, Hand, answer_writes}
 use Rattle.device_model.specs.World.{PlainQueue, Opened}
@@ -19,7 +19,7 @@ abbrev pub as_seen : List ℕ → List Write → Completion
 as_seen n xs = record { writes = xs; seen = n }
 
 -- a transition on a queue with memory, where these units are
-pub record DoesQueueIn (shared : Bool) (inventory : List Address) (d : Transition) (q : PlainQueue) (found : List ℕ)
+pub record DoesQueueIn (shared : Bool) (inventory : PlainInventory) (d : Transition) (q : PlainQueue) (found : List ℕ)
     (q' : PlainQueue) (left : List ℕ) : Type 0 where
   pub asks : (missed : Bool) → AsksQueue shared inventory missed d q found
   pub queue : q' ≡ queue_after d found q
@@ -28,7 +28,7 @@ pub record DoesQueueIn (shared : Bool) (inventory : List Address) (d : Transitio
 -- a transition on a queue with memory, whatever units there are and whatever stands in the queue's slot
 abbrev pub AtQueueIn : Bool → Transition → BareQueue → List ℕ → BareQueue → List ℕ → Type 0
 AtQueueIn shared d q found q' left =
-    (inventory : List Address) (s : Slot) → DoesQueueIn shared inventory d (with_slot s q) found (with_slot s q') left
+    (inventory : PlainInventory) (s : Slot) → DoesQueueIn shared inventory d (with_slot s q) found (with_slot s q') left
 
 -- nothing changed, and memory is seen as it was found
 pub record StaysQueueIn (q q' : BareQueue) (found left n : List ℕ) : Type 0 where
@@ -44,7 +44,7 @@ pub record LetsGoIn (q : BareQueue) (found : List ℕ) (c : PlainChain) (q' : Ba
 -- `Directs` in such a memory
 abbrev pub DirectsIn : Bool → Slot → BareQueue → List ℕ → Bool → BareQueue → List ℕ → List ℕ → Slot → Type 0
 DirectsIn shared (Slot.Direct c o) q found true q' left seen s' =
-    ((inventory : List Address) → DoesQueueIn shared inventory (Transition.Direct c o (as_seen seen (decided_writes q.ring c o)))
+    ((inventory : PlainInventory) → DoesQueueIn shared inventory (Transition.Direct c o (as_seen seen (decided_writes q.ring c o)))
     (with_slot (Slot.Direct c o) q) found (with_slot s' q') left) × (s' ≡ Slot.Empty)
 DirectsIn shared (Slot.Direct c o) q found false q' left seen s' = LetsGoIn q found c q' left seen × (s' ≡ Slot.Empty)
 DirectsIn shared s q found true q' left seen s' = ⊥

@@ -1,8 +1,8 @@
 -- What it is to take a request from its queue.
 use Rattle.std.specs.Prelude.{ℕ, ◌≡◌, true, false, List, Option, Some, None, Result, Ok, Err, length, ⊤}
 use Rattle.foundation.specs.declared.NoMemory.{NoMemory}
-use Rattle.scsi_codec.specs.declared.lun.Address.{Address}
 use Rattle.ring_core.specs.State.{PlainChain, Owns}
+use Rattle.request_intake.specs.Inventory.{PlainInventory}
 use Rattle.unit_model.specs.Jobs.{PlainJob}
 use Rattle.device_model.specs.Parts.{Slot}
 use Rattle.virtqueue.specs.Queue.{BareQueue}
@@ -13,18 +13,18 @@ use Rattle.phases.specs.declared.taking.Taken.{Taken}
 use Rattle.phases.specs.declared.taking.Taken.TheVariants as taken
 
 -- a request that arrives is in hand, and would stand in the slot; a direct answer stands there
-abbrev pub Decides : List Address → PlainChain → List ℕ → Slot → Option PlainJob → Slot → Type 0
+abbrev pub Decides : PlainInventory → PlainChain → List ℕ → Slot → Option PlainJob → Slot → Type 0
 Decides inventory c bytes s (Some x) s' = Arrives inventory c bytes (Slot.Arrived x) × (s' ≡ s)
 Decides inventory c bytes s None s' = Arrives inventory c bytes s'
 
 -- so, as it was taken
-abbrev pub IsTakenAs : List Address → PlainChain → List ℕ → Slot → Taken → Slot → Type 0
+abbrev pub IsTakenAs : PlainInventory → PlainChain → List ℕ → Slot → Taken → Slot → Type 0
 IsTakenAs inventory c bytes s taken.Nothing s' = ⊥
 IsTakenAs inventory c bytes s taken.Other s' = Decides inventory c bytes s None s'
 IsTakenAs inventory c bytes s (taken.Arrived x) s' = Decides inventory c bytes s (Some x) s'
 
 -- the queue is fetched from; a request that arrived is in hand, and would stand in the slot
-abbrev pub TakesRequest : List Address → List ℕ → Slot → BareQueue → Result Taken NoMemory → Slot → BareQueue → Type 0
+abbrev pub TakesRequest : PlainInventory → List ℕ → Slot → BareQueue → Result Taken NoMemory → Slot → BareQueue → Type 0
 TakesRequest inventory m s q (Ok taken.Nothing) s' q' =
     FetchesRequest inventory m (with_slot s q) (Ok false) (with_slot s' q')
 TakesRequest inventory m s q (Ok taken.Other) s' q' =
