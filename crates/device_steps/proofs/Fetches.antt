@@ -2,7 +2,7 @@
 use Rattle.std.proofs.Common.{◌≡◌, ◌≤◌, ℕ, zero, suc, Bool, true, false, List, length, Option, Some, None, Result, Ok, Err, sym, ap, ◌∙◌, arith, inl, inr}
 use Rattle.std.specs.Prelude.{slice_get, slice_set}
 use Rattle.foundation.specs.declared.NoMemory.{NoMemory}
-use Rattle.scsi_codec.specs.declared.lun.Address.{Address}
+use Rattle.request_intake.specs.Inventory.{PlainInventory}
 use Rattle.device_model.specs.Parts.{Outcome, Slot}
 use Rattle.device_model.specs.World.{PlainQueue, PlainWorld, Opened, change}
 use Rattle.device_model.specs.Events.{Event}
@@ -114,7 +114,7 @@ request_turns w i q q' (Err e) sound two at fits h = (
 )
 
 -- and the ring keeps its memory
-pub request_memory : (inventory : List Address) (m : List ℕ) (q q' : PlainQueue) (r : Result Bool NoMemory)
+pub request_memory : (inventory : PlainInventory) (m : List ℕ) (q q' : PlainQueue) (r : Result Bool NoMemory)
     → FetchesRequest inventory m q r q' → q'.ring.memory ≡ q.ring.memory
 request_memory inventory m q q' (Ok true) h =
     ap (λ (z : PlainQueue). z.ring.memory) h.2.2.queue ∙ keeps_memory h.2.0 m q

@@ -1,7 +1,7 @@
 -- The open function marks its next unit, or looks at it.
 use Rattle.std.proofs.Common.{◌≡◌, ◌+◌, ◌*◌, ℕ, Bool, true, false, List, [], ◌∷◌, length, Option, Some, refl, sym, ap, ◌∙◌, subst, inl, inr}
 use Rattle.std.specs.Prelude.{slice_get, slice_set, map}
-use Rattle.scsi_codec.specs.declared.lun.Address.{Address}
+use Rattle.request_intake.specs.Inventory.{PlainInventory}
 use Rattle.unit_model.specs.Steps.{alive}
 use Rattle.unit_model.specs.Seen.{any_met}
 use Rattle.unit_model.specs.Jobs.{PlainJob, Jobs}
@@ -27,14 +27,14 @@ use Rattle.device_steps.specs.Kept.{KeptSeat, seat_of}
 use Rattle.device_steps.proofs.Setting.{list_of, listing, unit_change, unit_still, seat_there, seat_more, seat_still, has_places}
 
 -- the list keeps its limit
-limit_of_kind : (inventory : List Address) (f : Opened) (place : ℕ) (kind : Kind) (u : PlainUnit) (out : Jobs) (v : PlainUnit)
+limit_of_kind : (inventory : PlainInventory) (f : Opened) (place : ℕ) (kind : Kind) (u : PlainUnit) (out : Jobs) (v : PlainUnit)
     (g : Opened) (out' : Jobs) → MarksUnit inventory f place kind u out v g out' → out'.limit ≡ out.limit
 limit_of_kind inventory f place (Marking m) u out v g out' (inl h) = ap (λ (j : Jobs). j.limit) h.3
 limit_of_kind inventory f place (Marking m) u out v g out' (inr h) = ap (λ (j : Jobs). j.limit) h.jobs
 limit_of_kind inventory f place (Querying rule) u out v g out' (inl h) = ap (λ (j : Jobs). j.limit) h.3
 limit_of_kind inventory f place (Querying rule) u out v g out' (inr h) = ap (λ (j : Jobs). j.limit) h.1.jobs
 
-pub limit_stays : (inventory : List Address) (f : Opened) (left : List ℕ) (u : PlainUnit) (out : Jobs) (b : Bool) (v : PlainUnit)
+pub limit_stays : (inventory : PlainInventory) (f : Opened) (left : List ℕ) (u : PlainUnit) (out : Jobs) (b : Bool) (v : PlainUnit)
     (g : Opened) (out' : Jobs) → MarksNext inventory f left u out b v g out' → out'.limit ≡ out.limit
 limit_stays inventory f (place ∷ later) u out true v g out' h =
     limit_of_kind inventory f place f.function.kind u out v g out' h

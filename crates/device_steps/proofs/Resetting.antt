@@ -3,8 +3,8 @@ use Rattle.std.proofs.Common.{◌≡◌, ◌≤◌, ◌<◌, ◌+◌, ◌*◌, �
 use Rattle.std.specs.Prelude.{slice_get, slice_set, map}
 use Rattle.std.proofs.lemmas.List.{length-map}
 use Rattle.foundation.specs.declared.NoMemory.{NoMemory}
-use Rattle.scsi_codec.specs.declared.lun.Address.{Address}
 use Rattle.scsi_codec.specs.declared.event_queue.Event.{Event as EventRecord}
+use Rattle.request_intake.specs.Inventory.{PlainInventory}
 use Rattle.unit_model.specs.Steps.{Step}
 use Rattle.unit_model.specs.Jobs.{Jobs}
 use Rattle.unit_model.specs.Unit.{PlainUnit, after as stepped}
@@ -26,7 +26,7 @@ use Rattle.device_steps.specs.Sound.{AreFew, lun_of}
 use Rattle.device_steps.proofs.Setting.{list_of, listing, unit_change, unit_still, map_get, seat_there, seat_more, seat_still, has_places}
 
 -- the list keeps its limit
-pub reset_limit : (inventory : List Address) (p : ℕ) (u v : PlainUnit) (out out' : Jobs) (x y : List EventRecord)
+pub reset_limit : (inventory : PlainInventory) (p : ℕ) (u v : PlainUnit) (out out' : Jobs) (x y : List EventRecord)
     (r : Result Bool ResetFault) → Resets inventory p u out x r v out' y → out'.limit ≡ out.limit
 reset_limit inventory p u v out out' x y (Ok true) h = ap (λ (j : Jobs). j.limit) h.2
 reset_limit inventory p u v out out' x y (Ok false) h = ap (λ (j : Jobs). j.limit) h.1.jobs

@@ -2,10 +2,10 @@
 use Rattle.std.specs.Prelude.{ℕ, ◌≡◌, Bool, true, false, List, [], Option, Result, Ok, Err, ⊤}
 use Rattle.guest_mem.specs.Stores.{Store}
 use Rattle.foundation.specs.declared.NoMemory.{NoMemory}
-use Rattle.scsi_codec.specs.declared.lun.Address.{Address}
 use Rattle.scsi_codec.specs.declared.event_queue.Event.{Event as EventRecord}
 use Rattle.ring_core.specs.State.{PlainChain}
 use Rattle.ring_core.specs.Writes.{Write, stores_of}
+use Rattle.request_intake.specs.Inventory.{PlainInventory}
 use Rattle.unit_model.specs.Jobs.{PlainJob}
 use Rattle.unit_model.specs.Unit.{PlainUnit}
 use Rattle.device_model.specs.World.{PlainQueue, Seat, Opened, PlainWorld, Everywhere}
@@ -19,7 +19,7 @@ use Rattle.phases.specs.EventsInMemory.{SeesBy}
 
 -- all of the device but memory
 pub record PlainDevice : Type 0 where
-  pub inventory : List Address
+  pub inventory : PlainInventory
   pub queues : List PlainQueue
   pub units : List PlainUnit
   pub seats : List Seat

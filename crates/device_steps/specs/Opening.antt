@@ -15,7 +15,7 @@ use Rattle.unit_model.specs.Unit as unit
 use Rattle.block_store.specs.declared.paged.PagedStore.{PagedStore}
 use Rattle.unit_history.specs.Disks.{opening_over, IsDiskOf}
 use Rattle.scsi_codec.specs.declared.lun.Address.{Address}
-use Rattle.request_intake.specs.Inventory.{address_of, luns_of}
+use Rattle.request_intake.specs.Inventory.{address_of, inventory_of, luns_of}
 use Rattle.request_intake.specs.declared.inventory.UnitSpec.{UnitSpec}
 use Rattle.config.specs.Config.{form_of, has_bit, is_config, size_of}
 use Rattle.config.specs.declared.config.Config.{Config}
@@ -33,6 +33,7 @@ opening_of inventory u =
       blocks = u.blocks;
       calm = u.calm;
       content = [];
+      profile = u.profile;
     }
 
 -- a unit of which no step was taken. It keeps no replies, since no receipt outlives a chain's service
@@ -57,7 +58,7 @@ pub record AreFresh (wanted : List UnitSpec) (units : List PlainUnit) : Type 0 w
 pub record IsOpeningFor (size : ℕ) (c : Config) (w : PlainWorld) : Type 0 where
   pub form : Form
   pub agreed : form_of c.features ≡ Some form
-  pub inventory : w.inventory ≡ map address_of c.units.items
+  pub inventory : w.inventory ≡ inventory_of c.units.items
   pub queues : AreOpening form size (features_of c.features) c.queues.items w.queues
   pub units : AreFresh c.units.items w.units
   pub workers : w.workers ≡ c.workers

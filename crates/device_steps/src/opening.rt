@@ -58,7 +58,7 @@ fn open_bays<M: Memory>(
 /// Makes a unit of an inventory, of which no step was taken. `NoMemory` where the list of its target's LUNs was
 /// refused memory.
 fn open_unit(alloc: Global, spec: &UnitSpec, inventory: &Inventory) -> Result<UnitState, NoMemory>
-    ensures { IfOk result (λ unit. unit ≡ opening_unit inventory.now spec.now) }
+    ensures { IfOk result (λ unit. unit ≡ opening_unit inventory.now.addresses spec.now) }
 {
     let luns = inventory.luns_of(alloc, spec.target)?;
     // No receipt outlives the answer of its chain, so no reply is kept to be compared.
@@ -71,7 +71,7 @@ fn open_units(
     wanted: &[UnitSpec],
     inventory: &Inventory,
 ) -> Result<Vec<UnitState>, NoMemory>
-    requires { inventory.now ≡ map address_of wanted.now }
+    requires { inventory.now.addresses ≡ map address_of wanted.now }
     ensures { IfOk result (λ units. AreFresh wanted.now units.items) }
 {
     let mut units = Vec::new(alloc);

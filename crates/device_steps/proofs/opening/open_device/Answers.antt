@@ -1,6 +1,6 @@
 use Rattle.std.proofs.Common.{ℕ, ◌+◌, ◌*◌, List, map, refl, sym, ap, ◌∙◌, subst, arith}
 use Rattle.std.proofs.lemmas.List.{length-map}
-use Rattle.request_intake.specs.Inventory.{address_of}
+use Rattle.request_intake.specs.Inventory.{inventory_of}
 use Rattle.request_intake.specs.declared.inventory.UnitSpec.{UnitSpec}
 use Rattle.ring_core.specs.State.{features_of}
 use Rattle.ring_core.specs.declared.layout.Layout.{Layout}
@@ -26,7 +26,7 @@ returns g c =
     record {
       form = c.in-Some.form;
       agreed = sym c.form.ensures ∙ c.in-Some.is;
-      inventory = c.new-inventory.ensures ∙ ap (λ (us : List UnitSpec). map address_of us) c.as_slice-2.ensures.value;
+      inventory = c.new-inventory.ensures ∙ ap (λ (us : List UnitSpec). inventory_of us) c.as_slice-2.ensures.value;
       queues =
           subst (λ (ls : List Layout). AreOpening c.in-Some.form (g.M.Memory.extent c.args.memory.now) (features_of c.args.config.now.features) ls c.in_ok-bays.bays.items)
           c.as_slice.ensures.value c.in_ok-bays.ensures;

@@ -17,10 +17,10 @@ loop-number-preserved c =
           (omega (arith, length-append c.loop-number.units.items (c.in_ok-unit.unit ∷ []), c.loop-number.invariant.count));
       each =
           rw pushed
-          (one_more (λ (k : ℕ) (u : UnitSpec). opening_unit c.args.inventory.now u) c.args.wanted.now
+          (one_more (λ (k : ℕ) (u : UnitSpec). opening_unit c.args.inventory.now.addresses u) c.args.wanted.now
           c.loop-number.units.items c.loop-number.number c.loop-number.invariant.count c.loop-number.invariant.each
           c.in_ok-unit.unit (λ u is. c.in_ok-unit.ensures
-          ∙ ap (λ (x : UnitSpec). opening_unit c.args.inventory.now x)
+          ∙ ap (λ (x : UnitSpec). opening_unit c.args.inventory.now.addresses x)
           (get_or_from_slice_get c.args.wanted.now c.loop-number.number u _ is)));
     }
 

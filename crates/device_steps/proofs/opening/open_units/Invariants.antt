@@ -9,5 +9,5 @@ invariant-loop-number l =
     record {
       count : length l.units.items ≡ l.number;
       each : (k : ℕ) (u : UnitSpec) → k < l.number → slice_get l.wanted k ≡ Some u
-          → slice_get l.units.items k ≡ Some (opening_unit l.inventory u);
+          → slice_get l.units.items k ≡ Some (opening_unit l.inventory.addresses u);
     }
