@@ -11,11 +11,12 @@ use Rattle.ring_core.specs.declared.layout.Features.{Features}
 use Rattle.ring_core.specs.declared.layout.Form.{Form}
 use Rattle.ring_core.specs.declared.layout.Form.TheVariants.{Split, Packed}
 use Rattle.ring_core.specs.declared.layout.Layout.{Layout}
-use Rattle.request_intake.specs.Inventory.{address_of, is_rising}
+use Rattle.request_intake.specs.Inventory.{PlainInventory, address_of, inventory_of, is_rising}
 use Rattle.request_intake.specs.declared.inventory.UnitSpec.{UnitSpec}
 use Rattle.unit_model.specs.Unit.{PlainUnit}
 use Rattle.unit_model.specs.Receipts.{unit_address}
 use Rattle.scsi_codec.specs.declared.lun.Address.{Address}
+use Rattle.device_model.specs.Addressed.{IsAddressed}
 use Rattle.device_model.specs.Parts.{Slot}
 use Rattle.device_model.specs.World.{PlainQueue, PlainWorld, Everywhere, IsNewQueue, IsNewUnit, Opens}
 use Rattle.device_model.proofs.Lists.{nothing, same}
@@ -24,6 +25,7 @@ use Rattle.phases.specs.Queue.{with_slot}
 use Rattle.config.specs.declared.config.Config.{Config}
 use Rattle.config.specs.Config.{is_config, is_config_for, has_pages, is_queue, is_unit, has_lun_0, are_queues, are_units, form_of, size_of}
 use Rattle.block_store.specs.declared.paged.PagedStore.{PagedStore}
+use Rattle.unit_history.specs.Disks.{opening_over}
 use Rattle.device_steps.specs.Opening.{AreOpening, AreFresh, IsOpeningFor, over_disks, opening_unit}
 use Rattle.device_steps.specs.Sound.{AreFew, AreFitting, IsSteady, IsWhole}
 use Rattle.device_steps.proofs.Setting.{map_get, each_image}
@@ -105,27 +107,31 @@ taken size c is =
 pub taken_own : (c : Config) → is_config c ≡ true → is_config_for (size_of c) c ≡ true
 taken_own c is = (and_parts (has_pages c) (is_config_for (size_of c) c) is).1
 
--- each unit has the address that stands in the inventory at its place
-addressed_open : (wanted : List UnitSpec) (inventory : List Address) (units : List PlainUnit) → AreFresh wanted units
-    → inventory ≡ map address_of wanted
-    → Everywhere (λ (i : ℕ) (u : PlainUnit). slice_get inventory i ≡ Some (unit_address u.opening)) units
+-- each unit has the address and the profile that stand in the inventory at its place
+addressed_open : (wanted : List UnitSpec) (inventory : PlainInventory) (units : List PlainUnit) → AreFresh wanted units
+    → inventory ≡ inventory_of wanted
+    → Everywhere (IsAddressed inventory) units
 addressed_open wanted inventory units fresh is k u at =
     let found = stands_at wanted k (omega (arith, slice_get_within units k u at, fresh.count)) in
-    let one : opening_unit (map address_of wanted) found.0 ≡ u = same (sym (fresh.each k found.0 found.1) ∙ at) in
-    ap (λ (ns : List Address). slice_get ns k) is
-    ∙ map_get address_of k wanted found.0 found.1
-    ∙ ap (λ (z : PlainUnit). Some (unit_address z.opening)) one
+    let one : opening_unit (map address_of wanted) found.0 ≡ u = same (sym (fresh.each k found.0 found.1) ∙ at) in (
+      ap (λ (ns : PlainInventory). slice_get ns.addresses k) is
+          ∙ map_get address_of k wanted found.0 found.1
+          ∙ ap (λ (z : PlainUnit). Some (unit_address z.opening)) one,
+      ap (λ (ns : PlainInventory). slice_get ns.profiles k) is
+          ∙ map_get (λ (s : UnitSpec). s.profile) k wanted found.0 found.1
+          ∙ ap (λ (z : PlainUnit). Some z.opening.profile) one,
+    )
 
 -- and so where they are over disks
-over_addresses : (f : ℕ → Option Address) (units : List PlainUnit) (disks : List PagedStore)
-    → ((i : ℕ) (u : PlainUnit) → slice_get units i ≡ Some u → f i ≡ Some (unit_address u.opening))
-    → (i : ℕ) (u : PlainUnit) → slice_get (over_disks units disks) i ≡ Some u → f i ≡ Some (unit_address u.opening)
-over_addresses f [] disks is i u at = absurd (nothing at)
-over_addresses f (v ∷ units) [] is i u at = is i u at
-over_addresses f (v ∷ units) (disk ∷ disks) is zero u at =
-    is zero v refl ∙ ap (λ (z : PlainUnit). Some (unit_address z.opening)) (same at)
-over_addresses f (v ∷ units) (disk ∷ disks) is (suc i) u at =
-    over_addresses (λ j. f (suc j)) units disks (λ j z e. is (suc j) z e) i u at
+over_each : (P : ℕ → PlainUnit → Type 0) (units : List PlainUnit) (disks : List PagedStore)
+    → ((i : ℕ) (u : PlainUnit) (disk : PagedStore) → P i u → P i (record u { opening = opening_over disk u.opening }))
+    → ((i : ℕ) (u : PlainUnit) → slice_get units i ≡ Some u → P i u)
+    → (i : ℕ) (u : PlainUnit) → slice_get (over_disks units disks) i ≡ Some u → P i u
+over_each P [] disks stays is i u at = absurd (nothing at)
+over_each P (v ∷ units) [] stays is i u at = is i u at
+over_each P (v ∷ units) (disk ∷ disks) stays is zero u at = subst (P zero) (same at) (stays zero v disk (is zero v refl))
+over_each P (v ∷ units) (disk ∷ disks) stays is (suc i) u at =
+    over_each (λ j. P (suc j)) units disks (λ j. stays (suc j)) (λ j z e. is (suc j) z e) i u at
 
 -- in the device of a configuration that is taken nothing has happened yet
 pub opens : (size : ℕ) (c : Config) (w : PlainWorld) → is_config_for size c ≡ true → IsOpeningFor size c w → Opens w
@@ -139,7 +145,7 @@ opens size c w is o =
           each_made (λ (k : ℕ) (u : UnitSpec). opening_unit (map address_of c.units.items) u)
           (λ (k : ℕ) (u : PlainUnit). IsNewUnit u) c.units.items w.units o.units.count o.units.each
           (λ k u. record { steps = refl; parked = refl });
-      there = o.units.count ∙ (sym (rw length-map refl) ∙ ap length (sym o.inventory));
+      there = o.units.count ∙ (sym (rw length-map refl) ∙ ap (λ (ns : PlainInventory). length ns.addresses) (sym o.inventory));
       addressed = addressed_open c.units.items w.inventory w.units o.units o.inventory;
       seats = o.idle;
       working = subst (λ n. 1 ≤ n) (sym o.workers) (taken size c is).least;
@@ -282,7 +288,7 @@ module _ (size : ℕ) (c : Config) (disks : List PagedStore) (bare w : PlainWorl
         queues = b.queues;
         units = new_over bare.units disks b.units;
         there = over_length bare.units disks ∙ b.there;
-        addressed = over_addresses (λ i. slice_get bare.inventory i) bare.units disks b.addressed;
+        addressed = over_each (IsAddressed bare.inventory) bare.units disks (λ i u disk h. h) b.addressed;
         seats = b.seats;
         working = b.working;
         seated = b.seated;

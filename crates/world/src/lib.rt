@@ -18,7 +18,7 @@ mod world;
 
 pub use config::{
     ACCEPTED_FEATURES, CHANGE, Config, ConfigFault, EVENT_IDX, FEATURES, INDIRECT_DESC, Layout,
-    LayoutFault, RING_PACKED, StartFault, UnitSpec, VERSION_1, form,
+    LayoutFault, Profile, RING_PACKED, StartFault, UnitSpec, VERSION_1, form,
 };
 pub use device_model::Event;
 pub use live_world::LiveWorld;
