@@ -15,13 +15,14 @@ const FIRST: Ticket = Ticket {
     number: 0,
 };
 
-/// Returns whether a unit opened with this address and capacity, and keeps replies for receipts to be compared with.
+/// Returns whether a unit opened with this address, capacity and profile, and keeps replies for receipts to be compared with.
 fn is_opened_as(spec: &UnitSpec, unit: &UnitState) -> bool
     ensures { IsTrue result ↔ IsOpenedAs spec.now unit.now }
 {
     unit.target() == spec.target
         && unit.lun() == spec.lun
         && unit.opening_blocks() == spec.blocks
+        && unit.profile() == spec.profile
         && unit.keeps_replies()
 }
 
