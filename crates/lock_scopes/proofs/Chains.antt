@@ -3,10 +3,10 @@ use Rattle.std.proofs.Common.{◌≡◌, ℕ, zero, suc, ◌+◌, ◌<◌, ◌�
 use Rattle.std.proofs.lemmas.List.{map-append, length-map, append-nil}
 use Rattle.std.proofs.lemmas.List.Elements.{filter_map-append}
 use Rattle.foundation.specs.declared.NoMemory.{NoMemory}
-use Rattle.scsi_codec.specs.declared.lun.Address.{Address}
 use Rattle.scsi_codec.specs.declared.event_queue.Event.{Event as EventRecord}
 use Rattle.ring_core.specs.declared.log.Ticket.{Ticket}
 use Rattle.ring_core.specs.State.{PlainChain, next_ticket}
+use Rattle.request_intake.specs.Inventory.{PlainInventory}
 use Rattle.event_queue.specs.Port.{PlainPort}
 use Rattle.task_mgmt.specs.Functions.{is_over}
 use Rattle.device_model.specs.Parts.{Slot, Hand, Outcome}
@@ -46,7 +46,7 @@ by_ring q r s p e number accepted =
 
 pub answers_none : (h : Hand) (q : BareQueue) (m : List ℕ) (b : Bool) (r : BareQueue) (n : List ℕ) (h' : Hand)
     → Answers h q m b r n h' → TakesNone q r
-answers_none (Hand.Done x o) q m true r n h' (did, is) = by_ring q r Slot.Empty _ (did 0 [] Slot.Empty).queue refl refl
+answers_none (Hand.Done x o) q m true r n h' (did, is) = by_ring q r Slot.Empty _ (did 0 (record { addresses = []; profiles = [] }) Slot.Empty).queue refl refl
 answers_none (Hand.Done x o) q m false r n h' (lets, is) = stays_none q r lets.stays.queue
 answers_none Hand.Empty q m true r n h' e = absurd e
 answers_none Hand.Empty q m false r n h' e = stays_none q r e.0.queue
@@ -66,7 +66,7 @@ directs_none (Slot.Arrived x) q m false r n s' e = stays_none q r e.0.queue
 
 responds_where : (over : Bool) (f : Opened) (q : BareQueue) (m : List ℕ) (b : Bool) (r : BareQueue) (n : List ℕ) (f' : Option Opened)
     → RespondsWhere over f q m b r n f' → TakesNone q r
-responds_where true f q m true r n f' (did, is) = by_ring q r Slot.Empty _ (did [] Slot.Empty).queue refl refl
+responds_where true f q m true r n f' (did, is) = by_ring q r Slot.Empty _ (did (record { addresses = []; profiles = [] }) Slot.Empty).queue refl refl
 responds_where true f q m false r n f' (lets, is) = stays_none q r lets.stays.queue
 responds_where false f q m true r n f' e = absurd e
 responds_where false f q m false r n f' e = stays_none q r e.0.queue
@@ -79,7 +79,7 @@ responds_none None q m false r n f' e = stays_none q r e.0.queue
 
 raises_to : (held : List PlainChain) (e : EventRecord) (later : List EventRecord) (q : BareQueue) (m : List ℕ) (p : PlainPort) (b : Bool)
     (r : BareQueue) (n : List ℕ) (p' : PlainPort) (w' : List EventRecord) → RaisesTo held e later q m p b r n p' w' → TakesNone q r
-raises_to (c ∷ more) e later q m p true r n p' w' did = by_ring q r Slot.Empty _ (did.0 [] Slot.Empty).queue refl refl
+raises_to (c ∷ more) e later q m p true r n p' w' did = by_ring q r Slot.Empty _ (did.0 (record { addresses = []; profiles = [] }) Slot.Empty).queue refl refl
 raises_to (c ∷ more) e later q m p false r n p' w' did = stays_none q r did.1.at_queue.queue
 raises_to [] e later q m p true r n p' w' did = stays_none q r did.0.queue
 raises_to [] e later q m p false r n p' w' did = absurd did
@@ -97,14 +97,14 @@ same_slotted q r s s' e = by_ring q r s' (with_slot s q) e refl refl
 other_none : (q r : BareQueue) (k : ℕ) → q.ring.queue ≡ k → k < 2 → r.ring.queue ≡ q.ring.queue → TakesNone q r
 other_none q r k is few number = record { number = number; accepted = λ two. absurd (omega (arith, is, few, two)) }
 
-control_number : (inventory : List Address) (d : Transition) (q r : PlainQueue) (m n : List ℕ) → IsControlFetch d → DoesQueue inventory d q m r n
+control_number : (inventory : PlainInventory) (d : Transition) (q r : PlainQueue) (m n : List ℕ) → IsControlFetch d → DoesQueue inventory d q m r n
     → r.ring.queue ≡ q.ring.queue
 control_number inventory (Transition.Refuse f a) q r m n is did = ap (λ (z : PlainQueue). z.ring.queue) did.queue
 control_number inventory (Transition.Open f g) q r m n is did = ap (λ (z : PlainQueue). z.ring.queue) did.queue
 control_number inventory (Transition.Break i f) q r m n is did = ap (λ (z : PlainQueue). z.ring.queue) did.queue
 control_number inventory d q r m n is did = absurd is
 
-pub control_none : (inventory : List Address) (m : List ℕ) (s s' : Slot) (q r : BareQueue) (f f' : Option Opened) (b : Result Bool NoMemory)
+pub control_none : (inventory : PlainInventory) (m : List ℕ) (s s' : Slot) (q r : BareQueue) (f f' : Option Opened) (b : Result Bool NoMemory)
     → FetchesControl inventory m (with_slot s q) f b (with_slot s' r) f' → TakesNone q r
 control_none inventory m s s' q r f f' (Ok true) (zeroth, free, closed, (d, is, did, opened)) =
     other_none q r 0 zeroth (omega arith) (control_number inventory d (with_slot s q) (with_slot s' r) m m is did)
@@ -167,7 +167,7 @@ record Nothing (q r : BareQueue) (s : Slot) : Type 0 where
 some_is : {X : Type 0} {x y : X} → Some x ≡ Some y → x ≡ y
 some_is e = cc
 
-came : (inventory : List Address) (m : List ℕ) (q r : BareQueue) (s s' : Slot) (d : Transition) → s ≡ Slot.Empty → IsRequestFetch q.ring.queue d
+came : (inventory : PlainInventory) (m : List ℕ) (q r : BareQueue) (s s' : Slot) (d : Transition) → s ≡ Slot.Empty → IsRequestFetch q.ring.queue d
     → DoesQueue inventory d (with_slot s q) m (with_slot s' r) m → Fetched q r s' ⊎ Nothing q r s'
 came inventory m q r s s' (Transition.Arrive f x) free is did =
     let asks = did.asks false false in
@@ -249,7 +249,7 @@ left_none q r fetched notes (slot.Direct c) k n = absurd (unlike n.empty)
     unlike : Slot.Direct c.chain c.outcome ≡ Slot.Empty → ⊥
     unlike e = cc
 
-pub keeps_fetch : (inventory : List Address) (m : List ℕ) (q r : BareQueue) (fetched : List declared_slot.Slot) (notes : List PlainNote)
+pub keeps_fetch : (inventory : PlainInventory) (m : List ℕ) (q r : BareQueue) (fetched : List declared_slot.Slot) (notes : List PlainNote)
     (s : Slot) (s' : declared_slot.Slot) (b : Result Bool NoMemory) → KeepsFetches q fetched notes
     → FetchesRequest inventory m (with_slot s q) b (with_slot (slot_of s') r) → KeepsFetches r (with_fetch b s' fetched) notes
 keeps_fetch inventory m q r fetched notes s s' (Ok true) k (two, free, (d, is, did)) = by_came (came inventory m q r s (slot_of s') d free.empty is did)
@@ -303,7 +303,7 @@ module _ (q p r : BareQueue) (fetched : List declared_slot.Slot) (notes : List P
       keeps_on p r fetched notes (keeps_on q p fetched notes k none) (directs_none (slot_of s) p m false r n s' did)
   unanswered true s none empty did = absurd (answers_no_empty (slot_of s) p m r n s' empty did)
 
-  pub keeps_take : (inventory : List Address) (a : Bool) (s : declared_slot.Slot) (b : Result Bool NoMemory)
+  pub keeps_take : (inventory : PlainInventory) (a : Bool) (s : declared_slot.Slot) (b : Result Bool NoMemory)
       → FetchesRequest inventory m (with_slot Slot.Empty q) b (with_slot (slot_of s) p) → Directs (slot_of s) p m a r n s'
       → KeepsFetches r (with_fetch b s fetched) (with_answer a (slot_of s) notes)
   keeps_take inventory a s (Ok true) (two, free, (d, is, did)) directs =
@@ -327,7 +327,7 @@ module _ (q p r : BareQueue) (fetched : List declared_slot.Slot) (notes : List P
       unanswered a s (same_slotted q p Slot.Empty (slot_of s) e.0) (ap (λ (z : PlainQueue). z.slot) e.0) directs
 
 -- what a fetch into an empty slot did
-pub fills : (inventory : List Address) (m : List ℕ) (q r : BareQueue) (s s' : Slot) (b : Result Bool NoMemory) → s ≡ Slot.Empty
+pub fills : (inventory : PlainInventory) (m : List ℕ) (q r : BareQueue) (s s' : Slot) (b : Result Bool NoMemory) → s ≡ Slot.Empty
     → FetchesRequest inventory m (with_slot s q) b (with_slot s' r) → Fills inventory m q b r s'
 fills inventory m q r s s' (Ok b) empty e = subst (λ (z : Slot). FetchesRequest inventory m (with_slot z q) (Ok b) (with_slot s' r)) empty e
 fills inventory m q r s s' (Err refused) empty e =
@@ -365,7 +365,7 @@ noted_none : (lost after : Option Ticket) (fetched : List declared_slot.Slot) (n
 noted_none lost after fetched notes true s q r m n s' old loses empty did none = absurd (answers_no_empty s q m r n s' empty did)
 noted_none lost after fetched notes false s q r m n s' old loses empty did none = old (loses none)
 
-pub noted_take : (inventory : List Address) (lost after : Option Ticket) (fetched : List declared_slot.Slot) (notes : List PlainNote) (a : Bool)
+pub noted_take : (inventory : PlainInventory) (lost after : Option Ticket) (fetched : List declared_slot.Slot) (notes : List PlainNote) (a : Bool)
     (s : declared_slot.Slot) (b : Result Bool NoMemory) (q p r : BareQueue) (m n : List ℕ) (s' : Slot) → AreNoted lost fetched notes
     → Loses lost (is_direct (slot_of s)) a after → FetchesRequest inventory m (with_slot Slot.Empty q) b (with_slot (slot_of s) p)
     → Directs (slot_of s) p m a r n s' → AreNoted after (with_fetch b s fetched) (with_answer a (slot_of s) notes)
@@ -383,7 +383,7 @@ noted_fetch lost after fetched notes s (Ok false) old loses none = old (loses no
 noted_fetch lost after fetched notes s (Err refused) old loses none = old (loses none).0
 
 -- What a fetch left, once it was recorded.
-pub fetch_kept : (inventory : List Address) (m : List ℕ) (q r : BareQueue) (fetched fetched' : List declared_slot.Slot) (notes : List PlainNote)
+pub fetch_kept : (inventory : PlainInventory) (m : List ℕ) (q r : BareQueue) (fetched fetched' : List declared_slot.Slot) (notes : List PlainNote)
     (lost after : Option Ticket) (s : Slot) (s' : declared_slot.Slot) (b : Result Bool NoMemory) (direct : Bool) → KeepsFetches q fetched notes
     → AreNoted lost fetched notes → FetchesRequest inventory m (with_slot s q) b (with_slot (slot_of s') r)
     → fetched' ≡ with_fetch b s' fetched → direct ≡ is_direct (slot_of s') → Loses lost direct false after
@@ -395,7 +395,7 @@ fetch_kept inventory m q r fetched fetched' notes lost after s s' b direct k old
 )
 
 -- and once it was answered, too
-pub take_kept : (inventory : List Address) (m n : List ℕ) (q p r : BareQueue) (fetched fetched' : List declared_slot.Slot)
+pub take_kept : (inventory : PlainInventory) (m n : List ℕ) (q p r : BareQueue) (fetched fetched' : List declared_slot.Slot)
     (notes room notes' : List PlainNote) (lost after : Option Ticket) (s : Slot) (left : declared_slot.Slot) (s' : Slot)
     (b : Result Bool NoMemory) (a direct told : Bool) → s ≡ Slot.Empty → KeepsFetches q fetched notes → AreNoted lost fetched notes
     → FetchesRequest inventory m (with_slot s q) b (with_slot (slot_of left) p) → Directs (slot_of left) p m a r n s'

@@ -5,6 +5,7 @@ use Rattle.std.proofs.lemmas.List.Sums.{sum_by-cons}
 use Rattle.std.proofs.lemmas.Option.{same_Some, slice_get-get_or}
 use Rattle.scsi_codec.specs.declared.lun.Address.{Address}
 use Rattle.scsi_codec.specs.declared.event_queue.Event.{Event as EventRecord}
+use Rattle.request_intake.specs.Inventory.{PlainInventory}
 use Rattle.unit_model.specs.Jobs.{Jobs}
 use Rattle.unit_model.specs.Unit.{PlainUnit}
 use Rattle.unit_model.specs.Receipts.{unit_address}
@@ -24,13 +25,13 @@ keeps_weight weight u v kept =
     ∙ ap (λ acts. sum_by (weight (unit_address u.opening)) acts) kept.0
 
 -- one more act adds its weight
-adds : (weight : Address → Option ℕ → ℕ) (inventory : List Address) (at : ℕ) (u v : PlainUnit) (address : Address) (x : Option ℕ)
-    (old new : ℕ) → slice_get inventory at ≡ Some address → IsAddressed inventory at u
+adds : (weight : Address → Option ℕ → ℕ) (inventory : PlainInventory) (at : ℕ) (u v : PlainUnit) (address : Address) (x : Option ℕ)
+    (old new : ℕ) → slice_get inventory.addresses at ≡ Some address → IsAddressed inventory at u
     → acts_of v.steps ≡ x ∷ acts_of u.steps → v.opening ≡ u.opening
     → old ≡ weight_of weight (unit_address u.opening) u.steps → new ≡ old + weight address x
     → new ≡ weight_of weight (unit_address v.opening) v.steps
 adds weight inventory at u v address x old new there is acts opening before behind =
-    let one : weight address x ≡ weight (unit_address u.opening) x = ap (λ a. weight a x) (same_Some _ _ (sym there ∙ is)) in
+    let one : weight address x ≡ weight (unit_address u.opening) x = ap (λ a. weight a x) (same_Some _ _ (sym there ∙ is.0)) in
     let more : weight_of weight (unit_address v.opening) v.steps
     ≡ weight (unit_address u.opening) x + weight_of weight (unit_address u.opening) u.steps =
     ap (λ o. sum_by (weight (unit_address o)) (acts_of v.steps)) opening
@@ -38,9 +39,9 @@ adds weight inventory at u v address x old new there is acts opening before behi
     ∙ sum_by-cons (weight (unit_address u.opening)) x (acts_of u.steps) in
     omega (arith, one, more, before, behind)
 
-pub reset_weighs : (weight : Address → Option ℕ → ℕ) (inventory : List Address) (at : ℕ) (u v : PlainUnit) (address : Address)
+pub reset_weighs : (weight : Address → Option ℕ → ℕ) (inventory : PlainInventory) (at : ℕ) (u v : PlainUnit) (address : Address)
     (out out' : Jobs) (w w' : List EventRecord) (was : Bool) (old new : ℕ)
-    → slice_get inventory at ≡ Some address → was ≡ true → Resets inventory at u out w (Ok was) v out' w'
+    → slice_get inventory.addresses at ≡ Some address → was ≡ true → Resets inventory at u out w (Ok was) v out' w'
     → old ≡ weight_of weight (unit_address u.opening) u.steps → new ≡ old + act_weight weight (act.Reset address)
     → new ≡ weight_of weight (unit_address v.opening) v.steps
 reset_weighs weight inventory at u v address out out' w w' was old new there is did before behind =
@@ -48,9 +49,9 @@ reset_weighs weight inventory at u v address out out' w w' was old new there is 
     adds weight inventory at u v address None old new there resets.0 (ap (λ z. acts_of z.steps) resets.1.is)
     (ap (λ z. z.opening) resets.1.is) before behind
 
-pub resize_weighs : (weight : Address → Option ℕ → ℕ) (inventory : List Address) (at : ℕ) (u v : PlainUnit) (address : Address)
+pub resize_weighs : (weight : Address → Option ℕ → ℕ) (inventory : PlainInventory) (at : ℕ) (u v : PlainUnit) (address : Address)
     (blocks : ℕ) (told : Bool) (w w' : List EventRecord) (was : Bool) (old new : ℕ)
-    → slice_get inventory at ≡ Some address → was ≡ true → ResizesUnit inventory at u blocks told w (Ok was) v w'
+    → slice_get inventory.addresses at ≡ Some address → was ≡ true → ResizesUnit inventory at u blocks told w (Ok was) v w'
     → old ≡ weight_of weight (unit_address u.opening) u.steps → new ≡ old + act_weight weight (act.Resize address blocks told)
     → new ≡ weight_of weight (unit_address v.opening) v.steps
 resize_weighs weight inventory at u v address blocks told w w' was old new there is did before behind =
@@ -65,16 +66,16 @@ found inventory all at address is there e =
     subst (λ l. slice_get l at ≡ Some address) is (slice_get-get_or all at address there ∙ ap Some (sym e))
 
 -- the act is that of the unit of this place
-pub reset_made : (inventory : List Address) (at : ℕ) (address : Address) (was : Bool) (old new : List Act)
-    → slice_get inventory at ≡ Some address → was ≡ true → new ≡ old ++ act.Reset address ∷ []
-    → new ≡ (if was then acts_with (reset_of (slice_get inventory at)) old else old)
+pub reset_made : (inventory : PlainInventory) (at : ℕ) (address : Address) (was : Bool) (old new : List Act)
+    → slice_get inventory.addresses at ≡ Some address → was ≡ true → new ≡ old ++ act.Reset address ∷ []
+    → new ≡ (if was then acts_with (reset_of (slice_get inventory.addresses at)) old else old)
 reset_made inventory at address was old new there is made =
-    subst (λ b. new ≡ (if b then acts_with (reset_of (slice_get inventory at)) old else old)) (sym is)
+    subst (λ b. new ≡ (if b then acts_with (reset_of (slice_get inventory.addresses at)) old else old)) (sym is)
     (subst (λ o. new ≡ acts_with (reset_of o) old) (sym there) made)
 
-pub resize_made : (inventory : List Address) (at : ℕ) (address : Address) (blocks : ℕ) (told was : Bool) (old new : List Act)
-    → slice_get inventory at ≡ Some address → was ≡ true → new ≡ old ++ act.Resize address blocks told ∷ []
-    → new ≡ (if was then acts_with (resize_of blocks told (slice_get inventory at)) old else old)
+pub resize_made : (inventory : PlainInventory) (at : ℕ) (address : Address) (blocks : ℕ) (told was : Bool) (old new : List Act)
+    → slice_get inventory.addresses at ≡ Some address → was ≡ true → new ≡ old ++ act.Resize address blocks told ∷ []
+    → new ≡ (if was then acts_with (resize_of blocks told (slice_get inventory.addresses at)) old else old)
 resize_made inventory at address blocks told was old new there is made =
-    subst (λ b. new ≡ (if b then acts_with (resize_of blocks told (slice_get inventory at)) old else old)) (sym is)
+    subst (λ b. new ≡ (if b then acts_with (resize_of blocks told (slice_get inventory.addresses at)) old else old)) (sym is)
     (subst (λ o. new ≡ acts_with (resize_of blocks told o) old) (sym there) made)

@@ -1,8 +1,8 @@
 -- What two or three phases do that share one hold: each of them its own part, with nothing between.
 use Rattle.std.specs.Prelude.{ℕ, ◌≡◌, Bool, true, List, [], ◌∷◌, length, Option, Some, is_some, IfSome, Result, Ok, Err}
 use Rattle.foundation.specs.declared.NoMemory.{NoMemory}
-use Rattle.scsi_codec.specs.declared.lun.Address.{Address}
 use Rattle.ring_core.specs.declared.log.Ticket.{Ticket}
+use Rattle.request_intake.specs.Inventory.{PlainInventory}
 use Rattle.unit_model.specs.Jobs.{PlainJob, Jobs}
 use Rattle.unit_model.specs.Unit.{PlainUnit}
 use Rattle.virtqueue.specs.Queue.{BareQueue}
@@ -21,12 +21,12 @@ use Rattle.lock_scopes.specs.declared.joined_unit.NextJob.TheVariants.{Listed, T
 
 -- own: a queue's next chain comes into its empty slot; or memory was refused, for the chain or for its note, and nothing
 -- changed
-abbrev pub Fills : List Address → List ℕ → BareQueue → Result Bool NoMemory → BareQueue → Slot → Type 0
+abbrev pub Fills : PlainInventory → List ℕ → BareQueue → Result Bool NoMemory → BareQueue → Slot → Type 0
 Fills inventory m q (Ok did) q' s' = FetchesRequest inventory m (with_slot Slot.Empty q) (Ok did) (with_slot s' q')
 Fills inventory m q (Err refused) q' s' = (q' ≡ q) × (s' ≡ Slot.Empty)
 
 -- own: so it is taken, and answered at once where its answer was decided: then its ticket is told
-pub record Takes (inventory : List Address) (q : BareQueue) (m : List ℕ) (fetched : Result Bool NoMemory)
+pub record Takes (inventory : PlainInventory) (q : BareQueue) (m : List ℕ) (fetched : Result Bool NoMemory)
     (told : Option Ticket) (q' : BareQueue) (m' : List ℕ) (s' : Slot) : Type 0 where
   pub between : BareQueue
   pub left : Slot
@@ -35,7 +35,7 @@ pub record Takes (inventory : List Address) (q : BareQueue) (m : List ℕ) (fetc
   pub of_chain : IfSome told (λ t. ticket_in left ≡ Some t)
 
 -- own: the job in the hand is answered, and then the queue's next chain is taken
-pub record AnswersTakes (inventory : List Address) (h : Hand) (q : BareQueue) (m : List ℕ) (answered : Bool)
+pub record AnswersTakes (inventory : PlainInventory) (h : Hand) (q : BareQueue) (m : List ℕ) (answered : Bool)
     (fetched : Result Bool NoMemory) (told : Option Ticket) (q' : BareQueue) (m' : List ℕ) (h' : Hand) (s' : Slot) : Type 0 where
   pub queue : BareQueue
   pub memory : List ℕ

@@ -32,7 +32,7 @@ pub fn hard_on<R: Wait, C: Ledger + Weighing, W: Ledger>(
     ensures did { (u : PlainUnit) × (v : PlainUnit) × IsUnit u
         × Resets inventory.now at u out.old waiting.old result v out.new waiting.new × IsUnit v }
     ensures made { IfOk result (λ was. acts.new
-        ≡ (if was then acts_with (reset_of (slice_get inventory.now at)) acts.old else acts.old)) }
+        ≡ (if was then acts_with (reset_of (slice_get inventory.now.addresses at)) acts.old else acts.old)) }
     ensures none { OnErr result (acts.new ≡ acts.old) }
 {
     let mut held = hold(rt, &units[at]);
@@ -57,7 +57,7 @@ pub fn resize_on<R: Wait, C: Ledger + Weighing, W: Ledger>(
     ensures did { (u : PlainUnit) × (v : PlainUnit) × IsUnit u
         × ResizesUnit inventory.now at u blocks told waiting.old result v waiting.new × IsUnit v }
     ensures made { IfOk result (λ was. acts.new
-        ≡ (if was then acts_with (resize_of blocks told (slice_get inventory.now at)) acts.old else acts.old)) }
+        ≡ (if was then acts_with (resize_of blocks told (slice_get inventory.now.addresses at)) acts.old else acts.old)) }
     ensures none { OnErr result (acts.new ≡ acts.old) }
 {
     let mut held = hold(rt, &units[at]);

@@ -86,7 +86,7 @@ impl<C: Ledger + Weighing, W: Ledger> CountedUnit<C, W> {
         ensures did { Resets inventory.now at self.old.unit out.old waiting.old result self.new.unit out.new waiting.new }
         ensures stands { IsUnit self.old.unit × IsUnit self.new.unit }
         ensures made { IfOk result (λ was. acts.new
-            ≡ (if was then acts_with (reset_of (slice_get inventory.now at)) acts.old else acts.old)) }
+            ≡ (if was then acts_with (reset_of (slice_get inventory.now.addresses at)) acts.old else acts.old)) }
         ensures none { OnErr result (acts.new ≡ acts.old) }
     {
         let Some(address) = inventory.as_slice().get(at) else {
@@ -121,7 +121,7 @@ impl<C: Ledger + Weighing, W: Ledger> CountedUnit<C, W> {
         ensures did { ResizesUnit inventory.now at self.old.unit blocks told waiting.old result self.new.unit waiting.new }
         ensures stands { IsUnit self.old.unit × IsUnit self.new.unit }
         ensures made { IfOk result (λ was. acts.new
-            ≡ (if was then acts_with (resize_of blocks told (slice_get inventory.now at)) acts.old else acts.old)) }
+            ≡ (if was then acts_with (resize_of blocks told (slice_get inventory.now.addresses at)) acts.old else acts.old)) }
         ensures none { OnErr result (acts.new ≡ acts.old) }
     {
         let Some(address) = inventory.as_slice().get(at) else {
