@@ -1,14 +1,14 @@
 -- The operator's reset of a unit that a lock lent.
 use Rattle.std.proofs.Common.{ℕ, Bool, true, false, List, Ok}
-use Rattle.scsi_codec.specs.declared.lun.Address.{Address}
 use Rattle.std.specs.Bool.{OnTrue}
 use Rattle.scsi_codec.specs.declared.event_queue.Event.{Event as EventRecord}
+use Rattle.request_intake.specs.Inventory.{PlainInventory}
 use Rattle.unit_model.specs.Jobs.{Jobs}
 use Rattle.unit_model.specs.Unit.{PlainUnit, IsUnit}
 use Rattle.phases.specs.Resetting.{Resets}
 use Rattle.workers.specs.Resetting.{WasReset}
 
-pub was_reset : (inventory : List Address) (place : ℕ) (b : Bool) (u v : PlainUnit) (out out' : Jobs) (w w' : List EventRecord)
+pub was_reset : (inventory : PlainInventory) (place : ℕ) (b : Bool) (u v : PlainUnit) (out out' : Jobs) (w w' : List EventRecord)
     → IsUnit u → Resets inventory place u out w (Ok b) v out' w' → IsUnit v → OnTrue b (WasReset inventory place)
 was_reset inventory place true u v out out' w w' before did behind =
     record {

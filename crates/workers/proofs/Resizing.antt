@@ -1,6 +1,6 @@
 -- The operator's resize of a unit that a lock lent.
 use Rattle.std.proofs.Common.{ℕ, ◌≡◌, Bool, true, false, List, Ok}
-use Rattle.scsi_codec.specs.declared.lun.Address.{Address}
+use Rattle.request_intake.specs.Inventory.{PlainInventory}
 use Rattle.phases.specs.declared.resizing.ResizeFault.{ResizeFault}
 use Rattle.phases.specs.declared.resizing.ResizeFault.TheVariants as fault
 use Rattle.unit_model.specs.Contents.{is_capacity}
@@ -10,7 +10,7 @@ use Rattle.unit_model.specs.Unit.{PlainUnit, IsUnit}
 use Rattle.phases.specs.Resizing.{RefusesResize, ResizesUnit}
 use Rattle.workers.specs.Resizing.{ResizeFails, WasResized}
 
-pub was_resized : (inventory : List Address) (place blocks : ℕ) (told b : Bool) (u v : PlainUnit) (w w' : List EventRecord)
+pub was_resized : (inventory : PlainInventory) (place blocks : ℕ) (told b : Bool) (u v : PlainUnit) (w w' : List EventRecord)
     → IsUnit u → ResizesUnit inventory place u blocks told w (Ok b) v w' → IsUnit v
     → OnTrue b (WasResized inventory place blocks told)
 was_resized inventory place blocks told true u v w w' before did behind =
@@ -26,7 +26,7 @@ was_resized inventory place blocks told true u v w w' before did behind =
 was_resized inventory place blocks told false u v w w' before did behind = tt
 
 -- what a unit refuses, of a capacity that one may have
-pub resize_fails : (inventory : List Address) (place : ℕ) (u : PlainUnit) (blocks : ℕ) (x : ResizeFault) → is_capacity blocks ≡ true
+pub resize_fails : (inventory : PlainInventory) (place : ℕ) (u : PlainUnit) (blocks : ℕ) (x : ResizeFault) → is_capacity blocks ≡ true
     → RefusesResize inventory place u blocks x → ResizeFails blocks x
 resize_fails inventory place u blocks fault.WrongUnit may h = may
 resize_fails inventory place u blocks fault.BadCapacity may h = h.1

@@ -1,14 +1,14 @@
 -- The operator's reset of a unit that a lock lent.
 use Rattle.std.specs.Prelude.{ℕ, true, List, Ok}
-use Rattle.scsi_codec.specs.declared.lun.Address.{Address}
 use Rattle.scsi_codec.specs.declared.event_queue.Event.{Event as EventRecord}
+use Rattle.request_intake.specs.Inventory.{PlainInventory}
 use Rattle.unit_model.specs.Jobs.{Jobs}
 use Rattle.unit_model.specs.Unit.{PlainUnit, IsUnit}
 use Rattle.phases.specs.Resetting.{Resets}
 
 -- own: a unit with the address that stands at this place of the inventory was reset: the jobs that this released, and the
 -- event that tells the guest, stand behind those that were there
-pub record WasReset (inventory : List Address) (place : ℕ) : Type 0 where
+pub record WasReset (inventory : PlainInventory) (place : ℕ) : Type 0 where
   pub unit : PlainUnit
   pub jobs : Jobs
   pub waiting : List EventRecord

@@ -1,7 +1,7 @@
 -- The operator's resize of a unit that a lock lent.
 use Rattle.std.specs.Prelude.{ℕ, ◌≡◌, Bool, true, false, List, Ok}
-use Rattle.scsi_codec.specs.declared.lun.Address.{Address}
 use Rattle.scsi_codec.specs.declared.event_queue.Event.{Event as EventRecord}
+use Rattle.request_intake.specs.Inventory.{PlainInventory}
 use Rattle.unit_model.specs.Unit.{PlainUnit, IsUnit}
 use Rattle.unit_model.specs.Contents.{is_capacity}
 use Rattle.phases.specs.declared.resizing.ResizeFault.{ResizeFault}
@@ -16,7 +16,7 @@ ResizeFails blocks fault.NoMemory = is_capacity blocks ≡ true
 
 -- own: a unit with the address that stands at this place of the inventory has so many blocks, and the event that tells the
 -- guest, where it is told, stands behind those that were there
-pub record WasResized (inventory : List Address) (place blocks : ℕ) (told : Bool) : Type 0 where
+pub record WasResized (inventory : PlainInventory) (place blocks : ℕ) (told : Bool) : Type 0 where
   pub unit : PlainUnit
   pub waiting : List EventRecord
   pub unit_after : PlainUnit

@@ -173,7 +173,7 @@ impl<G: Gate + Drop, C: Ledger + Weighing, W: Ledger> Model for Host<G, C, W> {
     ghost use Rattle.std.specs.Prelude.{◌≡◌, ◌+◌, ◌*◌, ◌≤◌, map, vec_len};
     ghost use Rattle.std.specs.Arc.{arc_value};
     ghost use Rattle.lock_scopes.specs.Ledgers.{most_commits};
-    ghost use Rattle.request_intake.specs.Inventory.{address_of};
+    ghost use Rattle.request_intake.specs.Inventory.{inventory_of};
     ghost use Rattle.workers.specs.Crew.{IsLastSeat};
     ghost use Rattle.workers.specs.Extent.{Extent};
     ghost use Rattle.worker_steps.specs.Tallying.{Tallies};
@@ -195,7 +195,7 @@ impl<G: Gate + Drop, C: Ledger + Weighing, W: Ledger> Model for Host<G, C, W> {
         × (h.ledgers.acts.parts + vec_len (arc_value h.shared).units ≡ C.parts) × (h.ledgers.acts.amount ≡ 0)
         × (h.ledgers.receipts.parts + vec_len (arc_value h.shared).units + (h.crew.threads + 1) ≡ W.parts)
         × (h.ledgers.receipts.amount ≡ 0)
-        × ((arc_value h.shared).inventory ≡ map address_of h.specs.items)
+        × ((arc_value h.shared).inventory ≡ inventory_of h.specs.items)
         × (h.ledgers.book.total ≡ vec_len (arc_value h.shared).units * most_commits) };
 }
 
@@ -207,7 +207,7 @@ impl<G: Gate + Drop, C: Ledger + Weighing, W: Ledger> Host<G, C, W> {
     ghost use Rattle.close_audit.specs.Closed.{IsReport};
     ghost use Rattle.workers.specs.Resetting.{WasReset};
     ghost use Rattle.workers.specs.Resizing.{ResizeFails, WasResized};
-    ghost use Rattle.request_intake.specs.Inventory.{address_of};
+    ghost use Rattle.request_intake.specs.Inventory.{inventory_of};
     ghost use Rattle.workers.specs.Fetches.{AreDecided};
     ghost use Rattle.workers.specs.Ledgers.{Opens, commits_in, weight_in};
     ghost use Rattle.workers.specs.Extent.{address_at, with_act};
@@ -280,7 +280,7 @@ impl<G: Gate + Drop, C: Ledger + Weighing, W: Ledger> Host<G, C, W> {
         ensures acts { OnOk result (self.new ≡ with_act (reset_of (address_at place self.old)) self.old) }
         ensures same { OnErr result (self.new ≡ self.old) }
         ensures reset { OnOk result (place < length self.old.units →
-            WasReset (map address_of self.old.units) place) }
+            WasReset (inventory_of self.old.units) place) }
         ensures there { OnErr result (place < length self.old.units) }
     {
         let done = reset(
@@ -308,7 +308,7 @@ impl<G: Gate + Drop, C: Ledger + Weighing, W: Ledger> Host<G, C, W> {
         ensures same { OnErr result (self.new ≡ self.old) }
         ensures good { OnOk result (is_capacity blocks ≡ true) }
         ensures resized { OnOk result (place < length self.old.units →
-            WasResized (map address_of self.old.units) place blocks self.old.told) }
+            WasResized (inventory_of self.old.units) place blocks self.old.told) }
         ensures cause { IfErr result (λ fault. ResizeFails blocks fault) }
     {
         let told = self.told;

@@ -2,7 +2,7 @@
 
 ghost use Rattle.std.specs.Prelude.{◌≡◌, ◌+◌, ◌*◌, ◌<◌, ◌≤◌, true, length, map, vec_len, IfOk};
 ghost use Rattle.std.specs.List.{list_all};
-ghost use Rattle.request_intake.specs.Inventory.{address_of};
+ghost use Rattle.request_intake.specs.Inventory.{inventory_of};
 ghost use Rattle.config.specs.Config.{is_config, is_queue};
 ghost use Rattle.lock_scopes.specs.Ledgers.{most_commits};
 
@@ -119,7 +119,7 @@ pub(crate) fn open_parts<C: Ledger + Weighing, W: Ledger>(
     ensures units { IfOk result (λ p. vec_len p.units ≡ length config.now.units.items) }
     ensures queues { IfOk result (λ p. vec_len p.queues ≡ length config.now.queues.items) }
     ensures few { IfOk result (λ p. vec_len p.queues ≤ 18) }
-    ensures inventory { IfOk result (λ p. p.inventory ≡ map address_of config.now.units.items) }
+    ensures inventory { IfOk result (λ p. p.inventory ≡ inventory_of config.now.units.items) }
 {
     let Some(form) = form(config.features) else {
         unreachable!()

@@ -30,7 +30,7 @@ fn reset_one<R: Wait, G: Gate + Drop, C: Ledger + Weighing, W: Ledger>(
     requires at { at < vec_len shared.now.units }
     requires tally { Tallies post.old.lost post.old.part.share.amount post.old.kept post.old.hand }
     ensures made { IfOk result (λ was. acts.new
-        ≡ (if was then acts_with (reset_of (slice_get shared.now.inventory at)) acts.old else acts.old)) }
+        ≡ (if was then acts_with (reset_of (slice_get shared.now.inventory.addresses at)) acts.old else acts.old)) }
     ensures none { OnErr result (acts.new ≡ acts.old) }
     ensures reset { IfOk result (λ was. OnTrue was (WasReset shared.now.inventory at)) }
     ensures seat { post.new.seat ≡ post.old.seat }
@@ -66,7 +66,7 @@ pub(crate) fn reset<R: Wait, G: Gate + Drop, C: Ledger + Weighing, W: Ledger>(
     ensures seat { IsSameSeat post.old.seat post.new.seat }
     ensures tally { Tallies post.new.lost post.new.part.share.amount post.new.kept post.new.hand }
     ensures made { OnOk result (at < vec_len shared.now.units →
-        acts.new ≡ acts_with (reset_of (slice_get shared.now.inventory at)) acts.old) }
+        acts.new ≡ acts_with (reset_of (slice_get shared.now.inventory.addresses at)) acts.old) }
     ensures absent { OnOk result ((at < vec_len shared.now.units → ⊥) → acts.new ≡ acts.old) }
     ensures none { OnErr result (acts.new ≡ acts.old) }
     ensures reset { OnOk result (at < vec_len shared.now.units → WasReset shared.now.inventory at) }
@@ -100,7 +100,7 @@ fn resize_one<R: Wait, G: Gate + Drop, C: Ledger + Weighing, W: Ledger>(
     requires at { at < vec_len shared.now.units }
     requires capacity { is_capacity blocks ≡ true }
     ensures made { IfOk result (λ was. acts.new
-        ≡ (if was then acts_with (resize_of blocks told (slice_get shared.now.inventory at)) acts.old else acts.old)) }
+        ≡ (if was then acts_with (resize_of blocks told (slice_get shared.now.inventory.addresses at)) acts.old else acts.old)) }
     ensures none { OnErr result (acts.new ≡ acts.old) }
     ensures resized { IfOk result (λ was. OnTrue was (WasResized shared.now.inventory at blocks told)) }
     ensures cause { IfErr result (λ fault. ResizeFails blocks fault) }
@@ -133,7 +133,7 @@ pub(crate) fn resize<R: Wait, G: Gate + Drop, C: Ledger + Weighing, W: Ledger>(
     waiting: &mut WaitingEvents,
 ) -> Result<(), ResizeFault>
     ensures made { OnOk result (at < vec_len shared.now.units →
-        acts.new ≡ acts_with (resize_of blocks told (slice_get shared.now.inventory at)) acts.old) }
+        acts.new ≡ acts_with (resize_of blocks told (slice_get shared.now.inventory.addresses at)) acts.old) }
     ensures absent { OnOk result ((at < vec_len shared.now.units → ⊥) → acts.new ≡ acts.old) }
     ensures none { OnErr result (acts.new ≡ acts.old) }
     ensures good { OnOk result (is_capacity blocks ≡ true) }

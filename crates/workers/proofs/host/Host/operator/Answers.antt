@@ -1,7 +1,6 @@
 use Rattle.std.proofs.Common.{◌≡◌, ◌∙◌, ◌<◌, List, length, vec_len, subst, ap, arith}
 use Rattle.std.specs.Prelude.{OnOk, map}
-use Rattle.scsi_codec.specs.declared.lun.Address.{Address}
-use Rattle.request_intake.specs.Inventory.{address_of}
+use Rattle.request_intake.specs.Inventory.{PlainInventory, inventory_of}
 use Rattle.workers.specs.Resetting.{WasReset}
 use Rattle.workers.proofs.host.Host.operator.Goals as goal
 
@@ -12,7 +11,7 @@ returns-clause-reset g c =
     let view = ap (λ v. length v.units) c.self.view_is in
     let many : vec_len c.deref.result.now.units ≡ length c.args.self.now.units =
     omega (arith, shared, c.self.invariant.1, c.self.inside.specs.ok.0, view) in
-    let addresses : c.deref.result.now.inventory ≡ map address_of c.args.self.now.units =
-    ap (λ s. s.inventory) c.deref.ensures ∙ c.self.invariant.9 ∙ ap (λ v. map address_of v.units) c.self.view_is in
-    subst (λ (l : List Address). OnOk c.reset-done.result (c.args.place < length c.args.self.now.units → WasReset l c.args.place)) addresses
+    let addresses : c.deref.result.now.inventory ≡ inventory_of c.args.self.now.units =
+    ap (λ s. s.inventory) c.deref.ensures ∙ c.self.invariant.9 ∙ ap (λ v. inventory_of v.units) c.self.view_is in
+    subst (λ (l : PlainInventory). OnOk c.reset-done.result (c.args.place < length c.args.self.now.units → WasReset l c.args.place)) addresses
     (subst (λ n. OnOk c.reset-done.result (c.args.place < n → WasReset c.deref.result.now.inventory c.args.place)) many c.reset-done.ensures.reset)

@@ -1,7 +1,6 @@
 use Rattle.std.proofs.Common.{◌≡◌, ◌∙◌, ◌<◌, List, length, vec_len, subst, ap, arith}
 use Rattle.std.specs.Prelude.{OnOk, map}
-use Rattle.scsi_codec.specs.declared.lun.Address.{Address}
-use Rattle.request_intake.specs.Inventory.{address_of}
+use Rattle.request_intake.specs.Inventory.{PlainInventory, inventory_of}
 use Rattle.workers.specs.Resizing.{WasResized}
 use Rattle.workers.proofs.host.Host.resize.Goals as goal
 
@@ -13,8 +12,8 @@ returns-clause-resized g c =
     let many : vec_len c.deref.result.now.units ≡ length c.args.self.now.units =
     omega (arith, shared, c.self.invariant.1, c.self.inside.specs.ok.0, view) in
     let told = ap (λ v. v.told) c.self.view_is in
-    let addresses : c.deref.result.now.inventory ≡ map address_of c.args.self.now.units =
-    ap (λ s. s.inventory) c.deref.ensures ∙ c.self.invariant.9 ∙ ap (λ v. map address_of v.units) c.self.view_is in
-    subst (λ (l : List Address). OnOk c.resize-done.result (c.args.place < length c.args.self.now.units → WasResized l c.args.place c.args.blocks c.args.self.now.told)) addresses
+    let addresses : c.deref.result.now.inventory ≡ inventory_of c.args.self.now.units =
+    ap (λ s. s.inventory) c.deref.ensures ∙ c.self.invariant.9 ∙ ap (λ v. inventory_of v.units) c.self.view_is in
+    subst (λ (l : PlainInventory). OnOk c.resize-done.result (c.args.place < length c.args.self.now.units → WasResized l c.args.place c.args.blocks c.args.self.now.told)) addresses
     (subst (λ b. OnOk c.resize-done.result (c.args.place < length c.args.self.now.units → WasResized c.deref.result.now.inventory c.args.place c.args.blocks b)) told
     (subst (λ n. OnOk c.resize-done.result (c.args.place < n → WasResized c.deref.result.now.inventory c.args.place c.args.blocks c.self.inside.told)) many c.resize-done.ensures.resized))
