@@ -135,7 +135,7 @@ happens_at (Transition.Arrive g x) w v f all h =
       chain = h.chain;
       ticket = h.ticket;
       decided = subst (λ (z : Fixed). DecidesRequest z.inventory g (decision.Enter x.unit (request_of x.entry))) f h.decided;
-      addressed = subst (λ (z : Fixed). slice_get z.inventory x.unit ≡ Some x.address) f h.addressed;
+      addressed = subst (λ (z : Fixed). slice_get z.inventory.addresses x.unit ≡ Some x.address) f h.addressed;
     }
 happens_at (Transition.Refuse g a) w v f all h =
     let q = g.chain.ticket.queue in

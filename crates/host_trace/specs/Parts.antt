@@ -1,7 +1,7 @@
 -- The parts of the device, and what two worlds have in common at one of them.
 use Rattle.std.specs.Prelude.{ℕ, ◌≡◌, Bool, zero, suc, List, [], ◌∷◌, Option, Some, None, slice_get, option_map}
-use Rattle.scsi_codec.specs.declared.lun.Address.{Address}
 use Rattle.ring_core.specs.State.{RingState}
+use Rattle.request_intake.specs.Inventory.{PlainInventory}
 use Rattle.unit_model.specs.Jobs.{PlainJob}
 use Rattle.device_model.specs.Parts.{Slot as Held}
 use Rattle.device_model.specs.World.{PlainQueue, Opened, PlainWorld, owner}
@@ -23,7 +23,7 @@ pub data Part : Type 0 where
 -- what no transition changes
 pub record Fixed : Type 0 where
   pub shared : Bool
-  pub inventory : List Address
+  pub inventory : PlainInventory
   pub workers : ℕ
   pub limit : ℕ
   pub tells_changes : Bool

@@ -77,7 +77,7 @@ bare =
     record {
       memory = [];
       shared = false;
-      inventory = [];
+      inventory = record { addresses = []; profiles = [] };
       queues = [];
       units = [];
       seats = [];
