@@ -4,7 +4,7 @@ ghost use Rattle.workers.specs.Ledgers.{Opens};
 ghost use Rattle.std.specs.Prelude.{◌≡◌};
 
 use crate::guest::{Asked, PAGES, are_answered, ask, layouts};
-use config::{UnitSpec, VERSION_1};
+use config::{Profile, UnitSpec, VERSION_1};
 use std::alloc::Global;
 use std::marker::Brand;
 use std::sync::Wait;
@@ -50,6 +50,7 @@ fn unit(lun: u16) -> UnitSpec {
         lun,
         blocks: 8,
         calm: true,
+        profile: Profile::Narrow,
     }
 }
 

@@ -1,7 +1,7 @@
 //! The parts of a small device, and what its guest writes.
 
 use guest_mem::GuestMem;
-use request_intake::{Inventory, MOST_UNITS, UnitSpec, are_rising};
+use request_intake::{Inventory, MOST_UNITS, Profile, UnitSpec, are_rising};
 use ring_core::{Form, Layout};
 use std::alloc::Global;
 use unit_history::UnitState;
@@ -30,12 +30,14 @@ pub const UNITS: [UnitSpec; 2] = [
         lun: 0,
         blocks: 8,
         calm: true,
+        profile: Profile::Narrow,
     },
     UnitSpec {
         target: 0,
         lun: 1,
         blocks: 8,
         calm: true,
+        profile: Profile::Narrow,
     },
 ];
 

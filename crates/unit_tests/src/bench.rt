@@ -6,7 +6,7 @@ use crate::calls::Came;
 use crate::hand::{Hand, MOST_JOBS, name_of};
 use crate::port::Ports;
 use foundation::NoMemory;
-use request_intake::UnitSpec;
+use request_intake::{Profile, UnitSpec};
 use std::alloc::Global;
 use unit_history::{Place, UnitState};
 use unit_model::Rule;
@@ -17,6 +17,7 @@ pub(crate) const CALM: UnitSpec = UnitSpec {
     lun: 0,
     blocks: 1000,
     calm: true,
+    profile: Profile::Narrow,
 };
 
 /// Another unit of its target.
