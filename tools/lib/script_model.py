@@ -84,7 +84,7 @@ def requests_of(script):
 
 def disks_of(script):
     """Returns the units of a script's header, as they open."""
-    found = re.findall(r"^ *unit +(\d+) +(\d+) +(\d+)( +calm)? *$", script, re.M)
+    found = re.findall(r"^ *unit +(\d+) +(\d+) +(\d+)( +calm)?(?: +profile +(?:narrow|wide))? *$", script, re.M)
     units = [(str(int(target)), str(int(lun)), blocks, calm) for target, lun, blocks, calm in found]
     luns = {target: tuple(int(lun) for its, lun, *_ in units if its == target) for target, *_ in units}
     return {f"{target}:{lun}": Disk(int(blocks), [] if calm else [POWER_ON], luns=luns[target]) for target, lun, blocks, calm in units}

@@ -164,6 +164,7 @@ fn unit_of(disk: Disk) -> UnitSpec {
         lun: disk.unit.lun,
         blocks: disk.blocks,
         calm: disk.calm,
+        profile: disk.profile,
     }
 }
 

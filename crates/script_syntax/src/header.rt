@@ -5,6 +5,7 @@ ghost use Rattle.std.specs.Prelude.{◌≡◌, ◌⊎◌, length, [], ◌∷◌,
 use crate::fault::LineFault;
 use crate::ring_place::{RingPlace, ring_place};
 use crate::values::{number, unit};
+use cdb::Profile;
 use ring_core::Form;
 use scsi_codec::Address;
 
@@ -47,6 +48,8 @@ pub struct Disk {
     pub blocks: u64,
     /// True if nothing is pending at the start; else POWER ON, RESET, OR BUS DEVICE RESET OCCURRED is.
     pub calm: bool,
+    /// The profile of its commands.
+    pub profile: Profile,
 }
 
 /// The features that a header asks for, beside those that each device of its form has.
@@ -139,16 +142,40 @@ fn read_start(values: &[&str]) -> Result<Start, LineFault> {
     Ok(Start { available, used })
 }
 
+/// Reads the name of a profile.
+pub(crate) fn profile(word: &str) -> Result<Profile, LineFault>
+    ensures narrow { word.now ≡ codes "narrow" → result ≡ Ok Profile.Narrow }
+    ensures wide { word.now ≡ codes "wide" → result ≡ Ok Profile.Wide }
+    ensures named { IsOk result → (word.now ≡ codes "narrow") ⊎ (word.now ≡ codes "wide") }
+    ensures fault { IfErr result (λ fault. fault ≡ LineFault.BadValue) }
+{
+    match word {
+        "narrow" => Ok(Profile::Narrow),
+        "wide" => Ok(Profile::Wide),
+        _ => Err(LineFault::BadValue),
+    }
+}
+
 /// Reads the values of a unit.
 fn read_disk(values: &[&str]) -> Result<Disk, LineFault> {
-    let (target, lun, blocks, calm) = match values {
-        [target, lun, blocks] => (*target, *lun, *blocks, false),
-        [target, lun, blocks, word] if *word == "calm" => (*target, *lun, *blocks, true),
+    let [target, lun, blocks, words @ ..] = values else {
+        return Err(LineFault::BadValue);
+    };
+    let (calm, profile) = match words {
+        [] => (false, Profile::Narrow),
+        [calm] if *calm == "calm" => (true, Profile::Narrow),
+        [word, name] if *word == "profile" => (false, profile(name)?),
+        [calm, word, name] if *calm == "calm" && *word == "profile" => (true, profile(name)?),
         _ => return Err(LineFault::BadValue),
     };
     let unit = unit(target, lun)?;
     let blocks = number::<u64>(blocks)?;
-    Ok(Disk { unit, blocks, calm })
+    Ok(Disk {
+        unit,
+        blocks,
+        calm,
+        profile,
+    })
 }
 
 /// Reads the values of the queues.

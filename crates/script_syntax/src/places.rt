@@ -5,7 +5,7 @@ ghost use Rattle.std.specs.Prelude.{◌≤◌, length, IfOk, IfSome};
 use crate::command::notify;
 use crate::fault::Stop;
 use crate::guest_line::{attribute, command_block};
-use crate::header::{Features, LARGEST_SIZE};
+use crate::header::{Features, LARGEST_SIZE, profile};
 use crate::ring_place::ring_place;
 use crate::values::{Bytes, LAST_LUN, capacity, name, number, ordinal, unit_pair};
 use std::alloc::{AllocError, Global};
@@ -49,8 +49,12 @@ enum Place {
     MoreFeatures,
     /// `next` or `never`.
     Notify,
-    /// `calm`, if anything.
-    Calm,
+    /// `calm` or `profile`, if anything.
+    CalmOrProfile,
+    /// `profile`, if anything.
+    Profile,
+    /// The name of a profile.
+    ProfileName,
     /// `live`, if anything.
     Live,
     /// `before`.
@@ -91,7 +95,9 @@ impl Place {
             Place::Form => word == "split" || word == "packed",
             Place::Feature | Place::MoreFeatures => Features::NONE.with(word).is_ok(),
             Place::Notify => notify(word).is_ok(),
-            Place::Calm => word == "calm",
+            Place::CalmOrProfile => word == "calm" || word == "profile",
+            Place::Profile => word == "profile",
+            Place::ProfileName => profile(word).is_ok(),
             Place::Live => word == "live",
             Place::Before => word == "before",
             Place::OutOrIn => word == "out" || word == "in",
@@ -103,7 +109,8 @@ impl Place {
     /// Returns true if a line may end before this place.
     fn may_lack(self) -> bool {
         match self {
-            Place::MoreFeatures | Place::Calm | Place::Live | Place::OutOrIn | Place::In => true,
+            Place::MoreFeatures | Place::CalmOrProfile | Place::Profile => true,
+            Place::Live | Place::OutOrIn | Place::In => true,
             Place::End => true,
             _ => false,
         }
@@ -138,10 +145,19 @@ fn header_place(keyword: &str, index: usize) -> Place {
         ("queues", 1) => Place::Size,
         ("features", 0) => Place::Feature,
         ("features", _) => Place::MoreFeatures,
-        ("unit", 0) => Place::Number8,
-        ("unit", 1) => Place::Lun,
-        ("unit", 2) => Place::Number64,
-        ("unit", 3) => Place::Calm,
+        _ => Place::End,
+    }
+}
+
+/// Returns what a place behind the first word takes, from 0 on, where a unit is asked for.
+fn unit_place(is_calm: bool, index: usize) -> Place {
+    match (is_calm, index) {
+        (_, 0) => Place::Number8,
+        (_, 1) => Place::Lun,
+        (_, 2) => Place::Number64,
+        (_, 3) => Place::CalmOrProfile,
+        (true, 4) => Place::Profile,
+        (false, 4) | (true, 5) => Place::ProfileName,
         _ => Place::End,
     }
 }
@@ -193,18 +209,21 @@ fn other_place(keyword: &str, index: usize) -> Place {
 /// The number of words behind the first of a request, before its data.
 const REQUEST_WORDS: usize = 6;
 
+/// The number of words behind the first of a unit that no line may lack.
+const UNIT_WORDS: usize = 3;
+
 /// Returns what a place behind the first word of a line takes, from 0 on.
 fn place_of(keyword: &str, values: &[&str], index: usize) -> Place {
     match keyword {
-        "memory"
-        | "ring"
-        | "queues"
-        | "start"
-        | "workers"
-        | "handoff"
-        | "features"
-        | "asks"
-        | "unit" => header_place(keyword, index),
+        "memory" | "ring" | "queues" | "start" | "workers" | "handoff" | "features" | "asks" =>
+            header_place(keyword, index),
+        "unit" => {
+            let is_calm = match values.get(UNIT_WORDS) {
+                Some(word) => *word == "calm",
+                None => false,
+            };
+            unit_place(is_calm, index)
+        }
         "send" if index >= REQUEST_WORDS => {
             let has_out = match values.get(REQUEST_WORDS) {
                 Some(word) => *word == "out",
