@@ -60,7 +60,7 @@ static char *take_path(const char **at) {
 
 // Takes one word of a disk up to its end or to a comma. Returns false where there is no such word, or it is there already.
 static bool take_word(const char **at, struct disk *disk) {
-  static const char file[] = "file=", punching[] = "detect-zeroes=unmap";
+  static const char file[] = "file=", punching[] = "detect-zeroes=unmap", narrow[] = "profile=narrow", wide[] = "profile=wide";
   size_t length = strcspn(*at, ",");
   if (!strncmp(*at, file, sizeof file - 1)) {
     *at += sizeof file - 1;
@@ -68,7 +68,10 @@ static bool take_word(const char **at, struct disk *disk) {
   }
   bool is_grow = length == 4 && !strncmp(*at, "grow", length), is_snapshot = length == 8 && !strncmp(*at, "snapshot", length);
   bool is_punching = length == sizeof punching - 1 && !strncmp(*at, punching, length);
-  if (!is_grow && !is_snapshot && !is_punching) return false;
+  bool is_narrow = length == sizeof narrow - 1 && !strncmp(*at, narrow, length);
+  bool is_wide = length == sizeof wide - 1 && !strncmp(*at, wide, length);
+  if (!is_grow && !is_snapshot && !is_punching && !is_narrow && !is_wide) return false;
+  disk->wide = (disk->wide && !is_narrow) || is_wide;
   disk->punches = disk->punches || is_punching;
   disk->grows = disk->grows || is_grow;
   disk->read_only = disk->read_only || is_snapshot;
@@ -81,7 +84,7 @@ static const char no_read_only[] = "ro: no command is answered DATA PROTECT yet.
 // Takes all words of a disk.
 static bool take_disk(struct disk *disk, const char *at, char *why, size_t room) {
   uint64_t target, lun;
-  snprintf(why, room, "%s: not T:L=SIZE[,file=PATH][,grow][,snapshot][,detect-zeroes=unmap], or T:L=file=PATH[,..]", at);
+  snprintf(why, room, "%s: not T:L=SIZE[,file=PATH][,grow][,snapshot][,detect-zeroes=unmap][,profile=narrow|wide], or T:L=file=PATH[,..]", at);
   if (!number(&at, 255, ':', &target) || !number(&at, 16383, '=', &lun)) return false;
   disk->target = (uint8_t)target;
   disk->lun = (uint16_t)lun;

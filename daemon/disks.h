@@ -33,6 +33,7 @@ struct disk {
   bool grows;       // a shorter image is made as long as the disk
   bool made;        // there was no image
   bool punches;     // a WRITE of zeros may make a hole of the image
+  bool wide;        // it knows the commands of the wide profile
   uint64_t length;  // of the image when it was opened, in bytes
   bool dirty;       // written since disk_sync
   int error;        // the error number by which the image can't be written now, or 0
@@ -52,8 +53,8 @@ struct disks {
   bool held;   // they are
 };
 
-// Adds the disk of words T:L=SIZE[,file=PATH][,grow][,snapshot][,detect-zeroes=unmap] or T:L=file=PATH[,..], in its place of the order. A
-// comma of the path stands there twice. Opens nothing: images_open does that. Returns false, and says why, where the words name no disk.
+// Adds the disk of words T:L=SIZE[,file=PATH][,grow][,snapshot][,detect-zeroes=unmap][,profile=narrow|wide] or T:L=file=PATH[,..], in its
+// place of the order. A comma of the path stands there twice. Opens nothing: images_open does that. Returns false, and says why, where the words name no disk.
 bool disks_add(struct disks *disks, const char *words, char *why, size_t room);
 
 // Finds the disk that words T:L=.. name, which disks_add took. Takes a disk out, and closes its image.

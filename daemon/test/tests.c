@@ -274,7 +274,8 @@ static void test_words(void) {
   static const char *const wrong[] = {"", "0", "0:0", "0:0=", "0:0=0", "0:0=513", "0:0=1M,", "0:0=1M,rw", "256:0=1M", "0:16384=1M", "0:0=1P",
                                       "0:0=9999999999999999999999", "0:0=1M,file=", "-1:0=1M", "0:0=1025T", "0:0=1M,ro", "0:0=1M,ro,file=x",
                                       "0:0=1M,snapshot", "0:0=1M,grow", "0:0=1M,file=x,grow,snapshot", "0:0=file=", "0:0=file=x,grow",
-                                      "0:0=file=x,1M", "0:0=1M,file=x,file=y", "0:0=snapshot", "0:0=1M,file=x,", "0:0=1M,file=x,,,"};
+                                      "0:0=file=x,1M", "0:0=1M,file=x,file=y", "0:0=snapshot", "0:0=1M,file=x,", "0:0=1M,file=x,,,",
+                                      "0:0=1M,profile=", "0:0=1M,profile=broad", "0:0=1M,profile=widest", "0:0=profile=wide"};
   static const char *const refused[] = {"0:0=1M,file=/", "0:0=1M,file=/nowhere/x", "0:0=file=/nowhere/x", "0:0=1M,file=/nowhere/x,snapshot"};
   char why[300];
   struct disks disks = {0};
@@ -288,6 +289,10 @@ static void test_words(void) {
     disks_close(&disks);
   }
   MUST(disks_add(&disks, "0:0=1M,snapshot,file=a,,b,,,,c", why, sizeof why) && !strcmp(disks.disks[0].path, "a,b,,c") && disks.disks[0].read_only);
+  disks_close(&disks);
+  MUST(disks_add(&disks, "0:0=1M,profile=wide", why, sizeof why) && disks.disks[0].wide);
+  MUST(disks_add(&disks, "0:1=1M,profile=narrow", why, sizeof why) && !disks.disks[1].wide);
+  MUST(disks_add(&disks, "0:2=1M", why, sizeof why) && !disks.disks[2].wide);
   disks_close(&disks);
   MUST(disks_add(&disks, "1:1=512", why, sizeof why) && !disks_are_whole(&disks) && !disks_add(&disks, "1:1=512", why, sizeof why));
   MUST(disks_add(&disks, "1:0=4G", why, sizeof why) && disks_are_whole(&disks) && disks.disks[0].lun == 0 && disks.disks[0].blocks == 4 << 21);

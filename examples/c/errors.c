@@ -1,4 +1,5 @@
 // What each call answers where it can't do what it was asked for, and that it then left the rest alone.
+#include <stddef.h>
 #include <stdio.h>
 #include <stdlib.h>
 #include <string.h>
@@ -21,6 +22,7 @@ static void check(int line, long long found, long long wanted) {
 
 static struct vscsi_queue queues[QUEUES];
 static struct vscsi_unit units[2];
+static const uint8_t profiles[2] = {VSCSI_PROFILE_WIDE, VSCSI_PROFILE_WIDE + 1};
 static struct vscsi_config config;
 
 static uint64_t area(unsigned queue) { return 0x1000 * (queue + 1); }
@@ -73,6 +75,41 @@ static void causes(void) {
   units[1].blocks = VSCSI_MOST_BLOCKS + 1, refused(__LINE__, VSCSI_CAUSE_UNIT_BLOCKS, 1, 0);
   units[1].target = 0, refused(__LINE__, VSCSI_CAUSE_UNIT_ORDER, 1, 0);
   units[1].lun = 1, refused(__LINE__, VSCSI_CAUSE_NO_LUN_0, 1, 0);
+  config.profiles = profiles, config.pages = 0, refused(__LINE__, VSCSI_CAUSE_UNIT_PROFILE, 1, 0);
+}
+
+// That a configuration of a header that had no profiles yet is taken, whatever stands behind it.
+static void older(void) {
+  struct vscsi device = {0};
+  begin();
+  config.profiles = profiles, config.size = offsetof(struct vscsi_config, profiles);
+  IS(vscsi_create(&device, &config, 0), VSCSI_DONE);
+  IS(vscsi_destroy(&device), VSCSI_DONE);
+  config.size -= 1;
+  IS(vscsi_create(&device, &config, 0), VSCSI_BAD_LENGTH);
+  begin();
+}
+
+// The same of live memory, where `asks` came first.
+static void older_live(void) {
+  static const size_t older_sizes[] = {offsetof(struct vscsi_live_config, asks), offsetof(struct vscsi_live_config, profiles)};
+  struct vscsi_live device = {0};
+  struct vscsi_ring rings[QUEUES];
+  struct vscsi_fault fault = {0};
+  begin();
+  for (unsigned q = 0; q < QUEUES; q++)
+    rings[q] = (struct vscsi_ring){.desc = queues[q].desc, .driver = queues[q].driver, .device = queues[q].device, .size = SIZE};
+  struct vscsi_live_config live = {
+      .features = VSCSI_F_VERSION_1, .rings = rings, .ring_count = QUEUES, .units = units, .unit_count = 2, .profiles = profiles};
+  for (unsigned i = 0; i < 2; i++) {
+    live.size = older_sizes[i];
+    IS(vscsi_live_create(&device, &live, 0, 0), VSCSI_DONE);
+    IS(vscsi_live_destroy(&device), VSCSI_DONE);
+  }
+  live.size = sizeof live;
+  IS(vscsi_live_create(&device, &live, 0, &fault), VSCSI_BAD_CONFIG);
+  IS(fault.cause, VSCSI_CAUSE_UNIT_PROFILE);
+  IS(fault.place, 1);
 }
 
 static void nulls(void) {
@@ -312,7 +349,7 @@ static void sizes(void) {
   struct vscsi_fault fault = {77, 77, 77};
   begin();
   config.size = 0, IS(vscsi_create(&device, &config, &fault), VSCSI_BAD_LENGTH);
-  config.size = sizeof config - 8, IS(vscsi_create(&device, &config, &fault), VSCSI_BAD_LENGTH);
+  config.size = sizeof config - 16, IS(vscsi_create(&device, &config, &fault), VSCSI_BAD_LENGTH);
   config.size = sizeof config + 8, config.queues = 0, IS(vscsi_create(&device, &config, 0), VSCSI_BAD_LENGTH);
   IS(fault.cause, 77);
   begin(), config.pages = 0, IS(vscsi_create(&device, &config, 0), VSCSI_BAD_CONFIG);
@@ -481,7 +518,7 @@ static void texts(void) {
     for (uint32_t j = 0; j < i; j++) {
       IS(strcmp(vscsi_answer_text((enum vscsi_answer)i), vscsi_answer_text((enum vscsi_answer)j)) != 0 || j > VSCSI_NO_DISK, true);
       IS(strcmp(vscsi_broken_text(i), vscsi_broken_text(j)) != 0 || j > VSCSI_BROKEN_RING_OVERRUN, true);
-      IS(strcmp(vscsi_cause_text(i), vscsi_cause_text(j)) != 0 || j == 0 || j == 6 || j == 7 || j > VSCSI_CAUSE_UNIT_DISK, true);
+      IS(strcmp(vscsi_cause_text(i), vscsi_cause_text(j)) != 0 || j == 0 || j == 6 || j == 7 || j > VSCSI_CAUSE_UNIT_PROFILE, true);
     }
   }
   IS(strcmp(vscsi_answer_text(VSCSI_NO_MEMORY), "no memory"), 0);
@@ -506,6 +543,8 @@ int main(void) {
   struct vscsi device = {0};
   struct vscsi_fault fault;
   causes();
+  older();
+  older_live();
   sizes();
   nulls();
   no_device();

@@ -117,6 +117,12 @@ struct vscsi_queue {
   uint16_t size;
 };
 
+/* The commands that a disk knows. Since 1.5. */
+enum vscsi_profile {
+  VSCSI_PROFILE_NARROW = 0,
+  VSCSI_PROFILE_WIDE = 1
+};
+
 /* A disk: a target of 0 to 255 and a LUN of 0 to 16,383, with 1 to VSCSI_MOST_BLOCKS blocks of 512 zeros. Where `calm` is 0
  * the power on (29/00) is pending, which its first command meets that isn't INQUIRY, REPORT LUNS or REQUEST SENSE. */
 struct vscsi_unit {
@@ -132,6 +138,8 @@ struct vscsi_unit {
  *
  * `size` is sizeof (struct vscsi_config), by which the library knows the fields that the caller has.
  *
+ * `profiles` is optional: for each unit the number of an `enum vscsi_profile`. Without it each unit is narrow. Since 1.5.
+ *
  * Firmware that sets up queue 2 alone leaves queues 0 and 1 without areas. Give the device some pages more than the guest
  * has, and let those queues lie there: an area of zeros is an empty ring, and nothing ever changes it. */
 struct vscsi_config {
@@ -142,10 +150,12 @@ struct vscsi_config {
   const struct vscsi_unit *units;
   size_t unit_count;
   uint32_t pages;
+  const uint8_t *profiles;
 };
 
 /* Why a configuration isn't taken: the first of these, in this order, that is so; but queues are looked at one after the
- * other for 4 and 5, and units for 9 and 10. Of a queue or a unit `place` says which, from 0. No cause has number 6 or 7. */
+ * other for 4 and 5, units for 9 and 10, and units for 14 before all else. Of a queue or a unit `place` says which, from 0.
+ * No cause has number 6 or 7. */
 enum vscsi_cause {
   VSCSI_CAUSE_PAGES = 1,        /* no pages, or more than 65,536 */
   VSCSI_CAUSE_FEATURES = 2,     /* no VSCSI_F_VERSION_1, or one that isn't among VSCSI_ACCEPTED_FEATURES */
@@ -157,7 +167,8 @@ enum vscsi_cause {
   VSCSI_CAUSE_UNIT_BLOCKS = 10, /* no blocks, or more than VSCSI_MOST_BLOCKS */
   VSCSI_CAUSE_UNIT_ORDER = 11,  /* a unit that doesn't stand above the one before it */
   VSCSI_CAUSE_NO_LUN_0 = 12,    /* a unit whose target has no LUN 0 */
-  VSCSI_CAUSE_UNIT_DISK = 13    /* of vscsi_create_with: a unit that is given no disk, or one of another capacity */
+  VSCSI_CAUSE_UNIT_DISK = 13,   /* of vscsi_create_with: a unit that is given no disk, or one of another capacity */
+  VSCSI_CAUSE_UNIT_PROFILE = 14 /* a unit whose profile isn't among `enum vscsi_profile`. Since 1.5 */
 };
 
 /* Why a queue can't lie where the configuration says. */
@@ -267,12 +278,13 @@ struct vscsi_live_config {
   const struct vscsi_unit *units;
   size_t unit_count;
   bool asks;
+  const uint8_t *profiles;
 };
 
 /* Makes the device of a configuration, with zeros for guest memory, of which nothing has happened yet. A guest that had
  * written its queues already: copy guest memory in before the device first serves. `fault` is optional.
- * VSCSI_BAD_LENGTH where the size of the configuration isn't the library's; VSCSI_IN_USE; VSCSI_BAD_CONFIG, and then `fault`
- * says why; VSCSI_NO_MEMORY, also in the place of VSCSI_BAD_CONFIG. */
+ * VSCSI_BAD_LENGTH where no header of this major version has a configuration of that size; VSCSI_IN_USE;
+ * VSCSI_BAD_CONFIG, and then `fault` says why; VSCSI_NO_MEMORY, also in the place of VSCSI_BAD_CONFIG. */
 enum vscsi_answer vscsi_create(struct vscsi *device, const struct vscsi_config *config, struct vscsi_fault *fault);
 
 /* Makes a device as vscsi_create does, but over disks: unit k of the configuration has the blocks of disks[k], as many, in

@@ -11,9 +11,18 @@ struct told {
   bool all;
 };
 
+/* A unit as the device takes it. */
+struct wanted_unit {
+  uint64_t blocks;
+  uint16_t lun;
+  uint8_t target;
+  uint8_t calm;
+  uint8_t profile;
+};
+
 /* What the device exports (`src/exports.rt`). */
 uint32_t vscsi_raw_create(struct vscsi *device, uint32_t pages, uint64_t features, const struct vscsi_queue *queues, size_t queue_count,
-                          const struct vscsi_unit *units, size_t unit_count, struct vscsi_fault *fault);
+                          const struct wanted_unit *units, size_t unit_count, struct vscsi_fault *fault);
 uint32_t vscsi_raw_destroy(struct vscsi *device);
 uint32_t vscsi_raw_settle(struct vscsi *device, uint64_t *steps);
 uint32_t vscsi_raw_serve(struct vscsi *device, uint32_t queues, uint64_t most, uint64_t *steps, bool *more);
@@ -31,7 +40,7 @@ uint32_t vscsi_raw_capacity(struct vscsi *device, uint8_t target, uint16_t lun, 
 uint32_t vscsi_raw_blocks(struct vscsi *device, uint8_t target, uint16_t lun, uint64_t first, uint32_t count, uint8_t *into, size_t length);
 uint32_t vscsi_raw_changed(struct vscsi *device, uint8_t target, uint16_t lun, struct told *told, struct vscsi_range *room, size_t length);
 uint32_t vscsi_raw_create_with(struct vscsi *device, uint32_t pages, uint64_t features, const struct vscsi_queue *queues, size_t queue_count,
-                               const struct vscsi_unit *units, size_t unit_count, struct vscsi_disk *disks, size_t disk_count,
+                               const struct wanted_unit *units, size_t unit_count, struct vscsi_disk *disks, size_t disk_count,
                                struct vscsi_fault *fault);
 uint32_t vscsi_raw_close(struct vscsi *device, struct vscsi_disk *disks, size_t count);
 uint32_t vscsi_raw_disk_create(struct vscsi_disk *disk, uint64_t blocks);
@@ -42,9 +51,9 @@ uint32_t vscsi_raw_disk_save(struct vscsi_disk *disk, uint64_t first, uint32_t c
 
 /* What it exports for a device on live memory (`src/live_exports.rt`), which has a pointer and a flag as any device. */
 uint32_t vscsi_raw_live_create(struct vscsi_live *device, uint64_t map, uint64_t features, const struct vscsi_ring *rings,
-                               size_t ring_count, const struct vscsi_unit *units, size_t unit_count, struct vscsi_fault *fault);
+                               size_t ring_count, const struct wanted_unit *units, size_t unit_count, struct vscsi_fault *fault);
 uint32_t vscsi_raw_live_create_with(struct vscsi_live *device, uint64_t map, uint64_t features, const struct vscsi_ring *rings,
-                                    size_t ring_count, const struct vscsi_unit *units, size_t unit_count, struct vscsi_disk *disks,
+                                    size_t ring_count, const struct wanted_unit *units, size_t unit_count, struct vscsi_disk *disks,
                                     size_t disk_count, struct vscsi_fault *fault);
 bool vscsi_raw_live_is_there(struct vscsi_live *device);
 uint32_t vscsi_raw_live_map(struct vscsi_live *device, const struct vscsi_region *regions, size_t count);
@@ -70,37 +79,81 @@ uint32_t vscsi_raw_live_changed(struct vscsi_live *device, uint8_t target, uint1
 static bool is_long(size_t count, size_t size) { return count > PTRDIFF_MAX / size; }
 
 static const struct vscsi_queue no_queue = {0, 0, 0, 0};
-static const struct vscsi_unit no_unit = {0, 0, 0, 0};
+
+/* The units of a device at most, and one more: of more units the device says that they are too many, whatever they are. */
+enum { MOST_UNITS = 64, UNITS_READ };
+
+struct wanted_units {
+  size_t count;
+  struct wanted_unit items[UNITS_READ];
+};
+
+/* Reads the units that are wanted, and their profiles, where there are any. Returns false where the device doesn't know the profile of
+ * one, and tells of the first of these. */
+static bool read_units(struct wanted_units *wanted, const struct vscsi_unit *units, size_t count, const uint8_t *profiles,
+                       struct vscsi_fault *fault) {
+  wanted->count = count < UNITS_READ ? count : UNITS_READ;
+  for (size_t place = 0; place < wanted->count; place++) {
+    const struct vscsi_unit *unit = &units[place];
+    uint8_t profile = profiles ? profiles[place] : VSCSI_PROFILE_NARROW;
+    if (profile > VSCSI_PROFILE_WIDE) {
+      *fault = (struct vscsi_fault){.place = place, .cause = VSCSI_CAUSE_UNIT_PROFILE, .detail = 0};
+      return false;
+    }
+    wanted->items[place] =
+        (struct wanted_unit){.blocks = unit->blocks, .lun = unit->lun, .target = unit->target, .calm = unit->calm, .profile = profile};
+  }
+  return true;
+}
+
+/* The sizes of configurations in headers that had no `profiles` yet. */
+static const size_t size_without_profiles = offsetof(struct vscsi_config, profiles);
+static const size_t live_size_without_profiles = offsetof(struct vscsi_live_config, profiles);
+
+static const uint8_t *profiles_of(const struct vscsi_config *config) {
+  return config->size == size_without_profiles ? NULL : config->profiles;
+}
+
+static const uint8_t *live_profiles_of(const struct vscsi_live_config *config) {
+  return config->size == sizeof *config ? config->profiles : NULL;
+}
 
 /* Returns why a configuration can't be handed on, or VSCSI_DONE. */
 static enum vscsi_answer unreadable(const struct vscsi_config *config) {
   if (!config) return VSCSI_NULL;
-  if (config->size != sizeof *config) return VSCSI_BAD_LENGTH;
+  if (config->size != sizeof *config && config->size != size_without_profiles) return VSCSI_BAD_LENGTH;
   if ((!config->queues && config->queue_count) || (!config->units && config->unit_count)) return VSCSI_NULL;
-  if (is_long(config->queue_count, sizeof no_queue) || is_long(config->unit_count, sizeof no_unit)) return VSCSI_BAD_LENGTH;
+  if (is_long(config->queue_count, sizeof no_queue) || is_long(config->unit_count, sizeof *config->units)) return VSCSI_BAD_LENGTH;
   return VSCSI_DONE;
 }
 
 enum vscsi_answer vscsi_create(struct vscsi *device, const struct vscsi_config *config, struct vscsi_fault *fault) {
   struct vscsi_fault unread = {0, 0, 0};
+  struct wanted_units units;
   enum vscsi_answer answer = device ? unreadable(config) : VSCSI_NULL;
   if (answer != VSCSI_DONE) return answer;
+  if (device->live) return VSCSI_IN_USE;
+  if (!fault) fault = &unread;
+  if (!read_units(&units, config->units, config->unit_count, profiles_of(config), fault)) return VSCSI_BAD_CONFIG;
   return (enum vscsi_answer)vscsi_raw_create(device, config->pages, config->features, config->queues ? config->queues : &no_queue,
-                                             config->queue_count, config->units ? config->units : &no_unit, config->unit_count,
-                                             fault ? fault : &unread);
+                                             config->queue_count, units.items, units.count, fault);
 }
 
 enum vscsi_answer vscsi_create_with(struct vscsi *device, const struct vscsi_config *config, struct vscsi_disk *disks,
                                     struct vscsi_fault *fault) {
   struct vscsi_fault unread = {0, 0, 0};
   struct vscsi_disk nothing = {0, 0, false};
+  struct wanted_units units;
   enum vscsi_answer answer = device ? unreadable(config) : VSCSI_NULL;
   if (answer != VSCSI_DONE) return answer;
   if (!disks && config->unit_count) return VSCSI_NULL;
   if (is_long(config->unit_count, sizeof nothing)) return VSCSI_BAD_LENGTH;
+  if (device->live) return VSCSI_IN_USE;
+  if (!fault) fault = &unread;
+  if (!read_units(&units, config->units, config->unit_count, profiles_of(config), fault)) return VSCSI_BAD_CONFIG;
   return (enum vscsi_answer)vscsi_raw_create_with(device, config->pages, config->features, config->queues ? config->queues : &no_queue,
-                                                  config->queue_count, config->units ? config->units : &no_unit, config->unit_count,
-                                                  disks ? disks : &nothing, config->unit_count, fault ? fault : &unread);
+                                                  config->queue_count, units.items, units.count, disks ? disks : &nothing, units.count,
+                                                  fault);
 }
 
 enum vscsi_answer vscsi_close(struct vscsi *device, struct vscsi_disk *disks, size_t count) {
@@ -210,7 +263,7 @@ static const size_t size_without_asks = offsetof(struct vscsi_live_config, asks)
 /* Returns why a configuration of live memory can't be handed on, or VSCSI_DONE. */
 static enum vscsi_answer live_unreadable(const struct vscsi_live_config *config) {
   if (!config) return VSCSI_NULL;
-  if (config->size != sizeof *config && config->size != size_without_asks) return VSCSI_BAD_LENGTH;
+  if (config->size != sizeof *config && config->size != live_size_without_profiles && config->size != size_without_asks) return VSCSI_BAD_LENGTH;
   if ((!config->rings && config->ring_count) || (!config->units && config->unit_count)) return VSCSI_NULL;
   if (is_long(config->ring_count, sizeof no_ring) || is_long(config->unit_count, sizeof(struct vscsi_disk))) return VSCSI_BAD_LENGTH;
   return VSCSI_DONE;
@@ -218,26 +271,28 @@ static enum vscsi_answer live_unreadable(const struct vscsi_live_config *config)
 
 /* Makes the device over what was mapped, which it has from then on if that is answered. */
 static enum vscsi_answer create_over(struct vscsi_live *device, struct bus_map *map, const struct vscsi_live_config *config,
-                                     struct vscsi_disk *disks, struct vscsi_fault *fault) {
+                                     const struct wanted_units *units, struct vscsi_disk *disks, struct vscsi_fault *fault) {
   const struct vscsi_ring *rings = config->rings ? config->rings : &no_ring;
-  const struct vscsi_unit *units = config->units ? config->units : &no_unit;
   uint64_t number = (uint64_t)(uintptr_t)map;
   if (!disks)
-    return (enum vscsi_answer)vscsi_raw_live_create(device, number, config->features, rings, config->ring_count, units, config->unit_count,
+    return (enum vscsi_answer)vscsi_raw_live_create(device, number, config->features, rings, config->ring_count, units->items, units->count,
                                                     fault);
-  return (enum vscsi_answer)vscsi_raw_live_create_with(device, number, config->features, rings, config->ring_count, units,
-                                                       config->unit_count, disks, config->unit_count, fault);
+  return (enum vscsi_answer)vscsi_raw_live_create_with(device, number, config->features, rings, config->ring_count, units->items,
+                                                       units->count, disks, units->count, fault);
 }
 
 enum vscsi_answer vscsi_live_create(struct vscsi_live *device, const struct vscsi_live_config *config, struct vscsi_disk *disks,
                                     struct vscsi_fault *fault) {
   struct vscsi_fault unread = {0, 0, 0};
+  struct wanted_units units;
   enum vscsi_answer answer = device ? live_unreadable(config) : VSCSI_NULL;
   if (answer != VSCSI_DONE) return answer;
   if (vscsi_raw_live_is_there(device)) return VSCSI_IN_USE;
+  if (!fault) fault = &unread;
+  if (!read_units(&units, config->units, config->unit_count, live_profiles_of(config), fault)) return VSCSI_BAD_CONFIG;
   struct bus_map *map = bus_map();
   if (!map) return VSCSI_NO_MEMORY;
-  answer = create_over(device, map, config, disks, fault ? fault : &unread);
+  answer = create_over(device, map, config, &units, disks, fault);
   if (answer != VSCSI_DONE) {
     bus_unmap(map);
     return answer;
@@ -429,6 +484,7 @@ const char *vscsi_cause_text(uint32_t cause) {
       [VSCSI_CAUSE_UNIT_ORDER] = "a unit that doesn't stand above the one before it",
       [VSCSI_CAUSE_NO_LUN_0] = "a unit whose target has no LUN 0",
       [VSCSI_CAUSE_UNIT_DISK] = "a unit that is given no disk, or one of another capacity",
+      [VSCSI_CAUSE_UNIT_PROFILE] = "a unit of a profile that the device doesn't know",
   };
   return TEXT_OF(texts, cause, "an unknown cause");
 }

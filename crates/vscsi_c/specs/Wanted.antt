@@ -1,5 +1,7 @@
 -- The configuration that C asks for.
-use Rattle.std.specs.Prelude.{ℕ, ◌≡◌, ◌==◌, not, List, map}
+use Rattle.std.specs.Prelude.{ℕ, ◌≡◌, ◌==◌, not, List, map, if◌then◌else◌}
+use Rattle.cdb.specs.declared.profile.Profile.{Profile}
+use Rattle.cdb.specs.declared.profile.Profile.TheVariants.{Narrow, Wide}
 use Rattle.ring_core.specs.declared.layout.Layout.{Layout}
 use Rattle.ring_core.specs.State.{fresh_layout}
 use Rattle.request_intake.specs.declared.inventory.UnitSpec.{UnitSpec}
@@ -10,8 +12,18 @@ use Rattle.vscsi_c.specs.declared.wanted.WantedUnit.{WantedUnit}
 abbrev pub layout_of : WantedQueue → Layout
 layout_of q = fresh_layout q.size q.desc q.driver q.device
 
+abbrev pub profile_of : ℕ → Profile
+profile_of number = if number == 0 then Narrow else Wide
+
 abbrev pub spec_of : WantedUnit → UnitSpec
-spec_of u = record { target = u.target; lun = u.lun; blocks = u.blocks; calm = not (u.calm == 0) }
+spec_of u =
+    record {
+      target = u.target;
+      lun = u.lun;
+      blocks = u.blocks;
+      calm = not (u.calm == 0);
+      profile = profile_of u.profile;
+    }
 
 -- one worker, with room for 64 jobs
 pub record Asks (pages features : ℕ) (queues : List WantedQueue) (units : List WantedUnit) (c : Config) : Type 0 where

@@ -1,10 +1,10 @@
 //! The device that C wants.
 
 ghost use Rattle.std.specs.Prelude.{◌≡◌, map, IfOk};
-ghost use Rattle.vscsi_c.specs.Wanted.{layout_of, spec_of, Asks};
+ghost use Rattle.vscsi_c.specs.Wanted.{layout_of, profile_of, spec_of, Asks};
 ghost use Rattle.vscsi_c.specs.Calls.{layout_number as number_of_layout, cause_of, plain_cause};
 
-use request_intake::UnitSpec;
+use request_intake::{Profile, UnitSpec};
 use std::alloc::{AllocError, Global};
 use world::{Config, ConfigFault, Layout, LayoutFault};
 
@@ -42,6 +42,19 @@ pub struct WantedUnit {
     pub target: u8,
     /// 0: the unit begins with POWER ON, RESET, OR BUS DEVICE RESET OCCURRED pending.
     pub calm: u8,
+    /// 0: the narrow profile; else the wide one.
+    pub profile: u8,
+}
+
+/// Returns the profile of this number.
+fn profile(number: u8) -> Profile
+    ensures { result ≡ profile_of number }
+{
+    if number == 0 {
+        Profile::Narrow
+    } else {
+        Profile::Wide
+    }
 }
 
 impl WantedUnit {
@@ -54,6 +67,7 @@ impl WantedUnit {
             lun: self.lun,
             blocks: self.blocks,
             calm: self.calm != 0,
+            profile: profile(self.profile),
         }
     }
 }
