@@ -19,7 +19,7 @@ use Rattle.device_model.proofs.Places.{moves, nothing_counts, balanced}
 use Rattle.device_model.proofs.Owning.{owned}
 use Rattle.device_model.specs.Measure.{owed, price, price_at, visits, if_whole, whole, measure, pays, if_answered, answered_hand}
 use Rattle.std.specs.Prelude.{⊤}
-use Rattle.device_model.specs.Settling.{Settles, SettlesOf, visited, IsShort}
+use Rattle.device_model.specs.Settling.{Settles, SettlesOf, visited, roused_by, IsShort}
 use Rattle.device_model.specs.Waking.{IsOwn}
 use Rattle.device_model.proofs.Choosing.{own_next, own_next_of}
 use Rattle.device_model.proofs.Lowers.{lowers}
@@ -101,11 +101,13 @@ held_owed w h =
     let o = h.seats k s at in
     seat_owed w s o.0 o.1) in
     let d = jobs_owed w 4 (all_off w) (omega (arith)) h.handed_off in
+    let x = jobs_owed w 2 w.aside (omega (arith)) h.aside in
+    let v = jobs_owed w 2 w.woken (omega (arith)) h.woken in
     let e = function_owed w.function in
     let f = nothing_counts (of_chain nothing) w.buffers (λ i x at. refl) in
     let y = no_weights w.queues in
     let z = no_weights w.units in
-    omega (arith, a, b, c, d, e, f, y, z)
+    omega (arith, a, b, c, d, e, f, x, v, y, z)
 
 whole_few : (qs : List PlainQueue) → sum_by whole qs ≤ length qs
 whole_few [] = omega (arith)
@@ -123,6 +125,7 @@ whole_few (q ∷ qs) =
 pub owed_at_start : (old : PlainWorld) (trace : List Occurrence) (w : PlainWorld) → Reached old trace w
     → measure w + used_count price w
     ≤ accepted_count price w + sum_by answered_hand w.seats + visits w.function + length w.waiting + length w.queues
+    + 2 * length w.woken
 owed_at_start old trace w r =
     let a = held_owed w (owned old trace w r.opens r.runs) in
     let b = balanced price old trace w r.opens r.runs in
@@ -135,6 +138,7 @@ pub own_pays : (d : Transition) (w : PlainWorld) → Happens d w → IsOwn (even
 own_pays (Transition.Poke x) w h o = absurd o
 own_pays (Transition.Hard p jobs) w h o = absurd o
 own_pays (Transition.Resize place blocks) w h o = absurd o
+own_pays Transition.Wake w h o = absurd o
 own_pays (Transition.Idle e) w h o = absurd h
 own_pays d w h o = omega (arith)
 
@@ -167,7 +171,8 @@ accepted_on p w (d ∷ past) s =
 
 -- each step is paid for
 all_paid : (w : PlainWorld) (more : List Transition) → AreOwnTransitions w more
-    → measure (world_of w more) + length more ≤ measure w + sum_by (fetches price) more + 2 * sum_by visited more
+    → measure (world_of w more) + length more
+    ≤ measure w + sum_by (fetches price) more + 2 * sum_by visited more + 2 * roused_by w more
 all_paid w [] s = omega (arith)
 all_paid w (d ∷ past) s =
     let v = world_of w past in

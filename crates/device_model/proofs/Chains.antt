@@ -13,9 +13,9 @@ use Rattle.unit_model.specs.Jobs.{PlainJob, is_job_of}
 use Rattle.task_mgmt.specs.Functions.{PlainFunction, marking, asking, failing, checking, step_by}
 use Rattle.unit_model.specs.Unit.{PlainUnit, after as stepped, parking}
 use Rattle.device_model.specs.Parts.{Outcome, Slot, Hand}
-use Rattle.device_model.specs.World.{PlainQueue, Seat, Opened, PlainWorld, change, owner, Everywhere, all_off}
+use Rattle.device_model.specs.World.{PlainQueue, Seat, Opened, PlainWorld, change, owner, Everywhere, all_of, all_off}
 use Rattle.device_model.specs.Transitions.{Transition}
-use Rattle.device_model.specs.Changing.{arriving, taking, slotted, broken_by, completing, directing, spending, with_hand, without_first, with_jobs, leaving, on_function}
+use Rattle.device_model.specs.Changing.{arriving, taking, slotted, broken_by, completing, directing, spending, with_hand, without_first, with_jobs, with_job, leaving, on_function}
 use Rattle.device_model.specs.Event.Hard.{hard_code}
 use Rattle.device_model.specs.After.{after}
 use Rattle.device_model.specs.Happens.{May}
@@ -27,7 +27,7 @@ use Rattle.device_model.specs.Standing.{IsOwned, IsJob, SlotOwns, HandOwns, Func
 use Rattle.device_model.proofs.Lists.{nothing, same}
 use Rattle.device_model.proofs.Places.{nothing_counts}
 use Rattle.device_model.proofs.Staying.{everywhere}
-use Rattle.device_model.proofs.Off.{each_put, each_taken}
+use Rattle.device_model.proofs.Off.{each_put, each_taken, between, between_sum, between_all, between_parts, each_woken, each_push, first_taken}
 
 -- Lists
 
@@ -98,7 +98,7 @@ SeatsOwn v ss = Everywhere (λ k s. SeatOwns v s) ss
 
 abbrev pub Stand : PlainWorld → PlainWorld → Type 0
 Stand v w =
-    SlotsOwn v w.queues × UnitsOwn v w.units × SeatsOwn v w.seats × JobsOwn v (all_off w) × FunctionOwns v w.function
+    SlotsOwn v w.queues × UnitsOwn v w.units × SeatsOwn v w.seats × JobsOwn v (between w) × FunctionOwns v w.function
     × AllByRecursion (BufferOwns v) w.buffers
 
 -- One part changes
@@ -256,11 +256,13 @@ places v (Transition.Direct c o xs) w m b h =
     let g = directing xs.seen c in
     (slots v g c.ticket.queue w.queues (λ q old. tt) h.0, h.1, h.2, h.3, h.4, h.5)
 places v (Transition.Put k x) w m b h =
+    let a = between_parts (IsJob v) (all_off w) w.aside w.woken h.3 in
     let j = (h.2 k (record { hand = Hand.Empty; out = x ∷ m.rest }) m.seat).1.0 in (
       h.0,
       h.1,
       goes v Hand.Empty k w.seats tt h.2,
-      each_put (IsJob v) k w.handed_off x j h.3,
+      between_all (IsJob v) (all_of (change (with_job x) k w.handed_off)) w.aside w.woken
+          (each_put (IsJob v) k w.handed_off x j a.0) a.1 a.2,
       h.4,
       h.5,
     )
@@ -268,8 +270,15 @@ places v (Transition.Keep k x) w m b h =
     let j = (h.2 k (record { hand = Hand.Empty; out = x ∷ m.rest }) m.seat).1.0 in
     (h.0, h.1, goes v (Hand.Taken x) k w.seats j h.2, h.3, h.4, h.5)
 places v (Transition.Take k from x) w m b h =
-    let j = each_taken (IsJob v) from w.handed_off x m.rest m.handed_off h.3 in
-    (h.0, h.1, turns v (Hand.Taken x) k w.seats j.0 h.2, j.1, h.4, h.5)
+    let a = between_parts (IsJob v) (all_off w) w.aside w.woken h.3 in
+    let j = each_taken (IsJob v) from w.handed_off x m.rest m.handed_off a.0 in (
+      h.0,
+      h.1,
+      turns v (Hand.Taken x) k w.seats j.0 h.2,
+      between_all (IsJob v) (all_of (change (drop 1) from w.handed_off)) w.aside w.woken j.1 a.1 a.2,
+      h.4,
+      h.5,
+    )
 places v (Transition.Commit k x r) w m b h =
     let j = (h.2 k (record { hand = Hand.Taken x; out = m.holds.out }) m.holds.seat).0 in
     let new = Hand.Done x (Outcome.Ended (Ending.Replied r)) in (
@@ -298,6 +307,28 @@ places v (Transition.CommitUnknown k x) w m b h =
     let j = (h.2 k (record { hand = Hand.Taken x; out = m.holds.out }) m.holds.seat).0 in
     let new = Hand.Done x (Outcome.Ended Ending.Lost) in
     (h.0, h.1, turns v new k w.seats j h.2, h.3, h.4, h.5)
+places v (Transition.Defer k x) w m b h =
+    let j = (h.2 k (record { hand = Hand.Taken x; out = m.holds.out }) m.holds.seat).0 in
+    let a = between_parts (IsJob v) (all_off w) w.aside w.woken h.3 in (
+      h.0,
+      h.1,
+      turns v Hand.Empty k w.seats tt h.2,
+      between_all (IsJob v) (all_off w) (w.aside ++ x ∷ []) w.woken a.0 (each_push (IsJob v) w.aside x a.1 j) a.2,
+      h.4,
+      h.5,
+    )
+places v Transition.Wake w m b h =
+    (h.0, h.1, h.2, each_woken (IsJob v) (all_off w) w.aside w.woken h.3, h.4, h.5)
+places v (Transition.Resume k x) w m b h =
+    let a = between_parts (IsJob v) (all_off w) w.aside w.woken h.3 in
+    let r = first_taken (IsJob v) w.woken x m.rest m.first a.2 in (
+      h.0,
+      h.1,
+      turns v (Hand.Taken x) k w.seats r.0 h.2,
+      between_all (IsJob v) (all_off w) w.aside (drop 1 w.woken) a.0 a.1 r.1,
+      h.4,
+      h.5,
+    )
 places v (Transition.Answer k x o xs) w m b h =
     let g = completing xs.seen x.chain in (
       slots v g x.chain.ticket.queue w.queues (λ q old. old) h.0,
@@ -315,7 +346,7 @@ places v (Transition.Mark t p s jobs) w m b h =
       h.0,
       steps v (step_by s) p.unit w.units h.1,
       gets v jobs 0 w.seats j h.2,
-      h.3,
+      each_woken (IsJob v) (all_off w) w.aside w.woken h.3,
       functions v (marking p) w.function h.4,
       h.5,
     )
@@ -331,7 +362,7 @@ places v (Transition.Hard p jobs) w m b h =
       h.0,
       steps v (Step.Reset hard_code) p.unit w.units h.1,
       gets v jobs w.workers w.seats j h.2,
-      h.3,
+      each_woken (IsJob v) (all_off w) w.aside w.woken h.3,
       h.4,
       h.5,
     )
@@ -387,14 +418,15 @@ function_turns p u v t (Some o) h z = (h.0, t o.chain h.1 z)
 
 -- all that stands turns
 pub turn : (p : Ticket → ℕ) (u v w : PlainWorld) → Turns p u v → standing_count p w ≡ 0 → Stand u w → Stand v w
-turn p u v w t z h = (
+turn p u v w t z h =
+  let s = between_sum (of_job p) (all_off w) w.aside w.woken in (
   every_turn (λ i q. SlotOwns u i q.slot) (λ i q. SlotOwns v i q.slot) (at_queue p) w.queues
       (λ i q. slot_turns p u v t i q.slot) (omega (arith, z)) h.0,
   every_turn (λ i x. JobsOwn u x.parked) (λ i x. JobsOwn v x.parked) (at_unit p) w.units
       (λ i x a n. jobs_turn p u v t x.parked n a) (omega (arith, z)) h.1,
   every_turn (λ k s. SeatOwns u s) (λ k s. SeatOwns v s) (at_seat (of_job p)) w.seats
       (λ k s. seat_turns p u v t s) (omega (arith, z)) h.2,
-  jobs_turn p u v t (all_off w) (omega (arith, z)) h.3,
+  jobs_turn p u v t (between w) (omega (arith, s, z)) h.3,
   function_turns p u v t w.function h.4 (omega (arith, z)),
   all_turn (BufferOwns u) (BufferOwns v) (of_chain p) w.buffers (λ c b n. (b.0, t c b.1 n)) (omega (arith, z)) h.5,
 )
@@ -435,6 +467,8 @@ no_weight w =
     let b = nothing_counts (at_unit weightless) w.units (λ i u at. weightless_jobs u.parked) in
     let c = nothing_counts (at_seat (of_job weightless)) w.seats (λ i s at. weightless_seat s) in
     let d = weightless_jobs (all_off w) in
+    let x = weightless_jobs w.aside in
+    let y = weightless_jobs w.woken in
     let e = weightless_function w.function in
     let f = nothing_counts (of_chain weightless) w.buffers (λ i x at. refl) in
-    omega (arith, a, b, c, d, e, f)
+    omega (arith, a, b, c, d, e, f, x, y)

@@ -227,6 +227,22 @@ take_at w k (Hand.Taken x) out (inl lt) at = inr (take_not_free w k (Hand.Taken 
 take_at w k (Hand.Done x o) out (inl lt) at = inr (take_not_free w k (Hand.Done x o) out at refl)
 take_at w k (Hand.Answered place t) out (inl lt) at = inr (take_not_free w k (Hand.Answered place t) out at refl)
 
+resume_not_free : (w : PlainWorld) (k : ℕ) (hand : Hand) (out : List PlainJob) → At w k hand out
+    → is_empty_hand hand ≡ false → Never w (Event.Resume k)
+resume_not_free w k hand out at e h =
+    false_true (sym e ∙ ap is_empty_hand (one_hand w k hand Hand.Empty out h.free.0 at h.free.1))
+
+resume_off : (w : PlainWorld) (k : ℕ) (out woken : List PlainJob) → At w k Hand.Empty out → w.woken ≡ woken
+    → Decided w (Event.Resume k)
+resume_off w k out [] at e = inr (λ h. no_job (sym e ∙ h.first))
+resume_off w k out (x ∷ rest) at e = inl (record { free = (out, at); job = x; rest = rest; first = e })
+
+resume_at : (w : PlainWorld) (k : ℕ) (hand : Hand) (out : List PlainJob) → At w k hand out → Decided w (Event.Resume k)
+resume_at w k Hand.Empty out at = resume_off w k out w.woken at refl
+resume_at w k (Hand.Taken x) out at = inr (resume_not_free w k (Hand.Taken x) out at refl)
+resume_at w k (Hand.Done x o) out at = inr (resume_not_free w k (Hand.Done x o) out at refl)
+resume_at w k (Hand.Answered place t) out at = inr (resume_not_free w k (Hand.Answered place t) out at refl)
+
 commit_decided : (w : PlainWorld) (k : ℕ) (o : Option Seat) → slice_get w.seats k ≡ o → Decided w (Event.Commit k)
 commit_decided w k None at = inr (λ h. nothing (sym at ∙ h.1.1))
 commit_decided w k (Some s) at = commit_at w k s.hand s.out at
@@ -246,6 +262,10 @@ put_decided w k (Some s) at = put_at w k s.hand s.out at
 take_decided : (w : PlainWorld) (k : ℕ) (o : Option Seat) → slice_get w.seats k ≡ o → Decided w (Event.Take k)
 take_decided w k None at = inr (λ h. nothing (sym at ∙ h.seat))
 take_decided w k (Some s) at = take_at w k s.hand s.out (below_or_not k w.workers) at
+
+resume_decided : (w : PlainWorld) (k : ℕ) (o : Option Seat) → slice_get w.seats k ≡ o → Decided w (Event.Resume k)
+resume_decided w k None at = inr (λ h. nothing (sym at ∙ h.free.1))
+resume_decided w k (Some s) at = resume_at w k s.hand s.out at
 
 -- The function
 
@@ -357,6 +377,8 @@ decided w Event.AnswerTmf own = respond_decided w w.function refl
 decided w (Event.Prepare k) own = absurd own
 decided w (Event.Resize place blocks) own = absurd own
 decided w (Event.Hard place) own = absurd own
+decided w Event.Wake own = absurd own
+decided w (Event.Resume k) own = resume_decided w k (slice_get w.seats k) refl
 decided w Event.Raise own = raise_decided w w.waiting refl
 
 -- The order has no event of the guest or of the operator
@@ -379,7 +401,7 @@ own_order queues seats =
     let enters : List Event = each (λ q. Event.Enter q ∷ []) queues in
     let fetches : List Event = each (λ q. Event.Fetch q ∷ []) queues in
     let a = own_each (λ q. Event.Direct q ∷ []) queues (λ q. (tt, tt)) in
-    let b = own_each of_seat seats (λ k. (tt, (tt, (tt, (tt, (tt, tt)))))) in
+    let b = own_each of_seat seats (λ k. (tt, (tt, (tt, (tt, (tt, (tt, tt))))))) in
     let c = own_each (λ q. Event.Enter q ∷ []) queues (λ q. (tt, tt)) in
     let d = own_each (λ q. Event.Fetch q ∷ []) queues (λ q. (tt, tt)) in
     own_append (Event.AnswerTmf ∷ Event.Check ∷ Event.Mark ∷ Event.Raise ∷ directs)
@@ -397,7 +419,7 @@ own_order_by asked queues seats =
     let enters : List Event = each (λ q. Event.Enter q ∷ []) queues in
     let fetches : List Event = each (fetch_of asked) queues in
     let a = own_each (λ q. Event.Direct q ∷ []) queues (λ q. (tt, tt)) in
-    let b = own_each of_seat seats (λ k. (tt, (tt, (tt, (tt, (tt, tt)))))) in
+    let b = own_each of_seat seats (λ k. (tt, (tt, (tt, (tt, (tt, (tt, tt))))))) in
     let c = own_each (λ q. Event.Enter q ∷ []) queues (λ q. (tt, tt)) in
     let d = own_each (fetch_of asked) queues (λ q. own_asked (asked q) q) in
     own_append (Event.AnswerTmf ∷ Event.Check ∷ Event.Mark ∷ Event.Raise ∷ directs)

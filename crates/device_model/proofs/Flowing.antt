@@ -38,7 +38,7 @@ use Rattle.device_model.proofs.Places.{moves, nothing_counts}
 use Rattle.device_model.proofs.Owning.{owned}
 use Rattle.device_model.proofs.Staying.{run_keeps}
 use Rattle.device_model.proofs.Numbering.{new_numbered, transition_numbers}
-use Rattle.device_model.proofs.Off.{off_put, off_taken, none_off}
+use Rattle.device_model.proofs.Off.{off_put, off_taken, none_off, first_counts}
 
 -- Queues
 
@@ -233,6 +233,17 @@ held_transition f w (Transition.CommitUnknown k x) h =
     let new = Hand.Done x (Outcome.Ended Ending.Lost) in
     let s = turns f k w.seats (Hand.Taken x) new h.holds.out h.holds.seat in
     omega (arith, s)
+held_transition f w (Transition.Defer k x) h =
+    let s = turns f k w.seats (Hand.Taken x) Hand.Empty h.holds.out h.holds.seat in
+    let a = sum_by_push (of_job f.aside) w.aside x in
+    omega (arith, s, a)
+held_transition f w Transition.Wake h =
+    let a = sum_by-append (of_job f.aside) w.woken w.aside in
+    omega (arith, a)
+held_transition f w (Transition.Resume k x) h =
+    let s = turns f k w.seats Hand.Empty (Hand.Taken x) h.free.0 h.free.1 in
+    let a = first_counts (of_job f.aside) w.woken x h.rest h.first in
+    omega (arith, s, a)
 held_transition f w (Transition.Answer k x o xs) h =
     let s = turns f k w.seats (Hand.Done x o) (Hand.Answered x.unit x.chain.ticket) h.out h.seat in
     let g = completing xs.seen x.chain in
@@ -248,7 +259,8 @@ held_transition f w (Transition.Mark t p m jobs) h =
     let u = steps f.kept (step_by m) p.unit w.units h.marking.unit h.marking.unit_there in
     let j = ap (λ l. sum_by (of_job f.kept) l) h.releases in
     let g = goes_on f.opened (marking p) w.function in
-    omega (arith, s, u, j, g)
+    let a = sum_by-append (of_job f.aside) w.woken w.aside in
+    omega (arith, s, u, j, g, a)
 held_transition f w (Transition.Ask t place rule b) h = let g = goes_on f.opened (asking b) w.function in omega (arith, g)
 held_transition f w (Transition.MarkRefused t) h = let g = goes_on f.opened failing w.function in omega (arith, g)
 held_transition f w (Transition.Check t p) h = let g = goes_on f.opened checking w.function in omega (arith, g)
@@ -261,7 +273,8 @@ held_transition f w (Transition.Hard p jobs) h =
     let s = gets f w.workers w.seats h.seat jobs h.seat_there in
     let u = steps f.kept (Step.Reset hard_code) p.unit w.units h.unit h.there in
     let j = ap (λ l. sum_by (of_job f.kept) l) h.releases in
-    omega (arith, s, u, j)
+    let a = sum_by-append (of_job f.aside) w.woken w.aside in
+    omega (arith, s, u, j, a)
 held_transition f w (Transition.Resize place blocks) h =
     let u = stays f.kept (Step.Resize blocks) place w.units h.unit h.there refl in
     omega (arith, u)
@@ -499,9 +512,11 @@ new_flows w o =
           ap (λ l. sum_by (of_job f.kept) l) (o.units i u at).parked) in
           let c = nothing_counts (in_seat f) w.seats (λ i s at. idle f s (o.seats i s at)) in
           let d = ap (λ l. sum_by (of_job f.off) l) (none_off w.handed_off o.handed_off) in
+          let x = ap (λ l. sum_by (of_job f.aside) l) o.aside in
+          let y = ap (λ l. sum_by (of_job f.aside) l) o.woken in
           let e = ap (of_function f.opened) o.function in
           let g = ap (λ l. sum_by (of_chain f.port) l) o.buffers in
-          omega (arith, a, b, c, d, e, g);
+          omega (arith, a, b, c, d, e, g, x, y);
       accepted = log;
       used = λ p. nothing_counts (log_used p) w.queues (λ i q at. ap (λ l. sum_by p l) (o.queues i q at).used);
       entered = λ p. nothing_counts (entered_count p) w.units (λ i u at. ap (enter_count p) (o.units i u at).steps);

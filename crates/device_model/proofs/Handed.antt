@@ -149,10 +149,10 @@ at_found P t (x ∷ es) e h k =
       | false ↦ λ q. at_found P t es e h.1 q
     ]) k
 
-abbrev IsParked : List Step → Entry → Type 0
+abbrev pub IsParked : List Step → Entry → Type 0
 IsParked past e = (task_of e.ticket (alive past) ≡ Some e) × (is_parked past e ≡ true)
 
-all_parked : (o : Opening) (past : List Step) (jobs : List PlainJob) → IsLawful o past
+pub all_parked : (o : Opening) (past : List Step) (jobs : List PlainJob) → IsLawful o past
     → tasks_of_jobs jobs ≡ filter (is_parked past) (alive past) → Jobs (λ j. IsParked past j.entry) jobs
 all_parked o past jobs l h =
     let P = (λ (e : Entry). task_of e.ticket (alive past) ≡ Some e) in
@@ -167,7 +167,7 @@ off_first true b h = cc
 off_first false b h = refl
 
 -- a task that is parked isn't done
-parked_undone : (o : Opening) (past : List Step) (e : Entry) → IsLawful o past → IsParked past e
+pub parked_undone : (o : Opening) (past : List Step) (e : Entry) → IsLawful o past → IsParked past e
     → done e.ticket past ≡ false
 parked_undone o past e l h =
     (elim (done e.ticket past) as (λ b. done e.ticket past ≡ b → b ≡ false) [

@@ -2,7 +2,7 @@
 use Rattle.std.proofs.Common.{◌≡◌, ℕ, ◌+◌, List, [], ◌∷◌, Some, refl, ap, arith, zero, suc}
 use Rattle.std.specs.Prelude.{slice_get}
 use Rattle.std.specs.List.{sum_by}
-use Rattle.std.proofs.lemmas.List.Sums.{sum_by-append, sum_by-cons}
+use Rattle.std.proofs.lemmas.List.Sums.{sum_by-append, sum_by-cons, sum_by_push}
 use Rattle.unit_model.specs.Endings.{Ending}
 use Rattle.unit_model.specs.Jobs.{PlainJob}
 use Rattle.device_model.specs.Parts.{Outcome, Hand}
@@ -13,7 +13,7 @@ use Rattle.device_model.specs.After.{after}
 use Rattle.device_model.specs.Happens.{Happens}
 use Rattle.device_model.specs.Laws.{in_hand, at_seat, jobs_out, brings, ends}
 use Rattle.device_model.proofs.Lists.{nothing, same}
-use Rattle.device_model.proofs.Off.{off_put, off_taken}
+use Rattle.device_model.proofs.Off.{off_put, off_taken, first_counts}
 
 pub sum_change : {X : Type 0} (f : X → ℕ) (g : X → X) (k : ℕ) (xs : List X) (x : X) → slice_get xs k ≡ Some x
     → sum_by f (change g k xs) + f x ≡ sum_by f xs + f (g x)
@@ -75,7 +75,8 @@ frees p k seats old out jobs at =
 pub kept : (p : PlainJob → ℕ) (d : Transition) (w : PlainWorld) → Happens d w → Kept p d w
 kept p (Transition.Run x) w h =
     let k = owner w.workers x.chain.ticket.queue in
-    gets p k w.seats (sum_by p (all_off w)) h.comes.seat (x ∷ []) h.comes.seat_there
+    let g = gets p k w.seats (sum_by p (all_off w)) h.comes.seat (x ∷ []) h.comes.seat_there in
+    omega (arith, g)
 kept p (Transition.Put k x) w h =
     let g = goes p k w.seats Hand.Empty x h.rest h.seat in
     let a = off_put p k w.handed_off h.off x h.there in
@@ -97,6 +98,15 @@ kept p (Transition.CommitAborted k x why) w h =
     let new = Hand.Done x (Outcome.Ended (Ending.Aborted why)) in
     let t = turns p k w.seats (Hand.Taken x) new h.holds.out h.holds.seat in
     omega (arith, t)
+kept p (Transition.Defer k x) w h =
+    let t = turns p k w.seats (Hand.Taken x) Hand.Empty h.holds.out h.holds.seat in
+    let a = sum_by_push p w.aside x in
+    omega (arith, t, a)
+kept p Transition.Wake w h = let a = sum_by-append p w.woken w.aside in omega (arith, a)
+kept p (Transition.Resume k x) w h =
+    let t = turns p k w.seats Hand.Empty (Hand.Taken x) h.free.0 h.free.1 in
+    let a = first_counts p w.woken x h.rest h.first in
+    omega (arith, t, a)
 kept p (Transition.Answer k x o xs) w h =
     let t = turns p k w.seats (Hand.Done x o) (Hand.Answered x.unit x.chain.ticket) h.out h.seat in
     omega (arith, t)
@@ -104,9 +114,13 @@ kept p (Transition.Leave k place t jobs) w h =
     let f = frees p k w.seats (Hand.Answered place t) h.holds.out jobs h.holds.seat in
     omega (arith, f)
 kept p (Transition.Mark t m how jobs) w h =
-    gets p 0 w.seats (sum_by p (all_off w)) h.seat jobs h.seat_there
+    let g = gets p 0 w.seats (sum_by p (all_off w)) h.seat jobs h.seat_there in
+    let a = sum_by-append p w.woken w.aside in
+    omega (arith, g, a)
 kept p (Transition.Hard m jobs) w h =
-    gets p w.workers w.seats (sum_by p (all_off w)) h.seat jobs h.seat_there
+    let g = gets p w.workers w.seats (sum_by p (all_off w)) h.seat jobs h.seat_there in
+    let a = sum_by-append p w.woken w.aside in
+    omega (arith, g, a)
 kept p (Transition.EnterStale x) w h = absurd h
 kept p (Transition.CommitUnknown k x) w h = absurd h
 kept p (Transition.Idle e) w h = absurd h

@@ -108,6 +108,15 @@ joins (Transition.CommitBusy k x) w s u q =
     record { holds = holds w k (Hand.Taken x) x.unit u.0 s u.1; may = u.2.0; wants = u.2.1 }
 joins (Transition.CommitAborted k x why) w s u q =
     record { holds = holds w k (Hand.Taken x) x.unit u.0 s u.1; alive = u.2.0; marked = u.2.1 }
+joins (Transition.Defer k x) w s u q =
+    record {
+      holds = holds w k (Hand.Taken x) x.unit u.0 s u.1;
+      entry = u.2.0.0;
+      ready = u.2.0.1;
+      backed = u.2.1;
+    }
+joins Transition.Wake w s u q = s
+joins (Transition.Resume k x) w s u q = s
 joins (Transition.Answer k x o xs) w s u q =
     record { out = s.0; seat = s.1; queue = q.0; there = q.1; writes = q.2.0; seen = q.2.1 }
 joins (Transition.Leave k place t jobs) w s u q =

@@ -29,12 +29,15 @@ pub mod Named
 pub mod Tasks
 pub mod Working
 pub mod Rooms
+pub mod Meeting
+pub mod Aside
 pub mod Turning
 pub mod Flowing
 pub mod Held
 pub mod Quiet
 pub mod Choosing
 pub mod Rests
+pub mod Waits
 pub mod Happening
 pub mod Lowers
 pub mod Bounds

@@ -19,7 +19,7 @@ use Rattle.device_model.specs.Weights.{fetches}
 use Rattle.device_model.specs.Measure.{price, visits, answered_hand, measure}
 use Rattle.device_model.specs.Settling.{visited}
 use Rattle.device_model.specs.Waking.{IsOwn}
-use Rattle.device_model.specs.Live.{with_memory, refill, IsRefilled, LiveRuns, Turn, live_world, occurrence_at, transition_at, IsNextLive, LiveSettlesOf, IsShortLive, TurnsAt}
+use Rattle.device_model.specs.Live.{with_memory, refill, IsRefilled, LiveRuns, Turn, live_world, occurrence_at, transition_at, IsNextLive, LiveSettlesOf, live_roused, IsShortLive, TurnsAt}
 use Rattle.device_model.proofs.Turning.{may, changes}
 use Rattle.device_model.proofs.Places.{moves}
 use Rattle.device_model.proofs.Choosing.{own_next_of}
@@ -82,6 +82,7 @@ accepted_live asked p w (t ∷ past) s =
 live_paid : (asked : ℕ → Bool) (w : PlainWorld) (more : List Turn) → LiveSettlesOf asked w more
     → measure (live_world w more) + length more
     ≤ measure w + sum_by (fetches price) (map transition_at more) + 2 * sum_by visited (map transition_at more)
+    + 2 * live_roused w more
 live_paid asked w [] s = omega (arith)
 live_paid asked w (t ∷ past) s =
     let v = with_memory t.found (live_world w past) in

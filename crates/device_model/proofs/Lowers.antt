@@ -1,5 +1,5 @@
 -- Each transition lowers what is owed, but for what it pays.
-use Rattle.std.proofs.Common.{Bool, true, false, ◌≡◌, ℕ, ◌+◌, ◌≤◌, drop, length, length-append, Option, Some, None, refl, ap, arith, inl, inr, zero, suc}
+use Rattle.std.proofs.Common.{Bool, true, false, ◌≡◌, ℕ, ◌+◌, ◌*◌, ◌≤◌, drop, length, length-append, Option, Some, None, refl, ap, arith, inl, inr, zero, suc}
 use Rattle.std.specs.Prelude.{◌⊎◌, slice_get}
 use Rattle.std.specs.List.{sum_by}
 use Rattle.std.proofs.lemmas.List.{length_push}
@@ -18,7 +18,7 @@ use Rattle.device_model.specs.Happens.{Happens}
 use Rattle.device_model.proofs.Deciding.{opened_there}
 use Rattle.device_model.proofs.Jobs.{sum_change}
 use Rattle.device_model.proofs.Flowing.{same_sum, held_transition}
-use Rattle.device_model.specs.Measure.{owed, price_at, visits, if_whole, whole, measure, pays}
+use Rattle.device_model.specs.Measure.{owed, price_at, visits, if_whole, whole, measure, pays, roused}
 
 request_price : (q : ℕ) → 2 ≤ q → price_at q ≡ 7
 request_price zero h = absurd (omega (arith, h))
@@ -52,7 +52,7 @@ changes_few true (Some u) = omega (arith)
 changes_few false (Some u) = omega (arith)
 
 abbrev pub Lowers : Transition → PlainWorld → Type 0
-Lowers d w = measure (after d w) + 1 ≤ measure w + pays d
+Lowers d w = measure (after d w) + 1 ≤ measure w + pays d + 2 * roused w d
 
 pub lowers : (d : Transition) (w : PlainWorld) → Happens d w → Lowers d w
 lowers (Transition.Poke x) w h = omega (arith)
@@ -117,6 +117,16 @@ lowers (Transition.Take k from x) w h = let a = held_transition owed w (Transiti
 lowers (Transition.Commit k x r) w h = let a = held_transition owed w (Transition.Commit k x r) h in omega (arith, a)
 lowers (Transition.CommitBusy k x) w h = let a = held_transition owed w (Transition.CommitBusy k x) h in omega (arith, a)
 lowers (Transition.CommitAborted k x why) w h = let a = held_transition owed w (Transition.CommitAborted k x why) h in omega (arith, a)
+lowers (Transition.Defer k x) w h = let a = held_transition owed w (Transition.Defer k x) h in omega (arith, a)
+lowers Transition.Wake w h =
+    let a = held_transition owed w Transition.Wake h in
+    let n = length-append w.woken w.aside in
+    omega (arith, a, n)
+lowers (Transition.Resume k x) w h =
+    let a = held_transition owed w (Transition.Resume k x) h in
+    let d = ap (λ l. length l) h.first in
+    let g = ap (λ l. length (drop 1 l)) h.first in
+    omega (arith, a, d, g)
 lowers (Transition.Answer k x o xs) w h =
     let a = held_transition owed w (Transition.Answer k x o xs) h in
     let b = still_whole (completing xs.seen x.chain) x.chain.ticket.queue w (λ q. refl) in
@@ -127,7 +137,8 @@ lowers (Transition.Mark t p m jobs) w h =
     let b = ap visits h.marking.there in
     let c = ap (λ o. visits (on_function (marking p) o)) h.marking.there in
     let n = length_push h.marking.opened.function.waits p in
-    omega (arith, a, b, c, n)
+    let k = length-append w.woken w.aside in
+    omega (arith, a, b, c, n, k)
 lowers (Transition.Ask t place rule found) w h =
     let a = held_transition owed w (Transition.Ask t place rule found) h in
     let f = h.marking.opened.function in
@@ -154,7 +165,8 @@ lowers (Transition.Hard p jobs) w h =
     let a = held_transition owed w (Transition.Hard p jobs) h in
     let n = length-append w.waiting (reports_of (slice_get w.units p.unit)) in
     let m = reports_few (slice_get w.units p.unit) in
-    omega (arith, a, n, m)
+    let k = length-append w.woken w.aside in
+    omega (arith, a, n, m, k)
 lowers (Transition.Resize place blocks) w h =
     let a = held_transition owed w (Transition.Resize place blocks) h in
     let n = length-append w.waiting (change_reports w.tells_changes (slice_get w.units place)) in

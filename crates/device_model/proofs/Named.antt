@@ -86,10 +86,12 @@ no_job s n =
 pub new_named : (w : PlainWorld) → Opens w → AreNamed w
 new_named w o =
     let a = nothing_counts (at_seat misnamed) w.seats (λ i s at. no_job s (o.seats i s at)) in
-    let b = ap (λ l. sum_by misnamed l) (none_off w.handed_off o.handed_off) in (
+    let b = ap (λ l. sum_by misnamed l) (none_off w.handed_off o.handed_off) in
+    let c = ap (λ l. sum_by misnamed l) o.aside in
+    let d = ap (λ l. sum_by misnamed l) o.woken in (
       λ i q at. subst SlotIsNamed (sym (o.queues i q at).slot) tt,
       λ i u at. subst (λ l. AllByRecursion (IsFor i) l) (sym (o.units i u at).parked) tt,
-      omega (arith, a, b),
+      omega (arith, a, b, c, d),
     )
 
 -- The queues
@@ -199,6 +201,9 @@ outs_after (Transition.CommitUnknown i x) w m h =
     let new = Hand.Done x (Outcome.Ended Ending.Lost) in
     let t = turns misnamed i w.seats (Hand.Taken x) new m.holds.out m.holds.seat in
     omega (arith, t, h.2)
+outs_after (Transition.Defer i x) w m h = let k = kept misnamed (Transition.Defer i x) w m in omega (arith, k, h.2)
+outs_after Transition.Wake w m h = let k = kept misnamed Transition.Wake w m in omega (arith, k, h.2)
+outs_after (Transition.Resume i x) w m h = let k = kept misnamed (Transition.Resume i x) w m in omega (arith, k, h.2)
 outs_after (Transition.Answer i x o xs) w m h =
     let k = kept misnamed (Transition.Answer i x o xs) w m in
     omega (arith, k, h.2)

@@ -5,7 +5,7 @@ use Rattle.std.specs.List.{AllByRecursion, sum_by}
 use Rattle.std.proofs.lemmas.List.Sums.{sum_by-append, sum_by-cons, sum_by_push}
 use Rattle.unit_model.specs.Jobs.{PlainJob}
 use Rattle.std.proofs.lemmas.Option.{slice_get_within}
-use Rattle.device_model.specs.World.{Everywhere, IsBefore, change, all_of}
+use Rattle.device_model.specs.World.{PlainWorld, Everywhere, IsBefore, change, all_of}
 use Rattle.device_model.specs.Changing.{with_job}
 use Rattle.device_model.proofs.Lists.{nothing, same}
 
@@ -101,6 +101,69 @@ pub none_off : (lists : List (List PlainJob)) → Everywhere (λ k jobs. jobs �
 none_off [] h = refl
 none_off (l ∷ ls) h =
     ap (λ z. z ++ all_of ls) (h 0 l refl) ∙ none_off ls (λ k jobs at. h (suc k) jobs at)
+
+-- Jobs that no seat has
+
+-- those of the hand-off, those that wait for pages, and those that are to be tried again
+abbrev pub between : PlainWorld → List PlainJob
+between w = all_of w.handed_off ++ (w.aside ++ w.woken)
+
+pub none_between : (w : PlainWorld) → Everywhere (λ k jobs. jobs ≡ []) w.handed_off → w.aside ≡ [] → w.woken ≡ []
+    → between w ≡ []
+none_between w a b c =
+    ap (λ l. l ++ (w.aside ++ w.woken)) (none_off w.handed_off a) ∙ ap (λ l. l ++ w.woken) b ∙ c
+
+pub between_sum : (p : PlainJob → ℕ) (off aside woken : List PlainJob)
+    → sum_by p (off ++ (aside ++ woken)) ≡ sum_by p off + sum_by p aside + sum_by p woken
+between_sum p off aside woken =
+    let a = sum_by-append p off (aside ++ woken) in
+    let b = sum_by-append p aside woken in
+    omega (arith, a, b)
+
+-- once those that wait were woken
+pub woken_sum : (p : PlainJob → ℕ) (off aside woken : List PlainJob)
+    → sum_by p (off ++ (woken ++ aside)) ≡ sum_by p (off ++ (aside ++ woken))
+woken_sum p off aside woken =
+    let a = between_sum p off aside woken in
+    let b = between_sum p off woken aside in
+    omega (arith, a, b)
+
+pub between_all : (P : PlainJob → Type 0) (off aside woken : List PlainJob) → AllByRecursion P off
+    → AllByRecursion P aside → AllByRecursion P woken → AllByRecursion P (off ++ (aside ++ woken))
+between_all P off aside woken a b c = joined P off (aside ++ woken) a (joined P aside woken b c)
+
+pub between_parts : (P : PlainJob → Type 0) (off aside woken : List PlainJob)
+    → AllByRecursion P (off ++ (aside ++ woken))
+    → AllByRecursion P off × AllByRecursion P aside × AllByRecursion P woken
+between_parts P off aside woken h =
+    let a = apart P off (aside ++ woken) h in
+    let b = apart P aside woken a.1 in
+    (a.0, b.0, b.1)
+
+pub each_woken : (P : PlainJob → Type 0) (off aside woken : List PlainJob) → AllByRecursion P (off ++ (aside ++ woken))
+    → AllByRecursion P (off ++ (woken ++ aside))
+each_woken P off aside woken h =
+    let b = between_parts P off aside woken h in
+    between_all P off woken aside b.0 b.2 b.1
+
+pub each_push : (P : PlainJob → Type 0) (xs : List PlainJob) (x : PlainJob) → AllByRecursion P xs → P x
+    → AllByRecursion P (xs ++ x ∷ [])
+each_push P xs x h p = joined P xs (x ∷ []) h (p, tt)
+
+-- the first of a list goes
+pub first_counts : (p : PlainJob → ℕ) (xs : List PlainJob) (x : PlainJob) (rest : List PlainJob) → xs ≡ x ∷ rest
+    → sum_by p (drop 1 xs) + p x ≡ sum_by p xs
+first_counts p xs x rest e =
+    let a = ap (λ z. sum_by p (drop 1 z)) e in
+    let b = ap (λ z. sum_by p z) e in
+    let c = sum_by-cons p x rest in
+    omega (arith, a, b, c)
+
+pub first_taken : (P : PlainJob → Type 0) (xs : List PlainJob) (x : PlainJob) (rest : List PlainJob) → xs ≡ x ∷ rest
+    → AllByRecursion P xs → P x × AllByRecursion P (drop 1 xs)
+first_taken P xs x rest e h =
+    let this : AllByRecursion P (x ∷ rest) = subst (AllByRecursion P) e h in
+    (this.0, subst (λ z. AllByRecursion P (drop 1 z)) (sym e) this.1)
 
 -- The first list on the way round that isn't empty
 

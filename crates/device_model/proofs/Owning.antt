@@ -9,7 +9,7 @@ use Rattle.ring_core.specs.State.{PlainChain, Owns}
 use Rattle.ring_core.specs.Writes.{all_written}
 use Rattle.ring_core.specs.declared.log.Ticket.{Ticket}
 use Rattle.device_model.specs.Parts.{PlainFetch, Outcome, Slot, Hand}
-use Rattle.device_model.specs.World.{PlainQueue, PlainWorld, Opens, change}
+use Rattle.device_model.specs.World.{PlainQueue, PlainWorld, Opens, change, all_off}
 use Rattle.device_model.specs.Transitions.{Transition}
 use Rattle.device_model.specs.Changing.{bit, arriving, taking, slotted, broken_by, completing, directing, spending}
 use Rattle.device_model.specs.After.{after}
@@ -25,7 +25,7 @@ use Rattle.device_model.proofs.Places.{moves, balanced}
 use Rattle.device_model.proofs.Once.{once}
 use Rattle.device_model.proofs.Outstanding.{free, owns_accepting, owns_using, owns_spending}
 use Rattle.device_model.proofs.Chains.{Stand, JobsOwn, BufferOwns, Brings, weightless, places, turn, no_weight}
-use Rattle.device_model.proofs.Off.{none_off}
+use Rattle.device_model.proofs.Off.{none_between, between_parts}
 
 -- One queue changes
 
@@ -190,7 +190,7 @@ then_owned d w m h c o z = o
 
 -- the chain that was used stands nowhere
 
-abbrev AtMostOnce : PlainWorld → Type 0
+abbrev pub AtMostOnce : PlainWorld → Type 0
 AtMostOnce w = (t : Ticket) → standing_count (only t) w ≤ 1
 
 -- a ticket counts itself
@@ -244,13 +244,13 @@ opens w o = (
   λ i u at. subst (JobsOwn w) (sym (o.units i u at).parked) tt,
   λ k s at.
       let n = o.seats k s at in (subst (HandOwns w) (sym n.hand) tt, subst (JobsOwn w) (sym n.out) tt),
-  subst (JobsOwn w) (sym (none_off w.handed_off o.handed_off)) tt,
+  subst (JobsOwn w) (sym (none_between w o.handed_off o.aside o.woken)) tt,
   subst (FunctionOwns w) (sym o.function) tt,
   subst (AllByRecursion (BufferOwns w)) (sym o.buffers) tt,
 )
 
 -- in all that is reached a ticket stands at most once
-at_most_once : (old : PlainWorld) (trace : List Occurrence) (w : PlainWorld) → Opens old → Runs old trace w
+pub at_most_once : (old : PlainWorld) (trace : List Occurrence) (w : PlainWorld) → Opens old → Runs old trace w
     → AtMostOnce w
 at_most_once old trace w o r t =
     let numbered = run_keeps AreNumbered transition_numbers old trace w (new_numbered old o) r in
@@ -270,4 +270,14 @@ pub owned : (old : PlainWorld) (trace : List Occurrence) (w : PlainWorld) → Op
     → AreOwned w
 owned old trace w o r =
     let h = all_owned old trace w o r in
-    record { slots = h.0; parked = h.1; seats = h.2; handed_off = h.3; function = h.4; buffers = h.5 }
+    let b = between_parts (IsJob w) (all_off w) w.aside w.woken h.3 in
+    record {
+      slots = h.0;
+      parked = h.1;
+      seats = h.2;
+      handed_off = b.0;
+      aside = b.1;
+      woken = b.2;
+      function = h.4;
+      buffers = h.5;
+    }

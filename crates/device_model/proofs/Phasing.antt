@@ -39,6 +39,8 @@ unit_part (Transition.CommitBusy k x) w h =
     let u = h.holds.unit in let at = h.holds.there in
     (u, at, (h.may, h.wants), get_change (stepped (Step.Busy x.entry.ticket)) x.unit w.units u at)
 unit_part (Transition.CommitAborted k x why) w h = (h.holds.unit, h.holds.there, (h.alive, h.marked), h.holds.there)
+unit_part (Transition.Defer k x) w h =
+    (h.holds.unit, h.holds.there, ((h.entry, h.ready), h.backed), h.holds.there)
 unit_part (Transition.Leave k place t jobs) w h =
     let u = h.holds.unit in let at = h.holds.there in
     (u, at, (h.may, h.enables), get_change (stepped (Step.Leave t)) place w.units u at)

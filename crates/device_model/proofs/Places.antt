@@ -227,6 +227,15 @@ moves p (Transition.CommitUnknown k x) w h =
     let new = Hand.Done x (Outcome.Ended Ending.Lost) in
     let t = turns (of_job p) k w.seats (Hand.Taken x) new h.holds.out h.holds.seat in
     record { accepted = omega (arith); used = omega (arith); standing = omega (arith, t) }
+moves p (Transition.Defer k x) w h =
+    let k = kept (of_job p) (Transition.Defer k x) w h in
+    record { accepted = omega (arith); used = omega (arith); standing = omega (arith, k) }
+moves p Transition.Wake w h =
+    let k = kept (of_job p) Transition.Wake w h in
+    record { accepted = omega (arith); used = omega (arith); standing = omega (arith, k) }
+moves p (Transition.Resume k x) w h =
+    let k = kept (of_job p) (Transition.Resume k x) w h in
+    record { accepted = omega (arith); used = omega (arith); standing = omega (arith, k) }
 moves p (Transition.Answer k x o xs) w h =
     let l = line p (completing xs.seen x.chain) x.chain.ticket.queue w.queues h.queue h.there in
     let u = sum_by_push p h.queue.ring.log.used x.chain.ticket in
@@ -317,7 +326,9 @@ starts p w o =
     let f = ap (λ l. sum_by (of_job p) l) (none_off w.handed_off o.handed_off) in
     let g = ap (of_function p) o.function in
     let h = ap (λ l. sum_by (of_chain p) l) o.buffers in
-    omega (arith, a, b, c, d, e, f, g, h)
+    let x = ap (λ l. sum_by (of_job p) l) o.aside in
+    let y = ap (λ l. sum_by (of_job p) l) o.woken in
+    omega (arith, a, b, c, d, e, f, g, h, x, y)
 
 pub balanced : (p : Ticket → ℕ) (old : PlainWorld) (trace : List Occurrence) (w : PlainWorld) → Opens old
     → Runs old trace w → Balanced p w

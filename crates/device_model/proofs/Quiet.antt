@@ -38,6 +38,7 @@ pub record QuietSeat (w : PlainWorld) (k : ℕ) : Type 0 where
   pub commit : Never w (Event.Commit k)
   pub put : Never w (Event.Put k)
   pub take : Never w (Event.Take k)
+  pub resume : Never w (Event.Resume k)
 
 pub record AllQuiet (asked : ℕ → Bool) (w : PlainWorld) : Type 0 where
   pub answer_tmf : Never w Event.AnswerTmf
@@ -49,7 +50,14 @@ pub record AllQuiet (asked : ℕ → Bool) (w : PlainWorld) : Type 0 where
 
 quiet_seat : (w : PlainWorld) (k : ℕ) → NoneApplies w (of_seat k) → QuietSeat w k
 quiet_seat w k h =
-    record { leave = h.0; answer = h.1.0; commit = h.1.1.0; put = h.1.1.1.0; take = h.1.1.1.1.0 }
+    record {
+      leave = h.0;
+      answer = h.1.0;
+      commit = h.1.1.0;
+      put = h.1.1.1.0;
+      take = h.1.1.1.1.0;
+      resume = h.1.1.1.1.1.0;
+    }
 
 never_asked : (b : Bool) (w : PlainWorld) (q : ℕ) → NoneApplies w (if b then Event.Fetch q ∷ [] else []) → b ≡ true
     → Never w (Event.Fetch q)

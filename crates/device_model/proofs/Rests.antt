@@ -1,7 +1,8 @@
 -- Where no event of the order applies, nothing is outstanding.
-use Rattle.std.proofs.Common.{◌≡◌, ℕ, ◌<◌, ◌≤◌, Bool, true, not, ◌&&◌, is_some, List, [], ◌∷◌, filter, length, Option, Some, None, refl, sym, ◌∙◌, ap, subst, arith, inl, inr, zero, suc}
+use Rattle.std.proofs.Common.{◌≡◌, ℕ, ◌<◌, ◌≤◌, Bool, true, false, not, ◌&&◌, ◌||◌, eqb, cond, List, [], ◌∷◌, filter, length, Option, Some, None, refl, sym, ◌∙◌, ap, subst, arith, inl, inr, zero, suc}
 use Rattle.std.specs.Prelude.{slice_get}
-use Rattle.std.specs.List.{sum_by, list_all, AllByRecursion}
+use Rattle.std.specs.List.{sum_by, AllByRecursion}
+use Rattle.std.proofs.lemmas.Bool.{eqb-true}
 use Rattle.std.proofs.lemmas.Option.{slice_get_within, slice_get_cases}
 use Rattle.std.proofs.lemmas.List.Sums.{sum_by-cons}
 use Rattle.scsi_codec.specs.declared.event_queue.Event.{Event as EventRecord}
@@ -12,10 +13,14 @@ use Rattle.ring_core.specs.Offer.{Offer, Nothing, Found, Refused, Offers}
 use Rattle.ring_core.proofs.Exact.{offers_once}
 use Rattle.ring_core.proofs.Exists.{offers_some}
 use Rattle.ring_core.specs.declared.log.Ticket.{Ticket}
-use Rattle.unit_model.specs.Tasks.{Entry, any_task, task_of}
-use Rattle.unit_model.specs.Steps.{Step, alive, is_alive}
-use Rattle.unit_model.specs.Clearing.{met_at, is_clear}
-use Rattle.unit_model.specs.Enabling.{is_parked}
+use Rattle.unit_model.specs.Tasks.{Entry, same_ticket, any_task, task_of}
+use Rattle.unit_model.specs.Steps.{Step, alive, done}
+use Rattle.unit_model.specs.Clearing.{is_clear}
+use Rattle.unit_model.specs.Marks.{marked}
+use Rattle.unit_model.specs.Contents.{Opening}
+use Rattle.unit_model.specs.Lawful.{IsLawful}
+use Rattle.unit_model.proofs.Tickets.{same-true, apart, clash}
+use Rattle.unit_model.specs.Enabling.{enabled, is_parked}
 use Rattle.unit_model.specs.Weights.{weight, alive_count, each_one}
 use Rattle.unit_model.proofs.Weight.{weight_filter}
 use Rattle.unit_model.proofs.Fewer.{parked_fewer}
@@ -29,17 +34,22 @@ use Rattle.device_model.specs.Happens.{Occurrence, Reached}
 use Rattle.device_model.specs.Event.Fetch.{IsOpenTo}
 use Rattle.device_model.specs.Laws.{in_hand, at_seat}
 use Rattle.device_model.specs.Places.{of_chain, of_job, of_function, of_slot, at_queue, at_unit, accepted_count, used_count, only}
-use Rattle.device_model.specs.Standing.{IsOwned, FunctionIsThere}
+use Rattle.device_model.specs.Changing.{bit}
+use Rattle.device_model.specs.Standing.{IsOwned, IsAside, FunctionIsThere}
 use Rattle.device_model.proofs.Places.{nothing_counts, balanced}
 use Rattle.device_model.proofs.Staying.{run_stays, run_keeps, units_listed}
 use Rattle.device_model.proofs.Owning.{owned}
 use Rattle.device_model.proofs.Tasks.{own, hand_count, seat_count, of_place, out_count}
-use Rattle.device_model.proofs.Working.{run_works}
+use Rattle.device_model.proofs.Working.{run_works, one, no_bit}
 use Rattle.device_model.proofs.Functions.{FindsUnits, new_finds, transition_finds}
-use Rattle.device_model.specs.Order.{IsNext, IsQuiet, IsAtRest, IsQuietOf, IsAtRestOf}
+use Rattle.device_model.specs.Order.{IsNext, IsQuiet, IsAtRest, IsQuietOf, IsAtRestOf, AreBehindAside, waiting_count}
 use Rattle.device_model.proofs.Choosing.{next_or_quiet}
 use Rattle.device_model.proofs.Quiet.{Never, QuietQueue, QuietSeat, quiet_of_all, all_quiet}
-use Rattle.device_model.proofs.Off.{none_off}
+use Rattle.device_model.proofs.Off.{none_off, between, between_sum}
+use Rattle.device_model.proofs.Lists.{same}
+use Rattle.device_model.proofs.Handed.{IsParked, all_parked, parked_undone}
+use Rattle.device_model.proofs.Meeting.{ended, clear_there}
+use Rattle.device_model.proofs.Aside.{run_aside}
 
 -- the first of both holds of all
 all_first : (P : PlainChain → Type 0) (cs : List PlainChain)
@@ -87,6 +97,14 @@ none_handed_off w s k (x ∷ rest) works at e never off =
     let bare = subst (λ l. slice_get w.seats 0 ≡ Some (record { hand = Hand.Empty; out = l })) e.out free in
     absurd (never (record { worker = works; seat = bare; from = k; job = x; rest = rest; handed_off = off }))
 
+-- with a seat that has nothing, no job is to be tried again
+none_woken : (w : PlainWorld) (s : Seat) (k : ℕ) (jobs : List PlainJob) → slice_get w.seats k ≡ Some s → EmptySeat s
+    → Never w (Event.Resume k) → w.woken ≡ jobs → jobs ≡ []
+none_woken w s k [] at e never is = refl
+none_woken w s k (x ∷ rest) at e never is =
+    let free = subst (λ h. slice_get w.seats k ≡ Some (record { hand = h; out = s.out })) e.hand at in
+    absurd (never (record { free = (s.out, free); job = x; rest = rest; first = is }))
+
 -- Units
 
 -- the weight of the tasks of jobs
@@ -119,17 +137,88 @@ no_jobs_left (j ∷ jobs) h = absurd (cc)
 none_parked : (u : PlainUnit) → IsUnit u → alive u.steps ≡ [] → u.parked ≡ []
 none_parked u is e = no_jobs_left u.parked (is.holds ∙ ap (filter (is_parked u.steps)) e)
 
--- with no task alive each place is clear
-all_gone : (h : List Step) (es : List Entry) → alive h ≡ []
-    → list_all (λ (e : Entry). not (is_alive e.ticket h)) es ≡ true
-all_gone h [] n = refl
-all_gone h (e ∷ es) n =
-    let rest = list_all (λ (f : Entry). not (is_alive f.ticket h)) es in
-    ap (λ (l : List Entry). not (is_some (task_of e.ticket l)) && rest) n
-    ∙ all_gone h es n
+-- A task that is done or was marked isn't parked, and doesn't wait for pages
 
+-- no task of the ticket
+none_found : (t : Ticket) (es : List Entry) → weight (one t) es ≡ 0 → task_of t es ≡ None
+none_found t [] z = refl
+none_found t (e ∷ es) z =
+    let off = no_bit (same_ticket t e.ticket) (omega (arith, z)) in
+    ap (λ b. cond b (Some e) (task_of t es)) (apart t e.ticket off) ∙ none_found t es (omega (arith, z))
+
+-- two tickets of which one is that of a task that ended
+other_ticket : (t u : Ticket) (h : List Step) → ended t h ≡ true → ended u h ≡ false → one t u ≡ 0
+other_ticket t u h on off =
+    (elim (same_ticket t u) as (λ b. same_ticket t u ≡ b → bit b ≡ 0) [
+      | true ↦ λ k. absurd (clash (sym on ∙ ap (λ z. ended z h) (same-true t u k) ∙ off))
+      | false ↦ λ k. refl
+    ]) refl
+
+none_of_parked : (t : Ticket) (h : List Step) (jobs : List PlainJob) → ended t h ≡ true
+    → AllByRecursion (λ (j : PlainJob). ended j.entry.ticket h ≡ false) jobs → sum_by (own (one t)) jobs ≡ 0
+none_of_parked t h [] on off = refl
+none_of_parked t h (j ∷ jobs) on off =
+    let a = other_ticket t j.entry.ticket h on off.0 in
+    let b = none_of_parked t h jobs on off.1 in
+    let c = sum_by-cons (own (one t)) j jobs in
+    omega (arith, a, b, c)
+
+neither : (a b : Bool) → (not a && not b) ≡ true → b ≡ false
+neither true b h = absurd (cc)
+neither false true h = absurd (cc)
+neither false false h = refl
+
+or_off : (a b : Bool) → a ≡ false → b ≡ false → (a || b) ≡ false
+or_off a b e f = ap (λ c. c || b) e ∙ f
+
+-- a parked task goes on
+parked_goes_on : (o : Opening) (h : List Step) (jobs : List PlainJob) → IsLawful o h
+    → AllByRecursion (λ (j : PlainJob). IsParked h j.entry) jobs
+    → AllByRecursion (λ (j : PlainJob). ended j.entry.ticket h ≡ false) jobs
+parked_goes_on o h [] l p = tt
+parked_goes_on o h (j ∷ jobs) l p = (
+  or_off (done j.entry.ticket h) (marked j.entry.ticket h) (parked_undone o h j.entry l p.0)
+      (neither (enabled j.entry h) (marked j.entry.ticket h) p.0.1),
+  parked_goes_on o h jobs l p.1,
+)
+
+-- so does one that waits for pages
+aside_count : (w : PlainWorld) (n : ℕ) (u : PlainUnit) (t : Ticket) (xs : List PlainJob) → slice_get w.units n ≡ Some u
+    → ended t u.steps ≡ true → AllByRecursion (IsAside w) xs → sum_by (of_place n (one t)) xs ≡ 0
+aside_count w n u t [] at on h = refl
+aside_count w n u t (x ∷ xs) at on h =
+    let here : of_place n (one t) x ≡ 0 =
+    (elim (eqb x.unit n) as (λ b. eqb x.unit n ≡ b → cond b (one t x.entry.ticket) 0 ≡ 0) [
+      | true ↦ λ k.
+          let is : h.0.unit ≡ u = same (sym h.0.there ∙ ap (λ i. slice_get w.units i) (eqb-true x.unit n k) ∙ at) in
+          let r = h.0.ready in
+          let v = h.0.unit.steps in
+          let off = or_off (done x.entry.ticket v) (marked x.entry.ticket v) r.is_undone r.is_unmarked in
+          other_ticket t x.entry.ticket u.steps on
+          (ap (λ (z : PlainUnit). ended x.entry.ticket z.steps) (sym is) ∙ off)
+      | false ↦ λ k. refl
+    ]) refl in
+    let rest = aside_count w n u t xs at on h.1 in
+    let c = sum_by-cons (of_place n (one t)) x xs in
+    omega (arith, here, rest, c)
+
+-- no job for a place
+none_for : (n : ℕ) (xs : List PlainJob) → AllByRecursion (λ (x : PlainJob). x.unit ≡ n → ⊥) xs
+    → sum_by (of_place n each_one) xs ≡ 0
+none_for n [] h = refl
+none_for n (x ∷ xs) h =
+    let here : of_place n each_one x ≡ 0 =
+    (elim (eqb x.unit n) as (λ b. eqb x.unit n ≡ b → cond b (each_one x.entry.ticket) 0 ≡ 0) [
+      | true ↦ λ k. absurd (h.0 (eqb-true x.unit n k))
+      | false ↦ λ k. refl
+    ]) refl in
+    let rest = none_for n xs h.1 in
+    let c = sum_by-cons (of_place n each_one) x xs in
+    omega (arith, here, rest, c)
+
+-- each place of a mark is clear
 abbrev AreIdle : PlainWorld → Type 0
-AreIdle w = Everywhere (λ i u. alive u.steps ≡ []) w.units
+AreIdle w = Everywhere (λ i u. (place : ℕ) → is_clear place u.steps ≡ true) w.units
 
 -- The function
 
@@ -138,7 +227,7 @@ its_place : (w : PlainWorld) (m : Place) → AreIdle w → m.unit < length w.uni
     → (u : PlainUnit) × (slice_get w.units m.unit ≡ Some u) × (is_clear m.place u.steps ≡ true)
 its_place w m idle lt =
     elim (slice_get_cases w.units m.unit).1 [
-      | inl q ↦ (q.0, q.2, all_gone q.0.steps (met_at m.place q.0.steps) (idle m.unit q.0 q.2))
+      | inl q ↦ (q.0, q.2, idle m.unit q.0 q.2 m.place)
       | inr q ↦ absurd (let le = q.0 in omega (arith, le, lt))
     ]
 
@@ -216,10 +305,10 @@ no_report : (w : PlainWorld) (l : List EventRecord) → w.waiting ≡ l → Neve
 no_report w [] e never = refl
 no_report w (report ∷ later) e never = absurd (never (report, later, e))
 
-bare_seat : (n : ℕ) (s : Seat) → EmptySeat s → seat_count n each_one s ≡ 0
-bare_seat n s e =
-    let a = ap (hand_count n each_one) e.hand in
-    let b = ap (λ l. sum_by (of_place n each_one) l) e.out in
+bare_seat : (n : ℕ) (p : Ticket → ℕ) (s : Seat) → EmptySeat s → seat_count n p s ≡ 0
+bare_seat n p s e =
+    let a = ap (hand_count n p) e.hand in
+    let b = ap (λ l. sum_by (of_place n p) l) e.out in
     omega (arith, a, b)
 
 bare : (p : Ticket → ℕ) (s : Seat) → EmptySeat s → at_seat (of_job p) s ≡ 0
@@ -253,14 +342,27 @@ quiet_rests_of asked old trace w r h =
           none_handed_off w q.0 k jobs works q.2 (seats 0 q.0 q.2) (quiet.seats 0 first).take at)
       | inr q ↦ absurd (let le = q.0 in omega (arith, le, first))
     ] in
-    let under_way : (n : ℕ) → out_count n each_one w.seats (all_off w) ≡ 0 = λ n.
-    let a = nothing_counts (seat_count n each_one) w.seats (λ k s at. bare_seat n s (seats k s at)) in
-    let b = ap (λ l. sum_by (of_place n each_one) l) off in
-    omega (arith, a, b) in
-    let idle : AreIdle w = λ i u at.
-    let a = working.2 i each_one u at in
-    let b = under_way i in
-    none_alive u (working.0 i u at) (omega (arith, a, b)) in
+    let woken : w.woken ≡ [] =
+    elim (slice_get_cases w.seats 0).1 [
+      | inl q ↦ none_woken w q.0 0 w.woken q.2 (seats 0 q.0 q.2) (quiet.seats 0 first).resume refl
+      | inr q ↦ absurd (let le = q.0 in omega (arith, le, first))
+    ] in
+    let aside = run_aside old trace w r.opens r.runs in
+    let under_way : (n : ℕ) (p : Ticket → ℕ) → out_count n p w.seats (between w) ≡ sum_by (of_place n p) w.aside = λ n p.
+    let a = nothing_counts (seat_count n p) w.seats (λ k s at. bare_seat n p s (seats k s at)) in
+    let b = between_sum (of_place n p) (all_off w) w.aside w.woken in
+    let c = ap (λ l. sum_by (of_place n p) l) off in
+    let d = ap (λ l. sum_by (of_place n p) l) woken in
+    omega (arith, a, b, c, d) in
+    let idle : AreIdle w = λ i u at place.
+    let is = working.0 i u at in
+    clear_there u.opening place u.steps is.lawful (λ t on.
+    let a = working.2 i (one t) u at in
+    let b = under_way i (one t) in
+    let c = aside_count w i u t w.aside at on aside in
+    let parked = all_parked u.opening u.steps u.parked is.lawful is.holds in
+    let d = none_of_parked t u.steps u.parked on (parked_goes_on u.opening u.steps u.parked is.lawful parked) in
+    none_found t (alive u.steps) (omega (arith, a, b, c, d))) in
     let slots : (i : ℕ) (q : PlainQueue) → slice_get w.queues i ≡ Some q → q.slot ≡ Slot.Empty = λ i q at.
     empty_slot asked w i q q.slot at refl (quiet.queues i (slice_get_within w.queues i q at)) in
     let there = units_there old trace w r in
@@ -268,13 +370,19 @@ quiet_rests_of asked old trace w r h =
     record {
       chains = λ p.
           let a = nothing_counts (at_queue p) w.queues (λ i q at. ap (of_slot p) (slots i q at)) in
-          let b = nothing_counts (at_unit p) w.units (λ i u at.
-          ap (λ l. sum_by (of_job p) l) (none_parked u (working.0 i u at) (idle i u at))) in
-          let c = nothing_counts (at_seat (of_job p)) w.seats (λ k s at. bare p s (seats k s at)) in
+          let b = nothing_counts (at_seat (of_job p)) w.seats (λ k s at. bare p s (seats k s at)) in
+          let c = ap (λ l. sum_by (of_job p) l) woken in
           let d = ap (λ l. sum_by (of_job p) l) off in
           let e = ap (of_function p) closed in
           let f = balanced p old trace w r.opens r.runs in
           omega (arith, a, b, c, d, e, f);
+      parked = λ i u at none.
+          let a = working.2 i each_one u at in
+          let b = under_way i each_one in
+          let c = none_for i w.aside none in
+          let is = working.0 i u at in
+          none_parked u is (none_alive u is (omega (arith, a, b, c)));
+      woken = woken;
       buffers = all_first (IsOwned w) w.buffers own.buffers;
       closed = closed;
       waiting = no_report w w.waiting refl quiet.raise;
@@ -289,6 +397,8 @@ quiet_rests old trace w r h =
     let rest = quiet_rests_of (λ q. true) old trace w r (quiet_of_all w h) in
     record {
       chains = rest.chains;
+      parked = rest.parked;
+      woken = rest.woken;
       buffers = rest.buffers;
       closed = rest.closed;
       waiting = rest.waiting;
@@ -298,11 +408,36 @@ quiet_rests old trace w r h =
 -- where a chain is outstanding that is no event buffer, an event is next
 pub next_there : (old : PlainWorld) (trace : List Occurrence) (w : PlainWorld) (t : Ticket) → Reached old trace w
     → used_count (only t) w < accepted_count (only t) w → sum_by (of_chain (only t)) w.buffers ≡ 0
-    → (e : Event) × IsNext w e
-next_there old trace w t r out no_buffer =
+    → waiting_count (only t) w ≡ 0 → (e : Event) × IsNext w e
+next_there old trace w t r out no_buffer none_waits =
     elim (next_or_quiet w) [
       | inl next ↦ next
       | inr quiet ↦
           let c = (quiet_rests old trace w r quiet).chains (only t) in
-          absurd (omega (arith, out, no_buffer, c))
+          absurd (omega (arith, out, no_buffer, none_waits, c))
+    ]
+
+-- where no job waits for pages, no chain is left over
+all_at : (i : ℕ) (xs : List PlainJob) → xs ≡ [] → AllByRecursion (λ (x : PlainJob). x.unit ≡ i → ⊥) xs
+all_at i [] e = tt
+all_at i (x ∷ xs) e = absurd (cc)
+
+pub none_waiting : (p : Ticket → ℕ) (w : PlainWorld) → AreBehindAside w → w.aside ≡ [] → waiting_count p w ≡ 0
+none_waiting p w behind e =
+    let a = ap (λ l. sum_by (of_job p) l) e in
+    let b = nothing_counts (at_unit p) w.units (λ i u at.
+    ap (λ l. sum_by (of_job p) l) (behind i u at (all_at i w.aside e))) in
+    omega (arith, a, b)
+
+pub next_there_bare : (old : PlainWorld) (trace : List Occurrence) (w : PlainWorld) (t : Ticket) → Reached old trace w
+    → used_count (only t) w < accepted_count (only t) w → sum_by (of_chain (only t)) w.buffers ≡ 0
+    → w.aside ≡ [] → (e : Event) × IsNext w e
+next_there_bare old trace w t r out no_buffer none =
+    elim (next_or_quiet w) [
+      | inl next ↦ next
+      | inr quiet ↦
+          let rest = quiet_rests old trace w r quiet in
+          let c = rest.chains (only t) in
+          let z = none_waiting (only t) w rest.parked none in
+          absurd (omega (arith, out, no_buffer, z, c))
     ]

@@ -1,9 +1,9 @@
 -- The lists of jobs have room.
-use Rattle.std.proofs.Common.{◌≡◌, ℕ, ◌+◌, ◌*◌, ◌<◌, ◌≤◌, true, false, eqb, cond, List, [], ◌∷◌, length, Some, refl, sym, ◌∙◌, ap, arith, zero, suc, length-append, length-drop, drop}
+use Rattle.std.proofs.Common.{◌≡◌, ℕ, ◌+◌, ◌*◌, ◌<◌, ◌≤◌, true, false, eqb, cond, List, [], ◌∷◌, ◌++◌, length, Some, refl, sym, ◌∙◌, ap, arith, zero, suc, length-append, length-drop, drop}
 use Rattle.std.specs.Prelude.{slice_get}
 use Rattle.std.specs.List.{AllByRecursion, sum_by}
 use Rattle.std.proofs.lemmas.Bool.{eq-eqb}
-use Rattle.std.proofs.lemmas.List.Sums.{sum_by-cons}
+use Rattle.std.proofs.lemmas.List.Sums.{sum_by-cons, sum_by-append}
 use Rattle.std.proofs.lemmas.Option.{slice_get_within}
 use Rattle.unit_model.specs.Steps.{alive}
 use Rattle.unit_model.specs.Weights.{each_one}
@@ -12,7 +12,7 @@ use Rattle.unit_model.proofs.Weight.{weight_ones}
 use Rattle.unit_model.proofs.Few.{alive_few}
 use Rattle.unit_model.specs.Jobs.{PlainJob}
 use Rattle.unit_model.specs.Unit.{PlainUnit}
-use Rattle.device_model.specs.World.{Seat, PlainWorld, Opens, Everywhere}
+use Rattle.device_model.specs.World.{Seat, PlainWorld, Opens, Everywhere, all_off}
 use Rattle.device_model.specs.Transitions.{Transition}
 use Rattle.device_model.specs.After.{after}
 use Rattle.device_model.specs.Changing.{with_job}
@@ -22,6 +22,8 @@ use Rattle.device_model.proofs.Sums.{counts_one}
 use Rattle.device_model.proofs.Tasks.{of_place, seat_count}
 use Rattle.device_model.proofs.Working.{ToCommit, Works}
 use Rattle.device_model.proofs.Lists.{same}
+use Rattle.device_model.proofs.Named.{all_push}
+use Rattle.device_model.proofs.Off.{between_parts}
 
 -- Places
 
@@ -104,6 +106,26 @@ seats_room w h k s at =
     let a = all_under w.units s.out (h.3.0 k s at).1 in
     let b = few_under 64 (length w.units) s.out (few_of w k s h at) in
     omega (arith, a, b)
+
+-- nor do more wait for pages, or are to be tried again
+few_wait : (w : PlainWorld) → Works w → (n : ℕ) → n < length w.units
+    → sum_by (of_place n each_one) (w.aside ++ w.woken) ≤ 64
+few_wait w h n l =
+    let u = below_found w.units n l in
+    let is = h.0 n u.0 u.1 in
+    let b = h.2 n each_one u.0 u.1 in
+    let o = weight_ones (alive u.0.steps) in
+    let f = alive_few u.0.opening u.0.steps is.lawful in
+    let c = sum_by-append (of_place n each_one) (all_off w) (w.aside ++ w.woken) in
+    omega (arith, b, o, f, c)
+
+pub waiting_room : (w : PlainWorld) → Works w → length w.aside + length w.woken ≤ 64 * length w.units
+waiting_room w h =
+    let p = between_parts (ToCommit w.units) (all_off w) w.aside w.woken h.3.1 in
+    let a = all_under w.units (w.aside ++ w.woken) (all_push (ToCommit w.units) w.aside w.woken p.1 p.2) in
+    let b = few_under 64 (length w.units) (w.aside ++ w.woken) (few_wait w h) in
+    let c = length-append w.aside w.woken in
+    omega (arith, a, b, c)
 
 -- The hand-off
 

@@ -1,5 +1,5 @@
 -- What stands in a slot, in a hand or in a list is what some transition told.
-use Rattle.std.proofs.Common.{◌≡◌, ℕ, cond, not, List, [], ◌∷◌, drop, Some, None, refl, sym, ◌∙◌, ap, subst, inl, inr, eq-eqb}
+use Rattle.std.proofs.Common.{◌≡◌, ℕ, cond, not, List, [], ◌∷◌, ◌++◌, drop, Some, None, refl, sym, ◌∙◌, ap, subst, inl, inr, eq-eqb}
 use Rattle.std.specs.Prelude.{slice_get, ⊤}
 use Rattle.std.specs.List.{AllByRecursion}
 use Rattle.ring_core.specs.State.{PlainChain}
@@ -13,10 +13,10 @@ use Rattle.unit_model.specs.Jobs.{PlainJob, is_job_of}
 use Rattle.unit_model.specs.Unit.{PlainUnit, after as stepped, parking}
 use Rattle.task_mgmt.specs.Functions.{step_by}
 use Rattle.device_model.specs.Parts.{PlainFetch, Outcome, Slot, Hand, request_of}
-use Rattle.device_model.specs.World.{PlainQueue, Seat, PlainWorld, Opens, change, owner, Everywhere, all_off}
+use Rattle.device_model.specs.World.{PlainQueue, Seat, PlainWorld, Opens, change, owner, Everywhere, all_of, all_off}
 use Rattle.device_model.specs.Transitions.{Transition}
 use Rattle.device_model.specs.Event.Hard.{hard_code}
-use Rattle.device_model.specs.Changing.{arriving, taking, slotted, broken_by, completing, directing, spending, with_hand, without_first, with_jobs, leaving}
+use Rattle.device_model.specs.Changing.{arriving, taking, slotted, broken_by, completing, directing, spending, with_hand, without_first, with_jobs, with_job, leaving}
 use Rattle.device_model.specs.After.{after}
 use Rattle.device_model.specs.Happens.{May}
 use Rattle.device_model.specs.Event.Fetch.{DecidesRequest, IsDirect}
@@ -28,7 +28,7 @@ use Rattle.device_model.specs.Happened.{Happened, IsFetch, IsShed, IsLoss}
 use Rattle.device_model.specs.Inner.Happened.{IsEnter, IsFull, IsCommit, IsBusy, IsAbort}
 use Rattle.device_model.specs.Histories.{at_place, pushed, history_of, IsToldOf}
 use Rattle.device_model.specs.Entering.{IsJobOf, IsSent}
-use Rattle.device_model.proofs.Off.{each_put, each_taken, none_off}
+use Rattle.device_model.proofs.Off.{each_put, each_taken, none_between, between, between_all, between_parts, each_woken, each_push, first_taken}
 
 abbrev Each : {X : Type 0} → (X → Type 0) → List X → Type 0
 Each P xs = AllByRecursion P xs
@@ -96,7 +96,7 @@ Units old ds us = Everywhere (UnitSays old ds) us
 pub record Says (old : PlainWorld) (ds : List Transition) (w : PlainWorld) : Type 0 where
   pub slots : Slots old.inventory ds w.queues
   pub seats : Seats ds w.seats
-  pub handed_off : Each (JobSays ds) (all_off w)
+  pub handed_off : Each (JobSays ds) (between w)
   pub units : Units old ds w.units
 
 -- What was said before is still said
@@ -252,14 +252,14 @@ sent_there units ds w x q i at e h = subst (SlotSays units ds) e (h i q at)
 
 -- the slots alone
 queues_alone : (old : PlainWorld) (d : Transition) (ds : List Transition) (w v : PlainWorld) → v.seats ≡ w.seats
-    → all_off v ≡ all_off w → v.units ≡ w.units
+    → between v ≡ between w → v.units ≡ w.units
     → ((place : ℕ) → history_of place (d ∷ ds) ≡ history_of place ds) → Slots old.inventory (d ∷ ds) v.queues
     → Says old ds w → Says old (d ∷ ds) v
 queues_alone old d ds w v a b c e q h =
     record {
       slots = q;
       seats = subst (λ z. Seats (d ∷ ds) z) (sym a) (old_seats d ds w.seats h.seats);
-      handed_off = subst (λ z. Each (JobSays (d ∷ ds)) z) (sym b) (older_jobs (all_off w) d ds h.handed_off);
+      handed_off = subst (λ z. Each (JobSays (d ∷ ds)) z) (sym b) (older_jobs (between w) d ds h.handed_off);
       units = subst (λ z. Units old (d ∷ ds) z) (sym c) (old_units old d ds w.units e h.units);
     }
 
@@ -309,7 +309,7 @@ says_transition old (Transition.Run x) ds w e n m h =
     record {
       slots = new_slots old.inventory d ds (slotted Slot.Empty) q w.queues Slot.Empty (λ z. refl) tt h.slots;
       seats = added d ds (x ∷ []) (owner w.workers q) w.seats (inl refl, tt) h.seats;
-      handed_off = older_jobs (all_off w) d ds h.handed_off;
+      handed_off = older_jobs (between w) d ds h.handed_off;
       units = steps old d ds (Step.Enter x.entry) x.unit w.units (λ i. refl) h.units;
     }
 says_transition old (Transition.Park x) ds w e n m h =
@@ -318,7 +318,7 @@ says_transition old (Transition.Park x) ds w e n m h =
     record {
       slots = new_slots old.inventory d ds (slotted Slot.Empty) q w.queues Slot.Empty (λ z. refl) tt h.slots;
       seats = old_seats d ds w.seats h.seats;
-      handed_off = older_jobs (all_off w) d ds h.handed_off;
+      handed_off = older_jobs (between w) d ds h.handed_off;
       units = steps_on old d ds (parking x) (Step.Enter x.entry) x.unit w.units (λ u. refl) (λ u. refl)
           (λ u p. all_push (JobSays (d ∷ ds)) u.parked (x ∷ []) p (inl refl, tt)) (λ i. refl) h.units;
     }
@@ -332,7 +332,7 @@ says_transition old (Transition.EnterFull x) ds w e n m h =
     record {
       slots = new_slots i d ds (slotted s) q w.queues s (λ z. refl) (x, refl, sent, inl refl) h.slots;
       seats = old_seats d ds w.seats h.seats;
-      handed_off = older_jobs (all_off w) d ds h.handed_off;
+      handed_off = older_jobs (between w) d ds h.handed_off;
       units = steps old d ds (Step.Full x.entry.ticket) x.unit w.units (λ k. refl) h.units;
     }
 says_transition old (Transition.EnterBusy x) ds w e n m h =
@@ -352,10 +352,13 @@ says_transition old (Transition.Direct c o xs) ds w e n m h =
 says_transition old (Transition.Put k x) ds w e n m h =
     let d = Transition.Put k x in
     let at = h.seats k (record { hand = Hand.Empty; out = x ∷ m.rest }) m.seat in
+    let P = JobSays (d ∷ ds) in
+    let a = between_parts P (all_off w) w.aside w.woken (older_jobs (between w) d ds h.handed_off) in
     record {
       slots = old_slots old.inventory d ds w.queues h.slots;
       seats = dropped d ds Hand.Empty k w.seats tt h.seats;
-      handed_off = each_put (JobSays (d ∷ ds)) k w.handed_off x (inr at.1.0) (older_jobs (all_off w) d ds h.handed_off);
+      handed_off = between_all P (all_of (change (with_job x) k w.handed_off)) w.aside w.woken
+          (each_put P k w.handed_off x (inr at.1.0) a.0) a.1 a.2;
       units = old_units old d ds w.units (λ i. refl) h.units;
     }
 says_transition old (Transition.Keep k x) ds w e n m h =
@@ -364,16 +367,18 @@ says_transition old (Transition.Keep k x) ds w e n m h =
     record {
       slots = old_slots old.inventory d ds w.queues h.slots;
       seats = dropped d ds (Hand.Taken x) k w.seats (inr at.1.0) h.seats;
-      handed_off = older_jobs (all_off w) d ds h.handed_off;
+      handed_off = older_jobs (between w) d ds h.handed_off;
       units = old_units old d ds w.units (λ i. refl) h.units;
     }
 says_transition old (Transition.Take k from x) ds w e n m h =
     let d = Transition.Take k from x in
-    let at = each_taken (JobSays (d ∷ ds)) from w.handed_off x m.rest m.handed_off (older_jobs (all_off w) d ds h.handed_off) in
+    let P = JobSays (d ∷ ds) in
+    let a = between_parts P (all_off w) w.aside w.woken (older_jobs (between w) d ds h.handed_off) in
+    let at = each_taken P from w.handed_off x m.rest m.handed_off a.0 in
     record {
       slots = old_slots old.inventory d ds w.queues h.slots;
       seats = handed d ds (Hand.Taken x) k w.seats at.0 h.seats;
-      handed_off = at.1;
+      handed_off = between_all P (all_of (change (drop 1) from w.handed_off)) w.aside w.woken at.1 a.1 a.2;
       units = old_units old d ds w.units (λ i. refl) h.units;
     }
 says_transition old (Transition.Commit k x r) ds w e n m h =
@@ -383,7 +388,7 @@ says_transition old (Transition.Commit k x r) ds w e n m h =
     record {
       slots = old_slots old.inventory d ds w.queues h.slots;
       seats = handed d ds new k w.seats (inr at.0, inl (refl, refl)) h.seats;
-      handed_off = older_jobs (all_off w) d ds h.handed_off;
+      handed_off = older_jobs (between w) d ds h.handed_off;
       units = steps old d ds (Step.Commit x.entry.ticket r) x.unit w.units (λ i. refl) h.units;
     }
 says_transition old (Transition.CommitBusy k x) ds w e n m h =
@@ -393,7 +398,7 @@ says_transition old (Transition.CommitBusy k x) ds w e n m h =
     record {
       slots = old_slots old.inventory d ds w.queues h.slots;
       seats = handed d ds new k w.seats (inr at.0, inl refl) h.seats;
-      handed_off = older_jobs (all_off w) d ds h.handed_off;
+      handed_off = older_jobs (between w) d ds h.handed_off;
       units = steps old d ds (Step.Busy x.entry.ticket) x.unit w.units (λ i. refl) h.units;
     }
 says_transition old (Transition.CommitAborted k x why) ds w e n m h =
@@ -403,7 +408,37 @@ says_transition old (Transition.CommitAborted k x why) ds w e n m h =
     record {
       slots = old_slots old.inventory d ds w.queues h.slots;
       seats = handed d ds new k w.seats (inr at.0, inl (refl, refl)) h.seats;
-      handed_off = older_jobs (all_off w) d ds h.handed_off;
+      handed_off = older_jobs (between w) d ds h.handed_off;
+      units = old_units old d ds w.units (λ i. refl) h.units;
+    }
+says_transition old (Transition.Defer k x) ds w e n m h =
+    let d = Transition.Defer k x in
+    let at = h.seats k (record { hand = Hand.Taken x; out = m.holds.out }) m.holds.seat in
+    let P = JobSays (d ∷ ds) in
+    let a = between_parts P (all_off w) w.aside w.woken (older_jobs (between w) d ds h.handed_off) in
+    record {
+      slots = old_slots old.inventory d ds w.queues h.slots;
+      seats = handed d ds Hand.Empty k w.seats tt h.seats;
+      handed_off = between_all P (all_off w) (w.aside ++ x ∷ []) w.woken a.0 (each_push P w.aside x a.1 (inr at.0)) a.2;
+      units = old_units old d ds w.units (λ i. refl) h.units;
+    }
+says_transition old Transition.Wake ds w e n m h =
+    let d = Transition.Wake in
+    record {
+      slots = old_slots old.inventory d ds w.queues h.slots;
+      seats = old_seats d ds w.seats h.seats;
+      handed_off = each_woken (JobSays (d ∷ ds)) (all_off w) w.aside w.woken (older_jobs (between w) d ds h.handed_off);
+      units = old_units old d ds w.units (λ i. refl) h.units;
+    }
+says_transition old (Transition.Resume k x) ds w e n m h =
+    let d = Transition.Resume k x in
+    let P = JobSays (d ∷ ds) in
+    let a = between_parts P (all_off w) w.aside w.woken (older_jobs (between w) d ds h.handed_off) in
+    let r = first_taken P w.woken x m.rest m.first a.2 in
+    record {
+      slots = old_slots old.inventory d ds w.queues h.slots;
+      seats = handed d ds (Hand.Taken x) k w.seats r.0 h.seats;
+      handed_off = between_all P (all_off w) w.aside (drop 1 w.woken) a.0 a.1 r.1;
       units = old_units old d ds w.units (λ i. refl) h.units;
     }
 says_transition old (Transition.Answer k x o xs) ds w e n m h =
@@ -412,7 +447,7 @@ says_transition old (Transition.Answer k x o xs) ds w e n m h =
     record {
       slots = kept_slots old.inventory d ds g x.chain.ticket.queue w.queues (λ z. refl) h.slots;
       seats = handed d ds (Hand.Answered x.unit x.chain.ticket) k w.seats tt h.seats;
-      handed_off = older_jobs (all_off w) d ds h.handed_off;
+      handed_off = older_jobs (between w) d ds h.handed_off;
       units = old_units old d ds w.units (λ i. refl) h.units;
     }
 says_transition old (Transition.Leave k place t jobs) ds w e n m h =
@@ -422,7 +457,7 @@ says_transition old (Transition.Leave k place t jobs) ds w e n m h =
     record {
       slots = old_slots old.inventory d ds w.queues h.slots;
       seats = left_with d ds jobs k w.seats new h.seats;
-      handed_off = older_jobs (all_off w) d ds h.handed_off;
+      handed_off = older_jobs (between w) d ds h.handed_off;
       units = steps old d ds s place w.units (λ i. refl) h.units;
     }
 says_transition old (Transition.Mark t p how jobs) ds w e n m h =
@@ -432,7 +467,8 @@ says_transition old (Transition.Mark t p how jobs) ds w e n m h =
     record {
       slots = old_slots old.inventory d ds w.queues h.slots;
       seats = added d ds jobs 0 w.seats new h.seats;
-      handed_off = older_jobs (all_off w) d ds h.handed_off;
+      handed_off = each_woken (JobSays (d ∷ ds)) (all_off w) w.aside w.woken
+          (older_jobs (between w) d ds h.handed_off);
       units = steps old d ds s p.unit w.units (λ i. refl) h.units;
     }
 says_transition old (Transition.Respond c r xs) ds w e n m h =
@@ -447,7 +483,8 @@ says_transition old (Transition.Hard p jobs) ds w e n m h =
     record {
       slots = old_slots old.inventory d ds w.queues h.slots;
       seats = added d ds jobs w.workers w.seats new h.seats;
-      handed_off = older_jobs (all_off w) d ds h.handed_off;
+      handed_off = each_woken (JobSays (d ∷ ds)) (all_off w) w.aside w.woken
+          (older_jobs (between w) d ds h.handed_off);
       units = steps old d ds s p.unit w.units (λ i. refl) h.units;
     }
 says_transition old (Transition.Resize place blocks) ds w e n m h =
@@ -455,7 +492,7 @@ says_transition old (Transition.Resize place blocks) ds w e n m h =
     record {
       slots = old_slots old.inventory d ds w.queues h.slots;
       seats = old_seats d ds w.seats h.seats;
-      handed_off = older_jobs (all_off w) d ds h.handed_off;
+      handed_off = older_jobs (between w) d ds h.handed_off;
       units = steps old d ds (Step.Resize blocks) place w.units (λ i. refl) h.units;
     }
 says_transition old (Transition.Give r c xs) ds w e n m h =
@@ -476,7 +513,7 @@ says_new old o =
       seats = λ i s at.
           let n = o.seats i s at in
           (subst (HandSays []) (sym n.hand) tt, subst (Each (JobSays [])) (sym n.out) tt);
-      handed_off = subst (Each (JobSays [])) (sym (none_off old.handed_off o.handed_off)) tt;
+      handed_off = subst (Each (JobSays [])) (sym (none_between old o.handed_off o.aside o.woken)) tt;
       units = λ i u at.
           let n = o.units i u at in
           let none = subst (Each (JobSays [])) (sym n.parked) tt in

@@ -129,6 +129,8 @@ so_many_after (Transition.CommitAborted k x why) w =
     (refl, refl, many (with_hand (Hand.Done x (Outcome.Ended (Ending.Aborted why)))) k w.seats)
 so_many_after (Transition.CommitUnknown k x) w =
     (refl, refl, many (with_hand (Hand.Done x (Outcome.Ended Ending.Lost))) k w.seats)
+so_many_after (Transition.Defer k x) w = (refl, refl, many (with_hand Hand.Empty) k w.seats)
+so_many_after (Transition.Resume k x) w = (refl, refl, many (with_hand (Hand.Taken x)) k w.seats)
 so_many_after (Transition.Answer k x o xs) w =
     (used_many x.chain xs w, refl, many (with_hand (Hand.Answered x.unit x.chain.ticket)) k w.seats)
 so_many_after (Transition.Leave k place t jobs) w =
@@ -229,6 +231,9 @@ tells_after (Transition.Commit a b c) w = refl
 tells_after (Transition.CommitBusy a b) w = refl
 tells_after (Transition.CommitAborted a b c) w = refl
 tells_after (Transition.CommitUnknown a b) w = refl
+tells_after (Transition.Defer a b) w = refl
+tells_after Transition.Wake w = refl
+tells_after (Transition.Resume a b) w = refl
 tells_after (Transition.Answer a b c d) w = refl
 tells_after (Transition.Leave a b c d) w = refl
 tells_after (Transition.Mark a b c d) w = refl

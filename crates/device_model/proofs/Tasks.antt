@@ -1,5 +1,5 @@
 -- The tasks of each unit are as many as the jobs that it holds, and those of its jobs that are under way.
-use Rattle.std.proofs.Common.{◌≡◌, ℕ, ◌+◌, Bool, true, false, not, eqb, cond, List, [], ◌∷◌, Some, refl, sym, ◌∙◌, ap, subst, arith, inl, inr}
+use Rattle.std.proofs.Common.{◌≡◌, ℕ, ◌+◌, Bool, true, false, not, eqb, cond, List, [], ◌∷◌, ◌++◌, drop, Some, refl, sym, ◌∙◌, ap, subst, arith, inl, inr}
 use Rattle.std.specs.Prelude.{slice_get}
 use Rattle.std.specs.List.{AllByRecursion, sum_by}
 use Rattle.std.proofs.lemmas.Bool.{eq-eqb}
@@ -17,9 +17,9 @@ use Rattle.task_mgmt.specs.Functions.{step_by}
 use Rattle.task_mgmt.specs.declared.kind.MarkBy.{MarkBy}
 use Rattle.task_mgmt.specs.declared.kind.MarkBy.TheVariants.{Abort, Reset}
 use Rattle.device_model.specs.Parts.{Outcome, Hand}
-use Rattle.device_model.specs.World.{Seat, PlainWorld, Opens, IsNewUnit, IsNewSeat, change, owner, all_off}
+use Rattle.device_model.specs.World.{Seat, PlainWorld, Opens, IsNewUnit, IsNewSeat, change, owner, all_of, all_off}
 use Rattle.device_model.specs.Transitions.{Transition}
-use Rattle.device_model.specs.Changing.{with_hand, without_first, with_jobs, leaving}
+use Rattle.device_model.specs.Changing.{with_hand, without_first, with_jobs, with_job, leaving}
 use Rattle.device_model.specs.Event.Hard.{hard_code}
 use Rattle.device_model.specs.After.{after}
 use Rattle.device_model.specs.Happens.{May}
@@ -28,7 +28,7 @@ use Rattle.device_model.proofs.Lists.{same, at_other}
 use Rattle.device_model.proofs.Jobs.{sum_change}
 use Rattle.device_model.proofs.Places.{nothing_counts}
 use Rattle.device_model.proofs.Named.{IsFor, UnitsHoldOwn, AreNamed, given_own, done_is_named}
-use Rattle.device_model.proofs.Off.{off_put, off_taken, none_off}
+use Rattle.device_model.proofs.Off.{off_put, off_taken, between, between_sum, woken_sum, none_between, first_counts}
 
 -- What a unit's jobs under way count, each by what p says of its ticket
 
@@ -57,7 +57,7 @@ UnitBalances n p us out =
     (u : PlainUnit) → slice_get us n ≡ Some u → alive_count p u.steps ≡ sum_by (own p) u.parked + out
 
 abbrev pub AreBalanced : PlainWorld → Type 0
-AreBalanced w = (n : ℕ) (p : Ticket → ℕ) → UnitBalances n p w.units (out_count n p w.seats (all_off w))
+AreBalanced w = (n : ℕ) (p : Ticket → ℕ) → UnitBalances n p w.units (out_count n p w.seats (between w))
 
 -- Seats
 
@@ -117,8 +117,8 @@ gone n p d = 0
 
 abbrev Flows : ℕ → (Ticket → ℕ) → Transition → PlainWorld → Type 0
 Flows n p d w =
-    out_count n p (after d w).seats (all_off (after d w)) + gone n p d
-    ≡ out_count n p w.seats (all_off w) + came n p d
+    out_count n p (after d w).seats (between (after d w)) + gone n p d
+    ≡ out_count n p w.seats (between w) + came n p d
 
 -- a transition adds what it brings to what is under way, and takes away what leaves
 flows : (n : ℕ) (p : Ticket → ℕ) (d : Transition) (w : PlainWorld) → May d w → AreNamed w → Flows n p d w
@@ -129,12 +129,16 @@ flows n p (Transition.Run x) w m h =
 flows n p (Transition.Put k x) w m h =
     let g = goes n p k w.seats Hand.Empty x m.rest m.seat in
     let a = off_put (of_place n p) k w.handed_off m.off x m.there in
-    omega (arith, g, a)
+    let b = between_sum (of_place n p) (all_off w) w.aside w.woken in
+    let c = between_sum (of_place n p) (all_of (change (with_job x) k w.handed_off)) w.aside w.woken in
+    omega (arith, g, a, b, c)
 flows n p (Transition.Keep k x) w m h = let g = goes n p k w.seats (Hand.Taken x) x m.rest m.seat in omega (arith, g)
 flows n p (Transition.Take k from x) w m h =
     let t = turns n p k w.seats Hand.Empty (Hand.Taken x) [] m.seat in
     let a = off_taken (of_place n p) from w.handed_off x m.rest m.handed_off in
-    omega (arith, t, a)
+    let b = between_sum (of_place n p) (all_off w) w.aside w.woken in
+    let c = between_sum (of_place n p) (all_of (change (drop 1) from w.handed_off)) w.aside w.woken in
+    omega (arith, t, a, b, c)
 flows n p (Transition.Commit k x r) w m h =
     let new = Hand.Done x (Outcome.Ended (Ending.Replied r)) in
     let t = turns n p k w.seats (Hand.Taken x) new m.holds.out m.holds.seat in
@@ -151,6 +155,21 @@ flows n p (Transition.CommitUnknown k x) w m h =
     let new = Hand.Done x (Outcome.Ended Ending.Lost) in
     let t = turns n p k w.seats (Hand.Taken x) new m.holds.out m.holds.seat in
     omega (arith, t)
+flows n p (Transition.Defer k x) w m h =
+    let t = turns n p k w.seats (Hand.Taken x) Hand.Empty m.holds.out m.holds.seat in
+    let a = sum_by_push (of_place n p) w.aside x in
+    let b = between_sum (of_place n p) (all_off w) w.aside w.woken in
+    let c = between_sum (of_place n p) (all_off w) (w.aside ++ x ∷ []) w.woken in
+    omega (arith, t, a, b, c)
+flows n p Transition.Wake w m h =
+    let a = woken_sum (of_place n p) (all_off w) w.aside w.woken in
+    omega (arith, a)
+flows n p (Transition.Resume k x) w m h =
+    let t = turns n p k w.seats Hand.Empty (Hand.Taken x) m.free.0 m.free.1 in
+    let a = first_counts (of_place n p) w.woken x m.rest m.first in
+    let b = between_sum (of_place n p) (all_off w) w.aside w.woken in
+    let c = between_sum (of_place n p) (all_off w) w.aside (drop 1 w.woken) in
+    omega (arith, t, a, b, c)
 flows n p (Transition.Answer k x o xs) w m h =
     let t = turns n p k w.seats (Hand.Done x o) (Hand.Answered x.unit x.chain.ticket) m.out m.seat in
     let e = ap (λ i. cond (eqb x.unit n) (p i) 0) (done_is_named k x o m.out w m.seat h) in
@@ -158,10 +177,14 @@ flows n p (Transition.Answer k x o xs) w m h =
 flows n p (Transition.Leave k place t jobs) w m h =
     let f = frees n p k w.seats (Hand.Answered place t) m.holds.out jobs m.holds.seat in
     omega (arith, f)
-flows n p (Transition.Mark t i s jobs) w m h = let g = gets n p 0 w.seats m.seat jobs m.seat_there in omega (arith, g)
+flows n p (Transition.Mark t i s jobs) w m h =
+    let g = gets n p 0 w.seats m.seat jobs m.seat_there in
+    let a = woken_sum (of_place n p) (all_off w) w.aside w.woken in
+    omega (arith, g, a)
 flows n p (Transition.Hard i jobs) w m h =
     let g = gets n p w.workers w.seats m.seat jobs m.seat_there in
-    omega (arith, g)
+    let a = woken_sum (of_place n p) (all_off w) w.aside w.woken in
+    omega (arith, g, a)
 flows n p d w m h = omega (arith)
 
 -- Units
@@ -265,8 +288,8 @@ same_mark (Reset c) past = refl
 pub transition_balances : (d : Transition) (w : PlainWorld) → May d w → AreNamed w → AreBalanced w → AreBalanced (after d w)
 transition_balances (Transition.Run x) w m names h n p =
     let d = Transition.Run x in
-    let out = out_count n p w.seats (all_off w) in
-    let out' = out_count n p (after d w).seats (all_off (after d w)) in
+    let out = out_count n p w.seats (between w) in
+    let out' = out_count n p (after d w).seats (between (after d w)) in
     let u = m.comes.unit in
     let c = keeps_all p (Step.Enter x.entry) u refl in
     let a = alive_enter p x.entry u.steps in
@@ -275,32 +298,32 @@ transition_balances (Transition.Run x) w m names h n p =
     moves n p (stepped (Step.Enter x.entry)) x.unit w.units u (p x.entry.ticket) 0 out out' m.comes.unit_there
     (omega (arith, c, a)) (omega (arith, f, z)) (h n p)
 transition_balances (Transition.Park x) w m names h n p =
-    let out = out_count n p w.seats (all_off w) in
+    let out = out_count n p w.seats (between w) in
     let u = m.comes.unit in
     let c = sum_by_push (own p) u.parked x in
     let a = alive_enter p x.entry u.steps in
     moves n p (parking x) x.unit w.units u 0 0 out out m.comes.unit_there (omega (arith, c, a)) refl (h n p)
 transition_balances (Transition.EnterFull x) w m names h n p =
-    let out = out_count n p w.seats (all_off w) in
+    let out = out_count n p w.seats (between w) in
     calm n p (Step.Full x.entry.ticket) x.unit w.units m.comes.unit out out m.comes.unit_there refl refl refl (h n p)
 transition_balances (Transition.Commit k x r) w m names h n p =
     let d = Transition.Commit k x r in
-    let out = out_count n p w.seats (all_off w) in
-    let out' = out_count n p (after d w).seats (all_off (after d w)) in
+    let out = out_count n p w.seats (between w) in
+    let out' = out_count n p (after d w).seats (between (after d w)) in
     calm n p (Step.Commit x.entry.ticket r) x.unit w.units m.holds.unit out out' m.holds.there refl refl
     (flows n p d w m names) (h n p)
 transition_balances (Transition.CommitBusy k x) w m names h n p =
     let d = Transition.CommitBusy k x in
-    let out = out_count n p w.seats (all_off w) in
-    let out' = out_count n p (after d w).seats (all_off (after d w)) in
+    let out = out_count n p w.seats (between w) in
+    let out' = out_count n p (after d w).seats (between (after d w)) in
     calm n p (Step.Busy x.entry.ticket) x.unit w.units m.holds.unit out out' m.holds.there refl refl
     (flows n p d w m names) (h n p)
 transition_balances (Transition.Leave k place t jobs) w m names h n p =
     let d = Transition.Leave k place t jobs in
     let s = Step.Leave t in
     let u = m.holds.unit in
-    let out = out_count n p w.seats (all_off w) in
-    let out' = out_count n p (after d w).seats (all_off (after d w)) in
+    let out = out_count n p w.seats (between w) in
+    let out' = out_count n p (after d w).seats (between (after d w)) in
     let c = parted p s u in
     let g = given_own s place w.units u m.holds.there names.1 in
     let j = ap (λ l. sum_by (of_place n p) l) m.enables ∙ for_place n p place (handed_out u s) g in
@@ -311,18 +334,18 @@ transition_balances (Transition.Leave k place t jobs) w m names h n p =
 transition_balances (Transition.Mark t i s jobs) w m names h n p =
     let d = Transition.Mark t i s jobs in
     let u = m.marking.unit in
-    let out = out_count n p w.seats (all_off w) in
-    let out' = out_count n p (after d w).seats (all_off (after d w)) in
+    let out = out_count n p w.seats (between w) in
+    let out' = out_count n p (after d w).seats (between (after d w)) in
     gives n p (step_by s) i.unit w.units u jobs out out' m.marking.unit_there (same_mark s u.steps) m.releases names.1
     (flows n p d w m names) (h n p)
 transition_balances (Transition.Hard i jobs) w m names h n p =
     let d = Transition.Hard i jobs in
-    let out = out_count n p w.seats (all_off w) in
-    let out' = out_count n p (after d w).seats (all_off (after d w)) in
+    let out = out_count n p w.seats (between w) in
+    let out' = out_count n p (after d w).seats (between (after d w)) in
     gives n p (Step.Reset hard_code) i.unit w.units m.unit jobs out out' m.there refl m.releases names.1
     (flows n p d w m names) (h n p)
 transition_balances (Transition.Resize place blocks) w m names h n p =
-    let out = out_count n p w.seats (all_off w) in
+    let out = out_count n p w.seats (between w) in
     calm n p (Step.Resize blocks) place w.units m.unit out out m.there refl refl refl (h n p)
 transition_balances d w m names h n p =
     let f = flows n p d w m names in
@@ -342,5 +365,5 @@ new_balanced w o n p u at =
     let a = ap (alive_count p) is.steps in
     let b = ap (λ l. sum_by (own p) l) is.parked in
     let c = nothing_counts (seat_count n p) w.seats (λ i s there. no_weight n p s (o.seats i s there)) in
-    let d = ap (λ l. sum_by (of_place n p) l) (none_off w.handed_off o.handed_off) in
+    let d = ap (λ l. sum_by (of_place n p) l) (none_between w o.handed_off o.aside o.woken) in
     omega (arith, a, b, c, d)

@@ -30,6 +30,7 @@ use Rattle.device_model.specs.Event.HandOff.{MayPut, MayTake}
 use Rattle.device_model.specs.Event.Mark.{MayMark}
 use Rattle.device_model.specs.Event.Check.{MayCheck}
 use Rattle.device_model.specs.Event.AnswerTmf.{MayRespond}
+use Rattle.device_model.specs.Event.Wake.{MayResume}
 use Rattle.device_model.proofs.Lists.{at_other, nothing, same}
 use Rattle.device_model.proofs.Applying.{applies}
 use Rattle.device_model.proofs.Deciding.{opened_there}
@@ -416,6 +417,13 @@ commit_wakes (Transition.CommitAborted k x why) w j m (y, h) =
     let new = Hand.Done x (Outcome.Ended (Ending.Aborted why)) in
     inl (y, hand_other (with_hand new) k w.seats j (Hand.Taken y) new (λ z. refl) taken_done h)
 commit_wakes (Transition.CommitUnknown k x) w j m h = absurd m
+commit_wakes (Transition.Defer k x) w j m (y, h) =
+    inl (y, hand_other (with_hand Hand.Empty) k w.seats j (Hand.Taken y) Hand.Empty (λ z. refl) taken_free h)
+commit_wakes (Transition.Resume k x) w j m (y, h) =
+    elim (hand_was (with_hand (Hand.Taken x)) k w.seats j (Hand.Taken y) h) [
+      | inl p ↦ inr (inl (ap Event.Commit p.0))
+      | inr old ↦ inl (y, old)
+    ]
 commit_wakes (Transition.Answer k x o xs) w j m (y, h) =
     let new = Hand.Answered x.unit x.chain.ticket in
     inl (y, hand_other (with_hand new) k w.seats j (Hand.Taken y) new (λ z. refl) taken_answered h)
@@ -461,6 +469,11 @@ answer_wakes (Transition.CommitAborted k x why) w j m (y, o, h) =
       | inr old ↦ inl (y, o, old)
     ]
 answer_wakes (Transition.CommitUnknown k x) w j m h = absurd m
+answer_wakes (Transition.Defer k x) w j m (y, o, h) =
+    inl (y, o, hand_other (with_hand Hand.Empty) k w.seats j (Hand.Done y o) Hand.Empty (λ z. refl) done_free h)
+answer_wakes (Transition.Resume k x) w j m (y, o, h) =
+    let new = Hand.Taken x in
+    inl (y, o, hand_other (with_hand new) k w.seats j (Hand.Done y o) new (λ z. refl) (λ e. taken_done (sym e)) h)
 answer_wakes (Transition.Answer k x b xs) w j m (y, o, h) =
     let new = Hand.Answered x.unit x.chain.ticket in
     inl (y, o, hand_other (with_hand new) k w.seats j (Hand.Done y o) new (λ z. refl) done_answered h)
@@ -503,6 +516,13 @@ leave_wakes (Transition.CommitAborted k x why) w j m (place, t, h) =
     let new = Hand.Done x (Outcome.Ended (Ending.Aborted why)) in
     inl (place, t, hand_other (with_hand new) k w.seats j was new (λ z. refl) (λ e. done_answered (sym e)) h)
 leave_wakes (Transition.CommitUnknown k x) w j m h = absurd m
+leave_wakes (Transition.Defer k x) w j m (place, t, h) =
+    let was = Hand.Answered place t in
+    inl (place, t, hand_other (with_hand Hand.Empty) k w.seats j was Hand.Empty (λ z. refl) answered_free h)
+leave_wakes (Transition.Resume k x) w j m (place, t, h) =
+    let was = Hand.Answered place t in
+    let new = Hand.Taken x in
+    inl (place, t, hand_other (with_hand new) k w.seats j was new (λ z. refl) (λ e. taken_answered (sym e)) h)
 leave_wakes (Transition.Answer k x o xs) w j m (place, t, h) =
     elim (hand_was (with_hand (Hand.Answered x.unit x.chain.ticket)) k w.seats j (Hand.Answered place t) h) [
       | inl p ↦ inr (inr (inl (ap Event.Leave p.0)))
@@ -570,6 +590,14 @@ put_wakes (Transition.CommitAborted k x why) w j m h =
     let new = Hand.Done x (Outcome.Ended (Ending.Aborted why)) in
     inl (put_not (after (Transition.CommitAborted k x why) w) w (with_hand new) k j new refl (λ z. refl) done_free h)
 put_wakes (Transition.CommitUnknown k x) w j m h = absurd m
+put_wakes (Transition.Defer k x) w j m h =
+    elim (put_was (after (Transition.Defer k x) w) w (with_hand Hand.Empty) k j refl h) [
+      | inl p ↦ inr (inl (ap Event.Put p.0))
+      | inr old ↦ inl old
+    ]
+put_wakes (Transition.Resume k x) w j m h =
+    let new = Hand.Taken x in
+    inl (put_not (after (Transition.Resume k x) w) w (with_hand new) k j new refl (λ z. refl) taken_free h)
 put_wakes (Transition.Answer k x o xs) w j m h =
     let new = Hand.Answered x.unit x.chain.ticket in
     inl (put_not (after (Transition.Answer k x o xs) w) w (with_hand new) k j new refl (λ z. refl) answered_free h)
@@ -580,12 +608,12 @@ put_wakes (Transition.Leave k place t jobs) w j m h =
     ]
 put_wakes (Transition.Mark t p how jobs) w j m h =
     elim (put_was (after (Transition.Mark t p how jobs) w) w (with_jobs jobs) 0 j refl h) [
-      | inl q ↦ inr (inl (ap Event.Put q.0))
+      | inl q ↦ inr (inr (inl (ap Event.Put q.0)))
       | inr old ↦ inl old
     ]
 put_wakes (Transition.Hard p jobs) w j m h =
     elim (put_was (after (Transition.Hard p jobs) w) w (with_jobs jobs) w.workers j refl h) [
-      | inl q ↦ inr (inl (ap Event.Put q.0))
+      | inl q ↦ inr (inr (inl (ap Event.Put q.0)))
       | inr old ↦ inl old
     ]
 put_wakes d w j m h = inl (put_same (after d w) w j refl h)
@@ -686,6 +714,14 @@ take_wakes (Transition.CommitAborted k x why) w j m h =
     let new = Hand.Done x (Outcome.Ended (Ending.Aborted why)) in
     inl (take_not (after (Transition.CommitAborted k x why) w) w (with_hand new) k j new refl refl refl (λ z. refl) done_free h)
 take_wakes (Transition.CommitUnknown k x) w j m h = absurd m
+take_wakes (Transition.Defer k x) w j m h =
+    elim (take_was (after (Transition.Defer k x) w) w (with_hand Hand.Empty) k j refl refl refl h) [
+      | inl p ↦ inr (inr (inl (ap Event.Take p.0)))
+      | inr old ↦ inl old
+    ]
+take_wakes (Transition.Resume k x) w j m h =
+    let new = Hand.Taken x in
+    inl (take_not (after (Transition.Resume k x) w) w (with_hand new) k j new refl refl refl (λ z. refl) taken_free h)
 take_wakes (Transition.Answer k x o xs) w j m h =
     let new = Hand.Answered x.unit x.chain.ticket in
     inl (take_not (after (Transition.Answer k x o xs) w) w (with_hand new) k j new refl refl refl (λ z. refl) answered_free h)
@@ -893,8 +929,8 @@ check_wakes (Transition.Commit i x r) w m h =
 check_wakes (Transition.CommitBusy i x) w m h =
     let s = Step.Busy x.entry.ticket in
     inl (check_before (after (Transition.CommitBusy i x) w) w (stepped s) s x.unit refl refl (λ u. refl) (λ past t k. k) h)
-check_wakes (Transition.Leave i place t jobs) w m h = inr (inr (inr (inl refl)))
-check_wakes (Transition.Mark t p how jobs) w m h = inr (inr (inl refl))
+check_wakes (Transition.Leave i place t jobs) w m h = inr (inr (inr (inr (inl refl))))
+check_wakes (Transition.Mark t p how jobs) w m h = inr (inr (inr (inl refl)))
 check_wakes (Transition.Hard p jobs) w m h =
     let s = Step.Reset hard_code in
     inl (check_before (after (Transition.Hard p jobs) w) w (stepped s) s p.unit refl refl (λ u. refl) (λ past t k. k) h)
@@ -910,11 +946,92 @@ check_wakes d w m h = inl (check_same (after d w) w refl refl h)
 -- Raise
 
 raise_wakes : (d : Transition) (w : PlainWorld) → Happens d w → Applies (after d w) Event.Raise → Either w d Event.Raise
-raise_wakes (Transition.Hard p jobs) w m h = inr (inr (inl refl))
+raise_wakes (Transition.Hard p jobs) w m h = inr (inr (inr (inl refl)))
 raise_wakes (Transition.Resize place blocks) w m h = inr (inl refl)
 raise_wakes (Transition.Give e c xs) w m h = inl (applies (Transition.Give e c xs) w m)
 raise_wakes (Transition.Miss e) w m h = inl (applies (Transition.Miss e) w m)
 raise_wakes d w m h = inl h
+
+-- Resume
+
+-- where one seat is changed: it is that one that has its hand free, or the event applied before
+resume_was : (v w : PlainWorld) (g : Seat → Seat) (k j : ℕ) → v.seats ≡ change g k w.seats → v.woken ≡ w.woken
+    → (h : MayResume v j)
+    → ((j ≡ k) × (x : Seat) × (slice_get w.seats k ≡ Some x) × (Hand.Empty ≡ (g x).hand)) ⊎ MayResume w j
+resume_was v w g k j seats woken h =
+    elim (hand_was g k w.seats j Hand.Empty (h.free.0, ap (λ l. slice_get l j) (sym seats) ∙ h.free.1)) [
+      | inl p ↦ inl p
+      | inr old ↦ inr (record { free = old; job = h.job; rest = h.rest; first = sym woken ∙ h.first })
+    ]
+
+resume_not : (v w : PlainWorld) (g : Seat → Seat) (k j : ℕ) (hand : Hand) → v.seats ≡ change g k w.seats
+    → v.woken ≡ w.woken → ((x : Seat) → (g x).hand ≡ hand) → (hand ≡ Hand.Empty → ⊥) → MayResume v j → MayResume w j
+resume_not v w g k j hand seats woken is apart h =
+    elim (resume_was v w g k j seats woken h) [
+      | inl p ↦ absurd (apart (sym (is p.1) ∙ sym p.3))
+      | inr old ↦ old
+    ]
+
+resume_same : (v w : PlainWorld) (j : ℕ) → v.seats ≡ w.seats → v.woken ≡ w.woken → MayResume v j → MayResume w j
+resume_same v w j seats woken h =
+    record {
+      free = (h.free.0, ap (λ l. slice_get l j) (sym seats) ∙ h.free.1);
+      job = h.job;
+      rest = h.rest;
+      first = sym woken ∙ h.first;
+    }
+
+resume_wakes : (d : Transition) (w : PlainWorld) (j : ℕ) → Happens d w → Applies (after d w) (Event.Resume j)
+    → Either w d (Event.Resume j)
+resume_wakes (Transition.Run x) w j m h =
+    let k = owner w.workers x.chain.ticket.queue in
+    let free = hand_kept (with_jobs (x ∷ [])) k w.seats j Hand.Empty (λ z. refl) h.free in
+    inl (record { free = free; job = h.job; rest = h.rest; first = h.first })
+resume_wakes (Transition.Put k x) w j m h =
+    elim (hand_was (without_first Hand.Empty) k w.seats j Hand.Empty h.free) [
+      | inl p ↦
+          let free : Holds w.seats j Hand.Empty = (x ∷ m.rest, ap (λ n. slice_get w.seats n) p.0 ∙ m.seat) in
+          inl (record { free = free; job = h.job; rest = h.rest; first = h.first })
+      | inr old ↦ inl (record { free = old; job = h.job; rest = h.rest; first = h.first })
+    ]
+resume_wakes (Transition.Keep k x) w j m h =
+    let new = Hand.Taken x in
+    inl (resume_not (after (Transition.Keep k x) w) w (without_first new) k j new refl refl (λ z. refl) taken_free h)
+resume_wakes (Transition.Take k from x) w j m h =
+    let new = Hand.Taken x in
+    inl (resume_not (after (Transition.Take k from x) w) w (with_hand new) k j new refl refl (λ z. refl) taken_free h)
+resume_wakes (Transition.Commit k x r) w j m h =
+    let new = Hand.Done x (Outcome.Ended (Ending.Replied r)) in
+    inl (resume_not (after (Transition.Commit k x r) w) w (with_hand new) k j new refl refl (λ z. refl) done_free h)
+resume_wakes (Transition.CommitBusy k x) w j m h =
+    let new = Hand.Done x (Outcome.Ended Ending.Busy) in
+    inl (resume_not (after (Transition.CommitBusy k x) w) w (with_hand new) k j new refl refl (λ z. refl) done_free h)
+resume_wakes (Transition.CommitAborted k x why) w j m h =
+    let new = Hand.Done x (Outcome.Ended (Ending.Aborted why)) in
+    inl (resume_not (after (Transition.CommitAborted k x why) w) w (with_hand new) k j new refl refl (λ z. refl) done_free h)
+resume_wakes (Transition.CommitUnknown k x) w j m h = absurd m
+resume_wakes (Transition.Defer k x) w j m h =
+    elim (resume_was (after (Transition.Defer k x) w) w (with_hand Hand.Empty) k j refl refl h) [
+      | inl p ↦ inr (inr (inr (inl (ap Event.Resume p.0))))
+      | inr old ↦ inl old
+    ]
+resume_wakes Transition.Wake w j m h = inr tt
+resume_wakes (Transition.Resume k x) w j m h =
+    elim (hand_was (with_hand (Hand.Taken x)) k w.seats j Hand.Empty h.free) [
+      | inl p ↦ absurd (taken_free (sym p.3))
+      | inr old ↦ inl (record { free = old; job = x; rest = m.rest; first = m.first })
+    ]
+resume_wakes (Transition.Answer k x o xs) w j m h =
+    let new = Hand.Answered x.unit x.chain.ticket in
+    inl (resume_not (after (Transition.Answer k x o xs) w) w (with_hand new) k j new refl refl (λ z. refl) answered_free h)
+resume_wakes (Transition.Leave k place t jobs) w j m h =
+    elim (resume_was (after (Transition.Leave k place t jobs) w) w (leaving jobs) k j refl refl h) [
+      | inl p ↦ inr (inr (inr (inl (ap Event.Resume p.0))))
+      | inr old ↦ inl old
+    ]
+resume_wakes (Transition.Mark t p how jobs) w j m h = inr (inl tt)
+resume_wakes (Transition.Hard p jobs) w j m h = inr (inl tt)
+resume_wakes d w j m h = inl (resume_same (after d w) w j refl refl h)
 
 -- Any event
 
@@ -934,6 +1051,8 @@ either d w Event.AnswerTmf own m h = respond_wakes d w m h
 either d w (Event.Prepare k) own m h = absurd own
 either d w (Event.Resize place blocks) own m h = absurd own
 either d w (Event.Hard place) own m h = absurd own
+either d w Event.Wake own m h = absurd own
+either d w (Event.Resume k) own m h = resume_wakes d w k m h
 either d w Event.Raise own m h = raise_wakes d w m h
 
 pub wakes : (w : PlainWorld) (d : Transition) (e : Event) → IsOwn e → Happens d w → Applies (after d w) e

@@ -1,5 +1,5 @@
 -- Each job that was handed out is that of a task that is alive.
-use Rattle.std.proofs.Common.{◌≡◌, ℕ, ◌≤◌, Bool, true, false, ◌||◌, eqb, cond, List, [], ◌∷◌, Option, Some, None, is_some, refl, sym, ◌∙◌, ap, subst, arith, inl, inr}
+use Rattle.std.proofs.Common.{◌≡◌, ℕ, ◌≤◌, Bool, true, false, ◌||◌, eqb, cond, List, [], ◌∷◌, ◌++◌, drop, Option, Some, None, is_some, refl, sym, ◌∙◌, ap, subst, arith, inl, inr}
 use Rattle.std.specs.Prelude.{slice_get, ⊤}
 use Rattle.std.specs.List.{AllByRecursion, sum_by}
 use Rattle.std.proofs.lemmas.Bool.{eq-eqb, eqb-true}
@@ -21,9 +21,9 @@ use Rattle.task_mgmt.specs.Functions.{step_by}
 use Rattle.task_mgmt.specs.declared.kind.MarkBy.{MarkBy}
 use Rattle.task_mgmt.specs.declared.kind.MarkBy.TheVariants.{Abort, Reset}
 use Rattle.device_model.specs.Parts.{Outcome, Hand}
-use Rattle.device_model.specs.World.{Seat, PlainWorld, Opens, IsNewSeat, change, owner, Everywhere, all_off}
+use Rattle.device_model.specs.World.{Seat, PlainWorld, Opens, IsNewSeat, change, owner, Everywhere, all_of, all_off}
 use Rattle.device_model.specs.Transitions.{Transition}
-use Rattle.device_model.specs.Changing.{bit, with_hand, without_first, with_jobs, leaving}
+use Rattle.device_model.specs.Changing.{bit, with_hand, without_first, with_jobs, with_job, leaving}
 use Rattle.device_model.specs.Event.Hard.{hard_code}
 use Rattle.device_model.specs.After.{after}
 use Rattle.device_model.specs.Happens.{May, Occurrence, Runs}
@@ -38,7 +38,7 @@ use Rattle.device_model.proofs.Handed.{IsOpen, IsEnded, Spares, open_on, ended_o
 use Rattle.device_model.proofs.Sums.{counts_one, counts_two, counts_none}
 use Rattle.device_model.proofs.Named.{IsFor, UnitsHoldOwn, AreNamed, all_push, given_own, done_is_named, new_named, transition_names}
 use Rattle.device_model.proofs.Tasks.{AreBalanced, of_place, hand_count, seat_count, out_count, new_balanced, transition_balances}
-use Rattle.device_model.proofs.Off.{each_put, each_taken, none_off}
+use Rattle.device_model.proofs.Off.{each_put, each_taken, none_between, between, between_all, between_parts, each_woken, each_push, first_taken}
 
 -- of the unit at a place, if it is there, its steps are so
 abbrev At : (List Step → Type 0) → List PlainUnit → ℕ → Type 0
@@ -66,7 +66,7 @@ abbrev SeatsAt : List PlainUnit → List Seat → Type 0
 SeatsAt us seats = Everywhere (λ k s. SeatAt us s) seats
 
 abbrev pub AtWork : PlainWorld → Type 0
-AtWork w = SeatsAt w.units w.seats × JobsAt w.units (all_off w)
+AtWork w = SeatsAt w.units w.seats × JobsAt w.units (between w)
 
 -- A step of one unit
 
@@ -200,7 +200,7 @@ stays s place old new seats off g m h = (
 
 -- A task stands in one place
 
-abbrev one : Ticket → Ticket → ℕ
+abbrev pub one : Ticket → Ticket → ℕ
 one t s = bit (same_ticket t s)
 
 -- no task of the ticket
@@ -229,14 +229,14 @@ once t (e ∷ es) d =
 
 -- at most one job under way of a unit has the ticket
 out_once : (n : ℕ) (t : Ticket) (w : PlainWorld) (u : PlainUnit) → slice_get w.units n ≡ Some u → AreUnits w
-    → AreBalanced w → out_count n (one t) w.seats (all_off w) ≤ 1
+    → AreBalanced w → out_count n (one t) w.seats (between w) ≤ 1
 out_once n t w u at us b =
     let e = b n (one t) u at in
     let is = us n u at in
     let o = once t (alive u.steps) (alive_distinct u.opening u.steps is.lawful) in
     omega (arith, e, o)
 
-no_bit : (b : Bool) → bit b ≡ 0 → b ≡ false
+pub no_bit : (b : Bool) → bit b ≡ 0 → b ≡ false
 no_bit true e = absurd (omega (arith, e))
 no_bit false e = refl
 
@@ -319,7 +319,7 @@ finishes : (s : Step) (k : ℕ) (x : PlainJob) (o : Outcome) (out : List PlainJo
     → ((past : List Step) → (alive (s ∷ past) ≡ alive past) × (done x.entry.ticket (s ∷ past) ≡ true))
     → AreUnits w → AreBalanced w → AtWork w
     → SeatsAt (change (stepped s) x.unit w.units) (change (with_hand (Hand.Done x o)) k w.seats)
-    × JobsAt (change (stepped s) x.unit w.units) (all_off w)
+    × JobsAt (change (stepped s) x.unit w.units) (between w)
 finishes s k x o out w u there at only does us b h =
     let n = x.unit in
     let t = x.entry.ticket in
@@ -327,13 +327,13 @@ finishes s k x o out w u there at only does us b h =
     let new = change (stepped s) n old in
     let step = goes s (stepped s) n old (λ v. refl) in
     let le = out_once n t w u there us b in
-    let sp = spares_else s n t k w.seats (all_off w) (Hand.Taken x) out only at (its_own n t) le in
+    let sp = spares_else s n t k w.seats (between w) (Hand.Taken x) out only at (its_own n t) le in
     let is = (λ (past : List Step) (p : IsOpen x.entry past).
     let d = does past in
     let ended : IsEnded t (s ∷ past) =
     (x.entry, ap (task_of t) d.0 ∙ p.0, ap (λ c. c || marked t (s ∷ past)) d.1) in
     ended) in
-    ends s n k old new w.seats (all_off w) (Hand.Taken x) out (with_hand (Hand.Done x o)) step at sp
+    ends s n k old new w.seats (between w) (Hand.Taken x) out (with_hand (Hand.Done x o)) step at sp
     (λ was more. ((stepped s was.0, get_change (stepped s) n old was.0 was.1, is was.0.steps was.2), more)) h
 
 each_given : (new : List PlainUnit) (k : ℕ) (v : PlainUnit) (xs : List PlainJob) → slice_get new k ≡ Some v
@@ -398,31 +398,36 @@ transition_works (Transition.Run x) w m us names b h =
     let new = change (stepped s) x.unit w.units in
     let is = us x.unit u c.unit_there in
     let opened = open_entered u.opening x.entry u.steps is.lawful m.may m.blocked in
-    gets s x.unit w.units new (owner w.workers x.chain.ticket.queue) w.seats (all_off w) c.seat (x ∷ [])
+    gets s x.unit w.units new (owner w.workers x.chain.ticket.queue) w.seats (between w) c.seat (x ∷ [])
     (goes s (stepped s) x.unit w.units (λ v. refl)) (λ t. tt) c.seat_there
     ((stepped s u, get_change (stepped s) x.unit w.units u c.unit_there, opened), tt) h
 transition_works (Transition.Park x) w m us names b h =
     let s = Step.Enter x.entry in
-    stays s x.unit w.units (change (parking x) x.unit w.units) w.seats (all_off w)
+    stays s x.unit w.units (change (parking x) x.unit w.units) w.seats (between w)
     (goes s (parking x) x.unit w.units (λ v. refl)) (λ t. tt) h
 transition_works (Transition.EnterFull x) w m us names b h =
     let s = Step.Full x.entry.ticket in
-    stays s x.unit w.units (change (stepped s) x.unit w.units) w.seats (all_off w)
+    stays s x.unit w.units (change (stepped s) x.unit w.units) w.seats (between w)
     (goes s (stepped s) x.unit w.units (λ v. refl)) (λ t. tt) h
 transition_works (Transition.Put k x) w m us names b h =
     let this : Seat = record { hand = Hand.Empty; out = x ∷ m.rest } in
-    let was = h.0 k this m.seat in (
+    let was = h.0 k this m.seat in
+    let P = ToCommit w.units in
+    let a = between_parts P (all_off w) w.aside w.woken h.1 in (
       seat_goes w.units (without_first Hand.Empty) k w.seats this m.seat (λ z. (tt, z.1.1)) h.0,
-      each_put (ToCommit w.units) k w.handed_off x was.1.0 h.1,
+      between_all P (all_of (change (with_job x) k w.handed_off)) w.aside w.woken
+          (each_put P k w.handed_off x was.1.0 a.0) a.1 a.2,
     )
 transition_works (Transition.Keep k x) w m us names b h =
     let this : Seat = record { hand = Hand.Empty; out = x ∷ m.rest } in
     (seat_goes w.units (without_first (Hand.Taken x)) k w.seats this m.seat (λ z. (z.1.0, z.1.1)) h.0, h.1)
 transition_works (Transition.Take k from x) w m us names b h =
     let this : Seat = record { hand = Hand.Empty; out = [] } in
-    let off = each_taken (ToCommit w.units) from w.handed_off x m.rest m.handed_off h.1 in (
+    let P = ToCommit w.units in
+    let a = between_parts P (all_off w) w.aside w.woken h.1 in
+    let off = each_taken P from w.handed_off x m.rest m.handed_off a.0 in (
       seat_goes w.units (with_hand (Hand.Taken x)) k w.seats this m.seat (λ z. (off.0, z.1)) h.0,
-      off.1,
+      between_all P (all_of (change (drop 1) from w.handed_off)) w.aside w.woken off.1 a.1 a.2,
     )
 transition_works (Transition.Commit k x r) w m us names b h =
     finishes (Step.Commit x.entry.ticket r) k x (Outcome.Ended (Ending.Replied r)) m.holds.out w m.holds.unit
@@ -442,6 +447,24 @@ transition_works (Transition.CommitAborted k x why) w m us names b h =
     let is : IsEnded t u.steps = (x.entry, c.0, or_right (done t u.steps) (marked t u.steps) on) in
     (seat_goes w.units (with_hand new) k w.seats this m.holds.seat (λ z. ((u, m.holds.there, is), z.1)) h.0, h.1)
 transition_works (Transition.CommitUnknown k x) w m us names b h = absurd (never_lost k x w m h)
+transition_works (Transition.Defer k x) w m us names b h =
+    let P = ToCommit w.units in
+    let this : Seat = record { hand = Hand.Taken x; out = m.holds.out } in
+    let a = between_parts P (all_off w) w.aside w.woken h.1 in
+    let c = (h.0 k this m.holds.seat).0 in (
+      seat_goes w.units (with_hand Hand.Empty) k w.seats this m.holds.seat (λ z. (tt, z.1)) h.0,
+      between_all P (all_off w) (w.aside ++ x ∷ []) w.woken a.0 (each_push P w.aside x a.1 c) a.2,
+    )
+transition_works Transition.Wake w m us names b h =
+    (h.0, each_woken (ToCommit w.units) (all_off w) w.aside w.woken h.1)
+transition_works (Transition.Resume k x) w m us names b h =
+    let P = ToCommit w.units in
+    let this : Seat = record { hand = Hand.Empty; out = m.free.0 } in
+    let a = between_parts P (all_off w) w.aside w.woken h.1 in
+    let r = first_taken P w.woken x m.rest m.first a.2 in (
+      seat_goes w.units (with_hand (Hand.Taken x)) k w.seats this m.free.1 (λ z. (r.0, z.1)) h.0,
+      between_all P (all_off w) w.aside (drop 1 w.woken) a.0 a.1 r.1,
+    )
 transition_works (Transition.Answer k x o xs) w m us names b h =
     let this : Seat = record { hand = Hand.Done x o; out = m.out } in
     let new = Hand.Answered x.unit x.chain.ticket in
@@ -458,9 +481,9 @@ transition_works (Transition.Leave k place t jobs) w m us names b h =
     let step = goes s (stepped s) place w.units (λ v. refl) in
     let le = out_once place t w u m.holds.there us b in
     let own = its_own place t in
-    let sp = spares_else s place t k w.seats (all_off w) hand m.holds.out (λ v n. n) m.holds.seat own le in
+    let sp = spares_else s place t k w.seats (between w) hand m.holds.out (λ v n. n) m.holds.seat own le in
     let more = given s place w.units u jobs m.holds.there m.may (us place u m.holds.there) names.1 m.enables in
-    ends s place k w.units new w.seats (all_off w) hand m.holds.out (leaving jobs) step m.holds.seat sp
+    ends s place k w.units new w.seats (between w) hand m.holds.out (leaving jobs) step m.holds.seat sp
     (λ was out. (tt, all_push (ToCommit new) m.holds.out jobs out more)) h
 transition_works (Transition.Mark t p how jobs) w m us names b h =
     let s = step_by how in
@@ -468,17 +491,19 @@ transition_works (Transition.Mark t p how jobs) w m us names b h =
     let new = change (stepped s) p.unit w.units in
     let at = m.marking.unit_there in
     let more = given s p.unit w.units u jobs at (may_mark how u) (us p.unit u at) names.1 m.releases in
-    gets s p.unit w.units new 0 w.seats (all_off w) m.seat jobs (goes s (stepped s) p.unit w.units (λ v. refl))
-    (mild_mark how) m.seat_there more h
+    let r = gets s p.unit w.units new 0 w.seats (between w) m.seat jobs (goes s (stepped s) p.unit w.units (λ v. refl))
+    (mild_mark how) m.seat_there more h in
+    (r.0, each_woken (ToCommit new) (all_off w) w.aside w.woken r.1)
 transition_works (Transition.Hard p jobs) w m us names b h =
     let s = Step.Reset hard_code in
     let new = change (stepped s) p.unit w.units in
     let more = given s p.unit w.units m.unit jobs m.there tt (us p.unit m.unit m.there) names.1 m.releases in
-    gets s p.unit w.units new w.workers w.seats (all_off w) m.seat jobs
-    (goes s (stepped s) p.unit w.units (λ v. refl)) (λ t. tt) m.seat_there more h
+    let r = gets s p.unit w.units new w.workers w.seats (between w) m.seat jobs
+    (goes s (stepped s) p.unit w.units (λ v. refl)) (λ t. tt) m.seat_there more h in
+    (r.0, each_woken (ToCommit new) (all_off w) w.aside w.woken r.1)
 transition_works (Transition.Resize place blocks) w m us names b h =
     let s = Step.Resize blocks in
-    stays s place w.units (change (stepped s) place w.units) w.seats (all_off w)
+    stays s place w.units (change (stepped s) place w.units) w.seats (between w)
     (goes s (stepped s) place w.units (λ v. refl)) (λ t. tt) h
 transition_works d w m us names b h = h
 
@@ -493,7 +518,7 @@ new_works w o = (
   λ k s at.
       let n : IsNewSeat s = o.seats k s at in
       (subst (HandAt w.units) (sym n.hand) tt, subst (JobsAt w.units) (sym n.out) tt),
-  subst (JobsAt w.units) (sym (none_off w.handed_off o.handed_off)) tt,
+  subst (JobsAt w.units) (sym (none_between w o.handed_off o.aside o.woken)) tt,
 )
 
 pub run_works : (old : PlainWorld) (trace : List Occurrence) (w : PlainWorld) → Opens old → Runs old trace w → Works w
@@ -526,7 +551,10 @@ jobs_work w (x ∷ xs) h = (to_commit w x h.0, jobs_work w xs h.1)
 
 pub all_work : (w : PlainWorld) → AtWork w → AreAtWork w
 all_work w h =
+    let b = between_parts (ToCommit w.units) (all_off w) w.aside w.woken h.1 in
     record {
       seats = λ k s at. let is = h.0 k s at in (hand_works w s.hand is.0, jobs_work w s.out is.1);
-      handed_off = jobs_work w (all_off w) h.1;
+      handed_off = jobs_work w (all_off w) b.0;
+      aside = jobs_work w w.aside b.1;
+      woken = jobs_work w w.woken b.2;
     }

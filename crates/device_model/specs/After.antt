@@ -15,6 +15,7 @@ use Rattle.device_model.specs.Event.AnswerTmf.{after_respond}
 use Rattle.device_model.specs.Event.Hard.{after_hard}
 use Rattle.device_model.specs.Event.Resize.{after_resize}
 use Rattle.device_model.specs.Event.Raise.{after_give, after_miss}
+use Rattle.device_model.specs.Event.Wake.{after_defer, after_wake, after_resume}
 
 abbrev pub after : Transition → PlainWorld → PlainWorld
 after (Transition.Poke x) w = after_poke x w
@@ -37,6 +38,9 @@ after (Transition.Commit k x r) w = after_commit k x r w
 after (Transition.CommitBusy k x) w = after_commit_busy k x w
 after (Transition.CommitAborted k x why) w = after_commit_aborted k x why w
 after (Transition.CommitUnknown k x) w = after_commit_unknown k x w
+after (Transition.Defer k x) w = after_defer k x w
+after Transition.Wake w = after_wake w
+after (Transition.Resume k x) w = after_resume k x w
 after (Transition.Answer k x o xs) w = after_answer k x o xs w
 after (Transition.Leave k u t jobs) w = after_leave k u t jobs w
 after (Transition.Mark t p m jobs) w = after_mark t p m jobs w

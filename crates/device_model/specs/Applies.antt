@@ -16,6 +16,7 @@ use Rattle.device_model.specs.Event.HandOff.{MayPut, MayTake}
 use Rattle.device_model.specs.Event.Mark.{MayMark}
 use Rattle.device_model.specs.Event.Check.{MayCheck}
 use Rattle.device_model.specs.Event.AnswerTmf.{MayRespond}
+use Rattle.device_model.specs.Event.Wake.{Awakens, MayResume}
 
 abbrev pub Applies : PlainWorld → Event → Type 0
 Applies w (Event.Poke x) = LiesIn (length w.memory) x.addr (length x.bytes)
@@ -34,3 +35,5 @@ Applies w Event.AnswerTmf = MayRespond w
 Applies w (Event.Hard place) = (u : PlainUnit) × UnitIs w place u
 Applies w (Event.Resize place blocks) = (u : PlainUnit) × UnitIs w place u × MayStep u (Step.Resize blocks)
 Applies w Event.Raise = (e : EventRecord) × (later : List EventRecord) × (w.waiting ≡ e ∷ later)
+Applies w Event.Wake = Awakens w
+Applies w (Event.Resume k) = MayResume w k

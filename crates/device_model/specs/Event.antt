@@ -12,3 +12,4 @@ pub mod AnswerTmf
 pub mod Hard
 pub mod Resize
 pub mod Raise
+pub mod Wake

@@ -22,6 +22,8 @@ pub data Event : Type 0 where
   Hard : ℕ → Event
   Resize : ℕ → ℕ → Event
   Raise : Event
+  Wake : Event
+  Resume : ℕ → Event
 
 -- an event of the code
 abbrev pub plain_event : declared.Event → Event
@@ -41,3 +43,5 @@ plain_event event.AnswerTmf = Event.AnswerTmf
 plain_event (event.Hard place) = Event.Hard place
 plain_event (event.Resize place blocks) = Event.Resize place blocks
 plain_event event.Raise = Event.Raise
+plain_event event.Wake = Event.Wake
+plain_event (event.Resume k) = Event.Resume k

@@ -20,6 +20,7 @@ use Rattle.device_model.specs.Event.AnswerTmf.{Responds}
 use Rattle.device_model.specs.Event.Hard.{Resets}
 use Rattle.device_model.specs.Event.Resize.{Resizes}
 use Rattle.device_model.specs.Event.Raise.{Gives, Misses}
+use Rattle.device_model.specs.Event.Wake.{Defers, Awakens, Resumes}
 use Rattle.device_model.specs.After.{after}
 
 -- the transition changes something, and may happen
@@ -44,6 +45,9 @@ Happens (Transition.Commit k x r) w = Commits w k x (Step.Commit x.entry.ticket 
 Happens (Transition.CommitBusy k x) w = CommitsBusy w k x
 Happens (Transition.CommitAborted k x why) w = CommitsAborted w k x why
 Happens (Transition.CommitUnknown k x) w = ⊥
+Happens (Transition.Defer k x) w = Defers w k x
+Happens Transition.Wake w = Awakens w
+Happens (Transition.Resume k x) w = Resumes w k x
 Happens (Transition.Answer k x o xs) w = Answers w k x o xs
 Happens (Transition.Leave k place t jobs) w = Leaves w k place t jobs
 Happens (Transition.Mark t p m jobs) w = Marks w t p m jobs

@@ -58,7 +58,7 @@ NoneIsCounted old new =
     (i : ℕ) (q : PlainQueue) → slice_get old.queues i ≡ Some q
     → (r : PlainQueue) × (slice_get new.queues i ≡ Some r) × (r.notices ≡ q.notices)
 
--- What the jobs of the seats and of the hand-off count, each by what p says of it
+-- What the jobs of the seats, of the hand-off and of those that wait for pages count, each by what p says of it
 
 abbrev pub in_hand : (PlainJob → ℕ) → Hand → ℕ
 in_hand p Hand.Empty = 0
@@ -70,7 +70,7 @@ abbrev pub at_seat : (PlainJob → ℕ) → Seat → ℕ
 at_seat p s = in_hand p s.hand + sum_by p s.out
 
 abbrev pub jobs_out : (PlainJob → ℕ) → PlainWorld → ℕ
-jobs_out p w = sum_by (at_seat p) w.seats + sum_by p (all_off w)
+jobs_out p w = sum_by (at_seat p) w.seats + sum_by p (all_off w) + sum_by p w.aside + sum_by p w.woken
 
 -- the jobs that a transition brings from a unit, or ends
 abbrev pub brings : Transition → List PlainJob

@@ -27,6 +27,7 @@ pub mod Answering
 pub mod Ordering
 pub mod Functions
 pub mod EventBuffers
+pub mod Waiting
 pub mod Promise
 pub mod Live
 pub mod Inner

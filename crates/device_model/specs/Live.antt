@@ -10,7 +10,7 @@ use Rattle.device_model.specs.After.{after}
 use Rattle.device_model.specs.Happens.{Occurrence, Happens, WorldStep, occurrence_of}
 use Rattle.device_model.specs.Places.{accepted_count, used_count}
 use Rattle.device_model.specs.Order.{IsNextOf, IsQuietOf}
-use Rattle.device_model.specs.Measure.{price, visits, answered_hand}
+use Rattle.device_model.specs.Measure.{price, visits, roused, answered_hand}
 use Rattle.device_model.specs.Settling.{visited}
 
 -- the same device with these bytes in memory
@@ -65,12 +65,18 @@ LiveSettlesOf asked w (t ∷ past) =
     × Happens t.transition (with_memory t.found (live_world w past))
     × IsNextLive asked (live_world w past) (event_of t.transition)
 
+-- how many jobs these have tried again
+abbrev pub live_roused : PlainWorld → List Turn → ℕ
+live_roused w [] = 0
+live_roused w (t ∷ past) = live_roused w past + roused (with_memory t.found (live_world w past)) t.transition
+
 -- the bound of a settling: what the guest wrote is no step
 abbrev pub IsShortLive : PlainWorld → List Turn → Type 0
 IsShortLive w more =
     length more + used_count price w
     ≤ accepted_count price (live_world w more) + sum_by answered_hand w.seats + visits w.function
     + 2 * sum_by visited (map transition_at more) + length w.waiting + length w.queues
+    + 2 * length w.woken + 2 * live_roused w more
 
 -- One event, with these bytes in memory as it began; these are what its writes left there; and a notice was decided by
 -- these

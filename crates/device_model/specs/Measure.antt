@@ -1,14 +1,16 @@
 -- What a device still owes, and what pays for it.
-use Rattle.std.specs.Prelude.{ℕ, zero, suc, ◌+◌, length, Option, Some, None}
+use Rattle.std.specs.Prelude.{ℕ, zero, suc, ◌+◌, ◌*◌, List, [], length, Option, Some, None}
 use Rattle.std.specs.List.{sum_by}
 use Rattle.ring_core.specs.declared.fault.RingFault.{RingFault}
 use Rattle.ring_core.specs.declared.log.Ticket.{Ticket}
+use Rattle.unit_model.specs.Jobs.{PlainJob}
 use Rattle.device_model.specs.Parts.{Hand}
 use Rattle.device_model.specs.World.{PlainQueue, Seat, Opened, PlainWorld}
 use Rattle.device_model.specs.Transitions.{Transition}
 use Rattle.device_model.specs.Weights.{Weights, held, fetches, nothing}
 
--- own: at most so many transitions are left of a chain in each place
+-- own: at most so many transitions are left of a chain in each place; where it waits for pages, of those that end it once
+-- it is tried again and they are there
 abbrev pub owed : Weights
 owed =
     record {
@@ -16,6 +18,7 @@ owed =
       direct = λ t. 1;
       kept = λ t. 5;
       off = λ t. 4;
+      aside = λ t. 2;
       taken = λ t. 3;
       done = λ t. 2;
       answered = λ t. 1;
@@ -45,10 +48,22 @@ if_whole (Some f) = 0
 abbrev pub whole : PlainQueue → ℕ
 whole q = if_whole q.ring.broken
 
+-- a job that is to be tried again is taken, and may be put aside once more
 abbrev pub measure : PlainWorld → ℕ
-measure w = held owed w + visits w.function + length w.waiting + sum_by whole w.queues
+measure w =
+    held owed w + 2 * length w.woken + visits w.function + length w.waiting + sum_by whole w.queues
 
--- a chain pays its price, a unit that a function visits 2, a hard reset and a resize 2, a write of the guest 1
+-- the jobs that a transition has tried again, and how many these are; each is taken, and may be put aside once more
+abbrev pub rouses : PlainWorld → Transition → List PlainJob
+rouses w (Transition.Mark t p m jobs) = w.aside
+rouses w (Transition.Hard p jobs) = w.aside
+rouses w Transition.Wake = w.aside
+rouses w d = []
+
+abbrev pub roused : PlainWorld → Transition → ℕ
+roused w d = length (rouses w d)
+
+-- a chain pays its price, a unit that a function visits 2, a hard reset and a resize 2, a write of the guest and a wake 1
 abbrev pub pays : Transition → ℕ
 pays (Transition.Mark t p m jobs) = 2
 pays (Transition.Ask t place rule b) = 2
@@ -56,6 +71,7 @@ pays (Transition.MarkRefused t) = 2
 pays (Transition.Hard p jobs) = 2
 pays (Transition.Resize place blocks) = 2
 pays (Transition.Poke x) = 1
+pays Transition.Wake = 1
 pays d = fetches price d
 
 abbrev pub if_answered : Hand → ℕ

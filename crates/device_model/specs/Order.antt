@@ -4,10 +4,11 @@ use Rattle.std.specs.List.{AllByRecursion, sum_by}
 use Rattle.ring_core.specs.State.{PlainChain}
 use Rattle.ring_core.specs.Offer.{Offers, Nothing}
 use Rattle.ring_core.specs.declared.log.Ticket.{Ticket}
+use Rattle.unit_model.specs.Jobs.{PlainJob}
 use Rattle.device_model.specs.World.{PlainWorld, Everywhere}
 use Rattle.device_model.specs.Events.{Event}
 use Rattle.device_model.specs.Applies.{Applies}
-use Rattle.device_model.specs.Places.{of_chain, accepted_count, used_count}
+use Rattle.device_model.specs.Places.{of_chain, of_job, at_unit, accepted_count, used_count}
 
 -- for each number below this one, rising
 abbrev pub each : (ℕ → List Event) → ℕ → List Event
@@ -15,7 +16,7 @@ each f zero = []
 each f (suc n) = each f n ++ f n
 
 abbrev pub of_seat : ℕ → List Event
-of_seat k = Event.Leave k ∷ Event.Answer k ∷ Event.Commit k ∷ Event.Put k ∷ Event.Take k ∷ []
+of_seat k = Event.Leave k ∷ Event.Answer k ∷ Event.Commit k ∷ Event.Put k ∷ Event.Take k ∷ Event.Resume k ∷ []
 
 -- own: the function, the event port, and what is ready to be answered; then each seat, what is nearest to its end
 -- first; then the requests that arrived; and new chains last
@@ -59,10 +60,23 @@ IsQuiet w = NoneApplies w (order_of w)
 abbrev pub IsQuietOf : (ℕ → Bool) → PlainWorld → Type 0
 IsQuietOf asked w = NoneApplies w (order_by asked (length w.queues) (length w.seats))
 
--- each accepted chain was used but for the event buffers that are held; no function is open, no event waits, and a
+-- the chains of the jobs that wait for pages, and of those that are parked
+abbrev pub waiting_count : (Ticket → ℕ) → PlainWorld → ℕ
+waiting_count p w = sum_by (of_job p) w.aside + sum_by (at_unit p) w.units
+
+-- a unit parks a job only where another of its jobs waits for pages
+abbrev pub AreBehindAside : PlainWorld → Type 0
+AreBehindAside w =
+    Everywhere (λ i u. AllByRecursion (λ (x : PlainJob). x.unit ≡ i → ⊥) w.aside → u.parked ≡ []) w.units
+
+-- each accepted chain was used but for the event buffers that are held, the jobs that wait for pages, and those that are
+-- parked behind such a job; no function is open, no event waits, and a
 -- queue that no fault broke has nothing for the device
 pub record IsAtRest (w : PlainWorld) : Type 0 where
-  pub chains : (p : Ticket → ℕ) → used_count p w + sum_by (of_chain p) w.buffers ≡ accepted_count p w
+  pub chains : (p : Ticket → ℕ)
+      → used_count p w + sum_by (of_chain p) w.buffers + waiting_count p w ≡ accepted_count p w
+  pub parked : AreBehindAside w
+  pub woken : w.woken ≡ []
   pub buffers : AllByRecursion (λ (c : PlainChain). c.ticket.queue ≡ 1) w.buffers
   pub closed : w.function ≡ None
   pub waiting : w.waiting ≡ []
@@ -71,7 +85,10 @@ pub record IsAtRest (w : PlainWorld) : Type 0 where
 -- the same where only the queues that are asked have nothing for the device: nothing but chains that weren't accepted,
 -- of other queues, is left
 pub record IsAtRestOf (asked : ℕ → Bool) (w : PlainWorld) : Type 0 where
-  pub chains : (p : Ticket → ℕ) → used_count p w + sum_by (of_chain p) w.buffers ≡ accepted_count p w
+  pub chains : (p : Ticket → ℕ)
+      → used_count p w + sum_by (of_chain p) w.buffers + waiting_count p w ≡ accepted_count p w
+  pub parked : AreBehindAside w
+  pub woken : w.woken ≡ []
   pub buffers : AllByRecursion (λ (c : PlainChain). c.ticket.queue ≡ 1) w.buffers
   pub closed : w.function ≡ None
   pub waiting : w.waiting ≡ []

@@ -11,7 +11,8 @@ use Rattle.ring_core.specs.Fetch.{Takes}
 use Rattle.ring_core.specs.declared.log.Ticket.{Ticket}
 use Rattle.request_intake.specs.Inventory.{PlainInventory}
 use Rattle.request_intake.specs.declared.decision.Decision.TheVariants as decision
-use Rattle.unit_model.specs.Tasks.{is_blocked, task_of}
+use Rattle.unit_model.specs.Tasks.{Entry, is_blocked, task_of}
+use Rattle.unit_model.specs.Lawful as history
 use Rattle.unit_model.specs.Steps.{Step, alive, is_alive, next_number}
 use Rattle.unit_model.specs.Marks.{mark_of}
 use Rattle.unit_model.specs.Clearing.{is_clear}
@@ -34,6 +35,7 @@ use Rattle.device_model.specs.Event.Mark.{MarksRefused}
 use Rattle.device_model.specs.Event.Check.{IsWaiting}
 use Rattle.device_model.specs.Event.Hard.{hard_code}
 use Rattle.device_model.specs.Event.Raise.{Misses}
+use Rattle.device_model.specs.Event.Wake.{Awakens, Resumes}
 
 -- of that number, if there is one
 abbrev pub Under : Option ℕ → (ℕ → Type 0) → Type 0
@@ -49,6 +51,7 @@ unit_of (Transition.EnterBusy x) = Some x.unit
 unit_of (Transition.Commit k x r) = Some x.unit
 unit_of (Transition.CommitBusy k x) = Some x.unit
 unit_of (Transition.CommitAborted k x why) = Some x.unit
+unit_of (Transition.Defer k x) = Some x.unit
 unit_of (Transition.Leave k place t jobs) = Some place
 unit_of (Transition.Mark t p m jobs) = Some p.unit
 unit_of (Transition.Ask t place rule b) = Some place
@@ -73,6 +76,7 @@ AsksUnit (Transition.CommitBusy k x) u = MayStep u (Step.Busy x.entry.ticket) ×
 AsksUnit (Transition.CommitAborted k x why) u =
     (is_alive x.entry.ticket u.steps ≡ true) × (mark_of x.entry.ticket u.steps ≡ Some why)
 AsksUnit (Transition.CommitUnknown k x) u = CannotCommit (task_of x.entry.ticket (alive u.steps)) x u.steps
+AsksUnit (Transition.Defer k x) u = ((e : Entry) × history.IsReady x.entry.ticket e u.steps) × (u.backed ≡ true)
 AsksUnit (Transition.Leave k place t jobs) u = MayStep u (Step.Leave t) × (jobs ≡ handed_out u (Step.Leave t))
 AsksUnit (Transition.Mark t p m jobs) u = (p.place ≡ length u.steps) × (jobs ≡ handed_out u (step_by m))
 AsksUnit (Transition.Ask t place rule b) u = b ≡ any_met rule (alive u.steps)
@@ -202,6 +206,9 @@ StandsFor (Transition.Take k from x) w = TakesJob w k from x
 StandsFor (Transition.Commit k x r) w = HasHand w k (Hand.Taken x)
 StandsFor (Transition.CommitBusy k x) w = HasHand w k (Hand.Taken x)
 StandsFor (Transition.CommitAborted k x why) w = HasHand w k (Hand.Taken x)
+StandsFor (Transition.Defer k x) w = HasHand w k (Hand.Taken x)
+StandsFor Transition.Wake w = Awakens w
+StandsFor (Transition.Resume k x) w = Resumes w k x
 StandsFor (Transition.Answer k x o xs) w = HasHand w k (Hand.Done x o)
 StandsFor (Transition.Leave k place t jobs) w = HasHand w k (Hand.Answered place t)
 StandsFor (Transition.Mark t p m jobs) w = IsLeft w t p.unit (Marking m) × HasSeat w 0

@@ -34,8 +34,8 @@ at_queue p q = of_slot p q.slot
 abbrev pub at_unit : (Ticket → ℕ) → PlainUnit → ℕ
 at_unit p u = sum_by (of_job p) u.parked
 
--- the slots of the queues, the parked jobs of the units, the jobs of the seats and of the hand-off, the open function,
--- and the event buffers
+-- the slots of the queues, the parked jobs of the units, the jobs of the seats, of the hand-off and of those that wait for
+-- pages, the open function, and the event buffers
 abbrev pub standing_count : (Ticket → ℕ) → PlainWorld → ℕ
 standing_count p w =
     sum_by (at_queue p) w.queues + sum_by (at_unit p) w.units + jobs_out (of_job p) w + of_function p w.function

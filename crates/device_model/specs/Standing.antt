@@ -7,6 +7,7 @@ use Rattle.unit_model.specs.Tasks.{Entry, task_of}
 use Rattle.unit_model.specs.Steps.{alive, done, next_number}
 use Rattle.unit_model.specs.Marks.{marked}
 use Rattle.unit_model.specs.Enabling.{enabled}
+use Rattle.unit_model.specs.Lawful.{IsReady}
 use Rattle.unit_model.specs.Jobs.{PlainJob}
 use Rattle.unit_model.specs.Unit.{PlainUnit}
 use Rattle.unit_model.specs.Asking.{IsNamed}
@@ -52,6 +53,8 @@ pub record AreOwned (w : PlainWorld) : Type 0 where
   pub parked : Everywhere (λ i u. AllByRecursion (IsJob w) u.parked) w.units
   pub seats : Everywhere (λ k s. HandOwns w s.hand × AllByRecursion (IsJob w) s.out) w.seats
   pub handed_off : AllByRecursion (IsJob w) (all_off w)
+  pub aside : AllByRecursion (IsJob w) w.aside
+  pub woken : AllByRecursion (IsJob w) w.woken
   pub function : FunctionOwns w w.function
   pub buffers : AllByRecursion (λ (c : PlainChain). (c.ticket.queue ≡ 1) × IsOwned w c) w.buffers
 
@@ -90,6 +93,22 @@ HandWorks w (Hand.Answered place t) = IsToLeave w place t
 pub record AreAtWork (w : PlainWorld) : Type 0 where
   pub seats : Everywhere (λ k s. HandWorks w s.hand × AllByRecursion (IsToCommit w) s.out) w.seats
   pub handed_off : AllByRecursion (IsToCommit w) (all_off w)
+  pub aside : AllByRecursion (IsToCommit w) w.aside
+  pub woken : AllByRecursion (IsToCommit w) w.woken
+
+-- a job that waits for pages: its unit's disk is one whose pages come and go, and its command may run
+pub record IsAside (w : PlainWorld) (x : PlainJob) : Type 0 where
+  pub unit : PlainUnit
+  pub there : UnitIs w x.unit unit
+  pub backed : unit.backed ≡ true
+  pub ready : IsReady x.entry.ticket x.entry unit.steps
+
+abbrev pub AreAside : PlainWorld → Type 0
+AreAside w = AllByRecursion (IsAside w) w.aside
+
+-- no unit's disk is one whose pages come and go
+abbrev pub NoneIsBacked : PlainWorld → Type 0
+NoneIsBacked w = Everywhere (λ i u. u.backed ≡ false) w.units
 
 -- Tickets
 
@@ -125,11 +144,12 @@ AreNamedThere w = (x : PlainJob) (i : ℕ) (q : PlainQueue) (u : PlainUnit) → 
 
 -- Room
 
--- no seat has more jobs than there may be tasks; each has its list of the hand-off, which has no more than the limit
+-- no seat has more jobs than there may be tasks, and no more wait for pages or are to be tried again; each seat has its list of the hand-off, which has no more than the limit
 pub record HaveRoom (w : PlainWorld) : Type 0 where
   pub seats : Everywhere (λ k s. length s.out ≤ 64 * length w.units) w.seats
   pub lists : length w.handed_off ≡ length w.seats
   pub handed_off : Everywhere (λ k jobs. length jobs ≤ w.limit) w.handed_off
+  pub waiting : length w.aside + length w.woken ≤ 64 * length w.units
 
 -- The function
 

@@ -44,6 +44,11 @@ pub data Transition : Type 0 where
   CommitBusy : ℕ → PlainJob → Transition
   CommitAborted : ℕ → PlainJob → Reason → Transition
   CommitUnknown : ℕ → PlainJob → Transition
+  -- its command needs pages that aren't in memory: the job is put aside
+  Defer : ℕ → PlainJob → Transition
+  -- the jobs that were put aside are to be tried again; a seat takes the first of these
+  Wake : Transition
+  Resume : ℕ → PlainJob → Transition
   Answer : ℕ → PlainJob → Outcome → Completion → Transition
   -- the unit, the ticket, and the jobs that are handed out
   Leave : ℕ → ℕ → Ticket → List PlainJob → Transition
@@ -91,6 +96,9 @@ event_of (Transition.Commit k x r) = Event.Commit k
 event_of (Transition.CommitBusy k x) = Event.Commit k
 event_of (Transition.CommitAborted k x why) = Event.Commit k
 event_of (Transition.CommitUnknown k x) = Event.Commit k
+event_of (Transition.Defer k x) = Event.Commit k
+event_of Transition.Wake = Event.Wake
+event_of (Transition.Resume k x) = Event.Resume k
 event_of (Transition.Answer k x o xs) = Event.Answer k
 event_of (Transition.Leave k u t jobs) = Event.Leave k
 event_of (Transition.Mark t p m jobs) = Event.Mark

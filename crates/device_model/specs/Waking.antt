@@ -18,15 +18,22 @@ abbrev pub IsTake : Event → Type 0
 IsTake (Event.Take k) = ⊤
 IsTake e = ⊥
 
--- the device takes it, not its guest or its operator
+-- of any seat
+abbrev pub IsResume : Event → Type 0
+IsResume (Event.Resume k) = ⊤
+IsResume e = ⊥
+
+-- the device takes it, not its guest, its operator or its host
 abbrev pub IsOwn : Event → Type 0
 IsOwn (Event.Poke x) = ⊥
 IsOwn (Event.Prepare k) = ⊥
 IsOwn (Event.Hard place) = ⊥
 IsOwn (Event.Resize place blocks) = ⊥
+IsOwn Event.Wake = ⊥
 IsOwn e = ⊤
 
--- whoever writes memory wakes each Fetch, since the guest's rings lie there; a job that was put wakes each Take
+-- whoever writes memory wakes each Fetch, since the guest's rings lie there; a job that was put wakes each Take; jobs that
+-- are to be tried again wake each Resume
 abbrev pub Wakes : PlainWorld → Transition → Event → Type 0
 Wakes w (Transition.Poke x) e = IsFetch e
 Wakes w (Transition.Arrive f x) e = IsAmong (Event.Enter (queue_fetched f) ∷ []) e
@@ -45,14 +52,17 @@ Wakes w (Transition.Take k from x) e = IsAmong (Event.Commit k ∷ []) e
 Wakes w (Transition.Commit k x r) e = IsAmong (Event.Answer k ∷ []) e
 Wakes w (Transition.CommitBusy k x) e = IsAmong (Event.Answer k ∷ []) e
 Wakes w (Transition.CommitAborted k x why) e = IsAmong (Event.Answer k ∷ []) e
+Wakes w (Transition.Defer k x) e = IsAmong (Event.Put k ∷ Event.Take k ∷ Event.Resume k ∷ []) e
+Wakes w Transition.Wake e = IsResume e
+Wakes w (Transition.Resume k x) e = IsAmong (Event.Commit k ∷ []) e
 Wakes w (Transition.Answer k x o xs) e = IsFetch e ⊎ IsAmong (Event.Leave k ∷ []) e
-Wakes w (Transition.Leave k place t jobs) e = IsAmong (Event.Put k ∷ Event.Take k ∷ Event.Check ∷ []) e
-Wakes w (Transition.Mark t p m jobs) e = IsAmong (Event.Put 0 ∷ Event.Check ∷ []) e
+Wakes w (Transition.Leave k place t jobs) e = IsAmong (Event.Put k ∷ Event.Take k ∷ Event.Resume k ∷ Event.Check ∷ []) e
+Wakes w (Transition.Mark t p m jobs) e = IsResume e ⊎ IsAmong (Event.Put 0 ∷ Event.Check ∷ []) e
 Wakes w (Transition.Ask t place rule b) e = IsAmong (Event.Check ∷ []) e
 Wakes w (Transition.MarkRefused t) e = IsAmong (Event.Check ∷ Event.AnswerTmf ∷ []) e
 Wakes w (Transition.Check t p) e = IsAmong (Event.AnswerTmf ∷ []) e
 Wakes w (Transition.Respond c r xs) e = IsFetch e
-Wakes w (Transition.Hard p jobs) e = IsAmong (Event.Put w.workers ∷ Event.Raise ∷ []) e
+Wakes w (Transition.Hard p jobs) e = IsResume e ⊎ IsAmong (Event.Put w.workers ∷ Event.Raise ∷ []) e
 Wakes w (Transition.Resize place blocks) e = IsAmong (Event.Raise ∷ []) e
 Wakes w (Transition.Give report c xs) e = IsFetch e
 Wakes w d e = ⊥

@@ -11,12 +11,13 @@ use Rattle.device_model.specs.Changing.{bit}
 use Rattle.device_model.specs.Places.{of_chain, of_job, of_function, at_unit, accepts, uses as of_used}
 
 -- by place: arrived at its queue, or ready to be answered there; parked in a unit, or in a list of a seat; handed off;
--- in a hand, to be committed, to be answered, or to leave; of the open function; an event buffer
+-- put aside for pages, or to be tried again; in a hand, to be committed, to be answered, or to leave; of the open function; an event buffer
 pub record Weights : Type 0 where
   pub arrived : Ticket → ℕ
   pub direct : Ticket → ℕ
   pub kept : Ticket → ℕ
   pub off : Ticket → ℕ
+  pub aside : Ticket → ℕ
   pub taken : Ticket → ℕ
   pub done : Ticket → ℕ
   pub answered : Ticket → ℕ
@@ -44,7 +45,7 @@ in_seat f s = in_hand f s.hand + sum_by (of_job f.kept) s.out
 abbrev pub held : Weights → PlainWorld → ℕ
 held f w =
     sum_by (in_queue f) w.queues + sum_by (at_unit f.kept) w.units + sum_by (in_seat f) w.seats
-    + sum_by (of_job f.off) (all_off w) + of_function f.opened w.function + sum_by (of_chain f.port) w.buffers
+    + sum_by (of_job f.off) (all_off w) + sum_by (of_job f.aside) w.aside + sum_by (of_job f.aside) w.woken + of_function f.opened w.function + sum_by (of_chain f.port) w.buffers
 
 -- Transitions counted, each by what p says of the ticket of its chain
 

@@ -38,6 +38,9 @@ pub record PlainWorld : Type 0 where
   pub units : List PlainUnit
   pub seats : List Seat
   pub workers : ℕ
+  -- jobs that wait for pages of their unit's disk, and those that are to be tried again
+  pub aside : List PlainJob
+  pub woken : List PlainJob
   -- for each seat the jobs that it handed off and that none took yet, and how many these may be
   pub handed_off : List (List PlainJob)
   pub limit : ℕ
@@ -105,6 +108,8 @@ pub record Opens (w : PlainWorld) : Type 0 where
   pub seated : length w.seats ≡ w.workers + 1
   pub handed_off : Everywhere (λ k jobs. jobs ≡ []) w.handed_off
   pub lists : length w.handed_off ≡ length w.seats
+  pub aside : w.aside ≡ []
+  pub woken : w.woken ≡ []
   pub function : w.function ≡ None
   pub buffers : w.buffers ≡ []
   pub missed : w.missed ≡ false

@@ -2,7 +2,7 @@
 //! steps that takes, and what each step lets go on. They say nothing of code: they hold of every program whose calls
 //! are transitions.
 
-ghost use Rattle.std.specs.Prelude.{ℕ, Bool, ◌≡◌, ◌⊎◌, ◌<◌, ◌≤◌, ◌+◌, List, [], ◌∷◌, length, map};
+ghost use Rattle.std.specs.Prelude.{ℕ, Bool, ◌≡◌, ◌⊎◌, ◌<◌, ◌≤◌, ◌+◌, ◌*◌, List, [], ◌∷◌, length, map};
 ghost use Rattle.std.specs.List.{sum_by};
 ghost use Rattle.ring_core.specs.declared.log.Ticket.{Ticket};
 ghost use Rattle.device_model.specs.World.{PlainWorld};
@@ -16,8 +16,8 @@ ghost use Rattle.device_model.specs.Found.{SeatIs, OffIs};
 ghost use Rattle.device_model.specs.Places.{of_chain, only, accepted_count, used_count};
 ghost use Rattle.device_model.specs.Turns.{count_changes};
 ghost use Rattle.device_model.specs.Applies.{Applies};
-ghost use Rattle.device_model.specs.Order.{IsNext, IsQuiet, IsAtRest, IsNextOf, IsQuietOf, IsAtRestOf};
-ghost use Rattle.device_model.specs.Measure.{measure, pays};
+ghost use Rattle.device_model.specs.Order.{IsNext, IsQuiet, IsAtRest, IsNextOf, IsQuietOf, IsAtRestOf, waiting_count};
+ghost use Rattle.device_model.specs.Measure.{measure, pays, roused};
 ghost use Rattle.device_model.specs.Settling.{Settles, SettlesOf, IsShort};
 ghost use Rattle.device_model.specs.Waking.{IsOwn, IsFetch, Wakes};
 
@@ -77,24 +77,30 @@ pub fn what_applies_happens()
 {}
 
 /// As long as a chain is outstanding, and isn't an event buffer that is held, an event of the device itself is next: no
-/// chain waits for something that never comes.
+/// chain waits for something that never comes. A chain may wait for pages of its unit's disk, or be parked behind one that
+/// does; where nothing waits for pages, none is.
 pub fn nothing_is_stuck()
-    ensures { (old : PlainWorld) (trace : List Occurrence) (w : PlainWorld) (t : Ticket) → Reached old trace w →
+    ensures next { (old : PlainWorld) (trace : List Occurrence) (w : PlainWorld) (t : Ticket) → Reached old trace w →
         used_count (only t) w < accepted_count (only t) w → sum_by (of_chain (only t)) w.buffers ≡ 0 →
-        (e : Event) × IsNext w e }
+        w.aside ≡ [] → (e : Event) × IsNext w e }
+    ensures waits { (old : PlainWorld) (trace : List Occurrence) (w : PlainWorld) (t : Ticket) → Reached old trace w →
+        used_count (only t) w < accepted_count (only t) w → sum_by (of_chain (only t)) w.buffers ≡ 0 →
+        waiting_count (only t) w ≡ 0 → (e : Event) × IsNext w e }
 {}
 
 /// Each step lowers what is still owed, but for what it brings. A chain brings its price as it is fetched, a function
-/// that visits a unit 2, a hard reset or a resize 2, and a write of the guest 1.
+/// that visits a unit 2, a hard reset or a resize 2, a write of the guest or a wake 1. Each job that is woken brings 2.
 pub fn each_transition_is_paid_for()
-    ensures { (w : PlainWorld) (d : Transition) → Happens d w → measure (after d w) + 1 ≤ measure w + pays d }
+    ensures { (w : PlainWorld) (d : Transition) → Happens d w → measure (after d w) + 1 ≤
+        measure w + pays d + 2 * roused w d }
 {}
 
 /// A device that is left alone takes no more steps than what there is to do pays for:
 ///
 /// - at most 7 for each chain;
 /// - 1 for each mark, waiting event, queue and answered task that it starts with;
-/// - 2 for each unit that a function visits.
+/// - 2 for each unit that a function visits;
+/// - 2 for each job that is to be tried again, from the start or by a mark of a function.
 pub fn a_settling_is_short()
     ensures { (old : PlainWorld) (trace : List Occurrence) (w : PlainWorld) (more : List Transition) → Reached old trace w →
         Settles w more → IsShort w more }

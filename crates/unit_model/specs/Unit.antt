@@ -1,5 +1,5 @@
 -- A logical unit as a plain value: what it opened with, its history, and the jobs that it holds.
-use Rattle.std.specs.Prelude.{◌≡◌, ◌++◌, Bool, List, [], ◌∷◌, map, filter}
+use Rattle.std.specs.Prelude.{◌≡◌, ◌++◌, Bool, false, List, [], ◌∷◌, map, filter}
 use Rattle.unit_model.specs.Tasks.{Entry}
 use Rattle.unit_model.specs.Steps.{Step, alive}
 use Rattle.unit_model.specs.Enabling.{is_parked}
@@ -16,10 +16,12 @@ pub record PlainUnit : Type 0 where
   pub parked : List PlainJob
   -- whether the replies of its Commits are kept, to be compared with those of receipts
   pub keeps_replies : Bool
+  -- whether its disk is one whose pages come and go
+  pub backed : Bool
 
--- own: a unit of which no step was taken
+-- own: a unit of which no step was taken, with all of its disk in memory
 abbrev pub opening_unit : Opening → Bool → PlainUnit
-opening_unit o keeps = record { opening = o; steps = []; parked = []; keeps_replies = keeps }
+opening_unit o keeps = record { opening = o; steps = []; parked = []; keeps_replies = keeps; backed = false }
 
 -- own: the unit after one more step, without the jobs that this hands out
 abbrev pub after : Step → PlainUnit → PlainUnit

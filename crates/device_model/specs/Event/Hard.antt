@@ -12,6 +12,7 @@ use Rattle.unit_attention.specs.Code.{code}
 use Rattle.unit_model.specs.Receipts.{unit_address}
 use Rattle.device_model.specs.Found.{UnitIs, handed_out}
 use Rattle.device_model.specs.Changing.{with_jobs}
+use Rattle.device_model.specs.Event.Wake.{waking}
 
 -- POWER ON, RESET, OR BUS DEVICE RESET OCCURRED (SPC-4 §4.5.6)
 abbrev pub hard_code : Code
@@ -34,11 +35,14 @@ pub record Resets (w : PlainWorld) (p : Place) (jobs : List PlainJob) : Type 0 w
   pub seat : Seat
   pub seat_there : slice_get w.seats w.workers ≡ Some seat
 
--- the operator's seat has the jobs that may run now; the driver is to be told
+-- the operator's seat has the jobs that may run now; the driver is to be told; each job that waits for pages is to be
+-- tried again, since a task that is marked ends without them
 abbrev pub after_hard : Place → List PlainJob → PlainWorld → PlainWorld
 after_hard p jobs w =
     record w {
       units = change (stepped (Step.Reset hard_code)) p.unit w.units;
       seats = change (with_jobs jobs) w.workers w.seats;
       waiting = w.waiting ++ reports_of (slice_get w.units p.unit);
+      aside = [];
+      woken = waking w;
     }

@@ -1,5 +1,5 @@
 -- The open function marks the tasks of its next unit, or looks at them.
-use Rattle.std.specs.Prelude.{ℕ, ◌≡◌, Bool, List, ◌∷◌, length, Some, slice_get}
+use Rattle.std.specs.Prelude.{ℕ, ◌≡◌, Bool, List, [], ◌∷◌, length, Some, slice_get}
 use Rattle.ring_core.specs.declared.log.Ticket.{Ticket}
 use Rattle.unit_model.specs.declared.rule.Rule.{Rule}
 use Rattle.unit_model.specs.Steps.{alive}
@@ -14,6 +14,7 @@ use Rattle.task_mgmt.specs.declared.function.Mark.{Mark as Place}
 use Rattle.device_model.specs.World.{Seat, Opened, PlainWorld, change}
 use Rattle.device_model.specs.Found.{UnitIs, handed_out}
 use Rattle.device_model.specs.Changing.{with_jobs, on_function}
+use Rattle.device_model.specs.Event.Wake.{waking}
 
 -- a function with a unit left to mark, or to look at
 pub record IsMarking (w : PlainWorld) (t : Ticket) (place : ℕ) (kind : Kind) : Type 0 where
@@ -33,13 +34,16 @@ pub record Marks (w : PlainWorld) (t : Ticket) (p : Place) (m : MarkBy) (jobs : 
   pub seat : Seat
   pub seat_there : slice_get w.seats 0 ≡ Some seat
 
--- the first worker's seat has the jobs that may run now
+-- the first worker's seat has the jobs that may run now; each job that waits for pages is to be tried again, since a
+-- task that is marked ends without them
 abbrev pub after_mark : Ticket → Place → MarkBy → List PlainJob → PlainWorld → PlainWorld
 after_mark t p m jobs w =
     record w {
       units = change (stepped (step_by m)) p.unit w.units;
       seats = change (with_jobs jobs) 0 w.seats;
       function = on_function (marking p) w.function;
+      aside = [];
+      woken = waking w;
     }
 
 pub record Asks (w : PlainWorld) (t : Ticket) (place : ℕ) (rule : Rule) (b : Bool) : Type 0 where

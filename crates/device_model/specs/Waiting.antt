@@ -1,0 +1,26 @@
+-- What becomes of jobs that wait for pages of their unit's disk.
+use Rattle.std.specs.Prelude.{◌≡◌, List, [], ◌∷◌, Option}
+use Rattle.scsi_codec.specs.declared.event_queue.Event.{Event as EventRecord}
+use Rattle.ring_core.specs.State.{PlainChain}
+use Rattle.unit_model.specs.Jobs.{PlainJob}
+use Rattle.unit_model.specs.Unit.{PlainUnit}
+use Rattle.device_model.specs.World.{PlainQueue, Opened, PlainWorld}
+use Rattle.device_model.specs.Transitions.{Transition}
+
+-- the job that a transition puts aside, and the one that it takes again
+abbrev pub deferred : Transition → List PlainJob
+deferred (Transition.Defer k x) = x ∷ []
+deferred d = []
+
+abbrev pub resumed : Transition → List PlainJob
+resumed (Transition.Resume k x) = x ∷ []
+resumed d = []
+
+-- what a guest may see of the device is as it was: memory and queues, units with their histories, the function and events
+pub record LooksAlike (old new : PlainWorld) : Type 0 where
+  pub memory : new.memory ≡ old.memory
+  pub queues : new.queues ≡ old.queues
+  pub units : new.units ≡ old.units
+  pub function : new.function ≡ old.function
+  pub buffers : new.buffers ≡ old.buffers
+  pub waiting : new.waiting ≡ old.waiting
