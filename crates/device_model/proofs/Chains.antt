@@ -419,17 +419,17 @@ function_turns p u v t (Some o) h z = (h.0, t o.chain h.1 z)
 -- all that stands turns
 pub turn : (p : Ticket → ℕ) (u v w : PlainWorld) → Turns p u v → standing_count p w ≡ 0 → Stand u w → Stand v w
 turn p u v w t z h =
-  let s = between_sum (of_job p) (all_off w) w.aside w.woken in (
-  every_turn (λ i q. SlotOwns u i q.slot) (λ i q. SlotOwns v i q.slot) (at_queue p) w.queues
-      (λ i q. slot_turns p u v t i q.slot) (omega (arith, z)) h.0,
-  every_turn (λ i x. JobsOwn u x.parked) (λ i x. JobsOwn v x.parked) (at_unit p) w.units
-      (λ i x a n. jobs_turn p u v t x.parked n a) (omega (arith, z)) h.1,
-  every_turn (λ k s. SeatOwns u s) (λ k s. SeatOwns v s) (at_seat (of_job p)) w.seats
-      (λ k s. seat_turns p u v t s) (omega (arith, z)) h.2,
-  jobs_turn p u v t (between w) (omega (arith, s, z)) h.3,
-  function_turns p u v t w.function h.4 (omega (arith, z)),
-  all_turn (BufferOwns u) (BufferOwns v) (of_chain p) w.buffers (λ c b n. (b.0, t c b.1 n)) (omega (arith, z)) h.5,
-)
+    let s = between_sum (of_job p) (all_off w) w.aside w.woken in (
+      every_turn (λ i q. SlotOwns u i q.slot) (λ i q. SlotOwns v i q.slot) (at_queue p) w.queues
+          (λ i q. slot_turns p u v t i q.slot) (omega (arith, z)) h.0,
+      every_turn (λ i x. JobsOwn u x.parked) (λ i x. JobsOwn v x.parked) (at_unit p) w.units
+          (λ i x a n. jobs_turn p u v t x.parked n a) (omega (arith, z)) h.1,
+      every_turn (λ k s. SeatOwns u s) (λ k s. SeatOwns v s) (at_seat (of_job p)) w.seats
+          (λ k s. seat_turns p u v t s) (omega (arith, z)) h.2,
+      jobs_turn p u v t (between w) (omega (arith, s, z)) h.3,
+      function_turns p u v t w.function h.4 (omega (arith, z)),
+      all_turn (BufferOwns u) (BufferOwns v) (of_chain p) w.buffers (λ c b n. (b.0, t c b.1 n)) (omega (arith, z)) h.5,
+    )
 
 -- no ticket has a weight
 

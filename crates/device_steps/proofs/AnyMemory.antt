@@ -50,6 +50,8 @@ elsewhere a b w Event.AnswerTmf is h =
 elsewhere a b w (Event.Hard place) is h = h
 elsewhere a b w (Event.Resize place blocks) is h = h
 elsewhere a b w Event.Raise is h = h
+elsewhere a b w Event.Wake is h = record { first = h.first; rest = h.rest; waits = h.waits }
+elsewhere a b w (Event.Resume k) is h = record { free = h.free; job = h.job; rest = h.rest; first = h.first }
 
 pub none_elsewhere : (a b : List ℕ) (w : PlainWorld) (xs : List Event) → AllByRecursion IsApart xs → NoneApplies (with_memory a w) xs
     → NoneApplies (with_memory b w) xs
@@ -62,7 +64,7 @@ start_elsewhere a b w h =
     record { function = none_elsewhere a b w of_function (tt, (tt, (tt, tt))) h.function; waiting = h.waiting }
 
 seats_elsewhere : (a b : List ℕ) (w : PlainWorld) → NoSeat (with_memory a w) → NoSeat (with_memory b w)
-seats_elsewhere a b w h = λ k lt. none_elsewhere a b w (of_seat k) (tt, (tt, (tt, (tt, (tt, tt))))) (h k lt)
+seats_elsewhere a b w h = λ k lt. none_elsewhere a b w (of_seat k) (tt, (tt, (tt, (tt, (tt, (tt, tt)))))) (h k lt)
 
 -- so nothing applies before a place, whatever stands in memory
 before_elsewhere : (a b : List ℕ) (w : PlainWorld) (c : Cursor) → NoneBefore c (with_memory a w) → NoneBefore c (with_memory b w)

@@ -14,6 +14,7 @@ use Rattle.device_model.specs.Waking.{IsFetch}
 use Rattle.device_model.specs.Changing.{slotted, with_job}
 use Rattle.device_model.specs.Applies.{Applies}
 use Rattle.device_model.specs.Event.HandOff.{MayPut, MayTake}
+use Rattle.device_model.specs.Event.Wake.{MayResume}
 use Rattle.device_model.specs.Found.{HasHand}
 use Rattle.device_model.specs.Standing.{SlotOwns}
 use Rattle.device_model.specs.Turns.{Turns}
@@ -557,7 +558,16 @@ module _ (sound : AreSound) (asked : ℕ → Bool) (w : PlainWorld) (whole : IsW
                           rest = m.rest;
                           handed_off = m.handed_off;
                         })),
-                    tt,
+                    (
+                      (λ (m : MayResume (record last { seats = w.seats }) k).
+                          h.1.1.1.1.1.0 (record {
+                            free = m.free;
+                            job = m.job;
+                            rest = m.rest;
+                            first = m.first;
+                          })),
+                      tt,
+                    ),
                   ),
                 ),
               ),

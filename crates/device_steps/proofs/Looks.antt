@@ -285,8 +285,9 @@ job_steps w k h jobs at free busy =
     job_there w k jobs (subst (λ (g : Hand). SeatIs w k g jobs) free at) (λ none. busy (free, none))
 
 -- an idle seat: it takes a job, where it is a worker's and one was handed off
-idle_seat : (w : PlainWorld) (k : ℕ) → SeatIs w k Hand.Empty [] → (MayTake w k → ⊥) → NoneApplies w (of_seat k)
-idle_seat w k at never =
+idle_seat : (w : PlainWorld) (k : ℕ) → w.woken ≡ [] → SeatIs w k Hand.Empty [] → (MayTake w k → ⊥)
+    → NoneApplies w (of_seat k)
+idle_seat w k woken at never =
     let i = stages.free w k ([], at) in (
       i.leave,
       (
@@ -295,14 +296,14 @@ idle_seat w k at never =
           i.commit,
           (
             (λ (m : MayPut w k). not_empty (ap (λ (s : Seat). s.out) (same (sym m.seat ∙ at)))),
-            (never, tt),
+            (never, (stages.none_resumes w k woken, tt)),
           ),
         ),
       ),
     )
 
-pub no_worker : (w : PlainWorld) (k : ℕ) → SeatIs w k Hand.Empty [] → (k < w.workers → ⊥) → NoneApplies w (of_seat k)
-no_worker w k at operator = idle_seat w k at (λ (m : MayTake w k). operator m.worker)
+pub no_worker : (w : PlainWorld) (k : ℕ) → w.woken ≡ [] → SeatIs w k Hand.Empty [] → (k < w.workers → ⊥) → NoneApplies w (of_seat k)
+no_worker w k woken at operator = idle_seat w k woken at (λ (m : MayTake w k). operator m.worker)
 
 bare : (w : PlainWorld) (k i : ℕ) → SeatIs w k Hand.Empty [] → k < w.workers → NoneApplies w (of_seat k)
     → (jobs : List PlainJob) → slice_get w.handed_off i ≡ Some jobs → jobs ≡ []
@@ -317,16 +318,16 @@ bare w k i at worker none (x ∷ rest) there =
       handed_off = there;
     }))
 
-pub takes : (w : PlainWorld) (k : ℕ) (b : Bool) → SeatIs w k Hand.Empty [] → k < w.workers → Denies (AreBare w.handed_off) b
+pub takes : (w : PlainWorld) (k : ℕ) (b : Bool) → w.woken ≡ [] → SeatIs w k Hand.Empty [] → k < w.workers → Denies (AreBare w.handed_off) b
     → Denies (NoneApplies w (of_seat k)) b
-takes w k true at worker h = λ none. h (λ i jobs there. bare w k i at worker none jobs there)
-takes w k false at worker h =
-    idle_seat w k at (λ (m : MayTake w k). not_empty (h m.from (m.job ∷ m.rest) m.handed_off))
+takes w k true woken at worker h = λ none. h (λ i jobs there. bare w k i at worker none jobs there)
+takes w k false woken at worker h =
+    idle_seat w k woken at (λ (m : MayTake w k). not_empty (h m.from (m.job ∷ m.rest) m.handed_off))
 
 -- All of them
 
 seats_quiet : (asked : ℕ → Bool) (w : PlainWorld) → AllQuiet asked w → NoSeat w
-seats_quiet asked w a k lt = let s = a.seats k lt in (s.leave, (s.answer, (s.commit, (s.put, (s.take, tt)))))
+seats_quiet asked w a k lt = let s = a.seats k lt in (s.leave, (s.answer, (s.commit, (s.put, (s.take, (s.resume, tt))))))
 
 pub function_quiet : (asked : ℕ → Bool) (w : PlainWorld) → IsQuietOf asked w → NoneApplies w of_function
 function_quiet asked w q = let a = all_quiet asked w q in (a.answer_tmf, (a.check, (a.mark, tt)))

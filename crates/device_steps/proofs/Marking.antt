@@ -24,7 +24,7 @@ use Rattle.device_model.proofs.Joining.{joins}
 use Rattle.phases.specs.DoingUnit.{with_more}
 use Rattle.phases.specs.Units.{MarksNext, MarksUnit, mark_at}
 use Rattle.device_steps.specs.Kept.{KeptSeat, seat_of}
-use Rattle.device_steps.proofs.Setting.{list_of, listing, unit_change, unit_still, seat_there, seat_more, seat_still, has_places}
+use Rattle.device_steps.proofs.Setting.{list_of, listing, unit_change, unit_still, seat_there, seat_more, seat_still, has_places, NoneWaits, none_woken}
 
 -- the list keeps its limit
 limit_of_kind : (inventory : PlainInventory) (f : Opened) (place : ℕ) (kind : Kind) (u : PlainUnit) (out : Jobs) (v : PlainUnit)
@@ -54,7 +54,7 @@ parts_are w a a' b b' c c' x y z = ap (λ l. parts w l b c) x ∙ ap (λ l. part
 abbrev pub marked_in : PlainWorld → List KeptSeat → ℕ → PlainUnit → ℕ → KeptSeat → Opened → PlainWorld
 marked_in w kept p v n t g = parts w (slice_set w.units p v) (map seat_of (slice_set kept n t)) (Some g)
 
-module _ (w : PlainWorld) (kept : List KeptSeat) (are : w.seats ≡ map seat_of kept) (f : Opened)
+module _ (w : PlainWorld) (none : NoneWaits w) (kept : List KeptSeat) (are : w.seats ≡ map seat_of kept) (f : Opened)
     (addressed : AreAddressed w) (there : w.function ≡ Some f) (p : ℕ) (later : List ℕ) (left : f.function.left ≡ p ∷ later) (u : PlainUnit)
     (u_at : slice_get w.units p ≡ Some u) (s : KeptSeat) (s_at : slice_get kept 0 ≡ Some s)
     (v : PlainUnit) (g : Opened) (out : Jobs) where
@@ -95,7 +95,8 @@ module _ (w : PlainWorld) (kept : List KeptSeat) (are : w.seats ≡ map seat_of 
     joins (Transition.Mark f.chain.ticket (mark_at p u) m (handed_out u (step_by m))) w
         (is_left (Marking m) is, (seat_of s, seat_there w.seats kept are 0 s s_at out)) (u, u_at, h.1.asks) tt,
     parts_are w _ _ _ _ _ _ (unit_change (stepped (step_by m)) w.units p u v u_at h.1.is)
-        (more (handed_out u (step_by m)) h.3) (function_to (marking (mark_at p u)) h.2),
+        (more (handed_out u (step_by m)) h.3) (function_to (marking (mark_at p u)) h.2)
+        ∙ none_woken (parts w _ _ _) none,
   )
   marks_unit (Marking m) is (inr h) = (
     Transition.MarkRefused f.chain.ticket,
@@ -114,18 +115,18 @@ module _ (w : PlainWorld) (kept : List KeptSeat) (are : w.seats ≡ map seat_of 
   )
 
 -- what a mark does is the event's turn
-pub marks : (w : PlainWorld) (kept : List KeptSeat) → w.seats ≡ map seat_of kept → HaveRoom w → AreAddressed w
+pub marks : (w : PlainWorld) (kept : List KeptSeat) → NoneWaits w → w.seats ≡ map seat_of kept → HaveRoom w → AreAddressed w
     → ((k : ℕ) (z : KeptSeat) → slice_get kept k ≡ Some z → z.limit ≡ 64 * length w.units + 64)
     → (f : Opened) → w.function ≡ Some f → (p : ℕ) (u : PlainUnit) (s : KeptSeat) → slice_get w.units p ≡ Some u
     → slice_get kept 0 ≡ Some s → (v : PlainUnit) (g : Opened) (out : Jobs) (left : List ℕ) → f.function.left ≡ left
     → slice_get left 0 ≡ Some p → (b : Bool) → MarksNext w.inventory f left u (list_of s) b v g out
     → Turns w Event.Mark b (marked_in w kept p v 0 (listing out s) g)
-marks w kept are room addressed limits f there p u s u_at s_at v g out [] is first b h = absurd (nothing first)
-marks w kept are room addressed limits f there p u s u_at s_at v g out (place ∷ later) is first false h =
+marks w kept none are room addressed limits f there p u s u_at s_at v g out [] is first b h = absurd (nothing first)
+marks w kept none are room addressed limits f there p u s u_at s_at v g out (place ∷ later) is first false h =
     absurd (h.0 (has_places w kept 0 s are room limits s_at))
-marks w kept are room addressed limits f there p u s u_at s_at v g out (place ∷ later) is first true h =
+marks w kept none are room addressed limits f there p u s u_at s_at v g out (place ∷ later) is first true h =
     subst
     (λ k. slice_get w.units k ≡ Some u → Turns w Event.Mark true (marked_in w kept k v 0 (listing out s) g))
     (same first)
-    (λ at. marks_unit w kept are f addressed there place later is u at s s_at v g out f.function.kind refl h)
+    (λ at. marks_unit w none kept are f addressed there place later is u at s s_at v g out f.function.kind refl h)
     u_at

@@ -151,6 +151,17 @@ module _ (seats : List Seat) (kept : List KeptSeat) (are : seats ≡ map seat_of
 pub none_more : (out : Jobs) (s : KeptSeat) → out ≡ with_more [] (list_of s) → out ≡ list_of s
 none_more out s is = is ∙ ap (λ (xs : List PlainJob). record { jobs = xs; limit = s.limit }) (append-nil s.jobs)
 
+-- no job waits for pages, and none is to be tried again
+abbrev pub NoneWaits : PlainWorld → Type 0
+NoneWaits w = (w.aside ≡ []) × (w.woken ≡ [])
+
+-- where none does, none is woken
+pub none_woken : (w : PlainWorld) → NoneWaits w → w ≡ record w { aside = []; woken = w.woken ++ w.aside }
+none_woken w none =
+    ap (λ (l : List PlainJob). record w { aside = l; woken = w.woken }) none.0
+    ∙ ap (λ (l : List PlainJob). record w { aside = []; woken = l })
+    (none.1 ∙ sym (ap (λ (l : List PlainJob). l ++ w.aside) none.1 ∙ none.0))
+
 -- there is room for all that a unit may hand out
 pub has_places : (w : PlainWorld) (kept : List KeptSeat) (n : ℕ) (s : KeptSeat) → w.seats ≡ map seat_of kept
     → HaveRoom w → ((k : ℕ) (z : KeptSeat) → slice_get kept k ≡ Some z → z.limit ≡ 64 * length w.units + 64)

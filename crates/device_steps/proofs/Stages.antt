@@ -1,6 +1,7 @@
 -- What the stage of a seat says of its events.
-use Rattle.std.proofs.Common.{◌≡◌, inl, inr, ℕ, None, refl, sym, ap, ◌∙◌}
+use Rattle.std.proofs.Common.{◌≡◌, inl, inr, ℕ, List, [], ◌∷◌, None, refl, sym, ap, ◌∙◌}
 use Rattle.std.specs.Prelude.{slice_get}
+use Rattle.unit_model.specs.Jobs.{PlainJob}
 use Rattle.device_model.specs.Parts.{Hand}
 use Rattle.device_model.specs.World.{PlainWorld, Seat}
 use Rattle.device_model.specs.Events.{Event}
@@ -15,6 +16,17 @@ use Rattle.device_steps.specs.declared.seat.Stage.TheVariants as stage
 abbrev Never : PlainWorld → Event → Type 0
 Never w e = Applies w e → ⊥
 
+no_job : {x : PlainJob} {xs : List PlainJob} → [] ≡ x ∷ xs → ⊥
+no_job e = cc
+
+-- where no job is to be tried again, no seat takes one
+pub none_resumes : (w : PlainWorld) (k : ℕ) → w.woken ≡ [] → Never w (Event.Resume k)
+none_resumes w k e h = no_job (sym e ∙ h.first)
+
+-- where none waits, none is woken
+pub none_wakes : (w : PlainWorld) → w.aside ≡ [] → Never w Event.Wake
+none_wakes w e h = no_job (sym e ∙ h.waits)
+
 -- a seat that isn't there has no event
 pub absent : (w : PlainWorld) (k : ℕ) → slice_get w.seats k ≡ None → NoneApplies w (of_seat k)
 absent w k none = (
@@ -23,7 +35,10 @@ absent w k none = (
     (λ a. nothing (sym none ∙ a.2.1)),
     (
       (λ a. nothing (sym none ∙ a.1.1)),
-      ((λ m. nothing (sym none ∙ m.seat)), ((λ m. nothing (sym none ∙ m.seat)), tt)),
+      (
+        (λ m. nothing (sym none ∙ m.seat)),
+        ((λ m. nothing (sym none ∙ m.seat)), ((λ m. nothing (sym none ∙ m.free.1)), tt)),
+      ),
     ),
   ),
 )

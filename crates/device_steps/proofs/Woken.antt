@@ -39,6 +39,7 @@ AfterSeat (Event.Commit k) = ⊤
 AfterSeat (Event.Answer k) = ⊤
 AfterSeat (Event.Leave k) = ⊤
 AfterSeat Event.Check = ⊤
+AfterSeat (Event.Resume k) = ⊤
 AfterSeat e = ⊥
 
 -- after a request came to its unit: its own queue's answer, or a job that a seat is to hand off
@@ -65,6 +66,7 @@ WokenBy (Event.Take k) e = AfterSeat e
 WokenBy (Event.Commit k) e = AfterSeat e
 WokenBy (Event.Answer k) e = AfterSeat e
 WokenBy (Event.Leave k) e = AfterSeat e
+WokenBy (Event.Resume k) e = AfterSeat e
 WokenBy (Event.Enter i) e = AfterEnter i e
 WokenBy (Event.Fetch i) e = AfterFetch i e
 WokenBy x e = ⊤
@@ -114,10 +116,13 @@ woken w (Transition.Commit k x r) e m h = among AfterSeat (Event.Answer k ∷ []
 woken w (Transition.CommitBusy k x) e m h = among AfterSeat (Event.Answer k ∷ []) e (tt, tt) h
 woken w (Transition.CommitAborted k x why) e m h = among AfterSeat (Event.Answer k ∷ []) e (tt, tt) h
 woken w (Transition.CommitUnknown k x) e m h = absurd m
+woken w (Transition.Defer k x) e m h =
+    among AfterSeat (Event.Put k ∷ Event.Take k ∷ Event.Resume k ∷ []) e (tt, (tt, (tt, tt))) h
+woken w (Transition.Resume k x) e m h = among AfterSeat (Event.Commit k ∷ []) e (tt, tt) h
 woken w (Transition.Answer k x o xs) e m (inl h) = fetch_after_seat e h
 woken w (Transition.Answer k x o xs) e m (inr h) = among AfterSeat (Event.Leave k ∷ []) e (tt, tt) h
 woken w (Transition.Leave k place t jobs) e m h =
-    among AfterSeat (Event.Put k ∷ Event.Take k ∷ Event.Check ∷ []) e (tt, (tt, (tt, tt))) h
+    among AfterSeat (Event.Put k ∷ Event.Take k ∷ Event.Resume k ∷ Event.Check ∷ []) e (tt, (tt, (tt, (tt, tt)))) h
 woken w (Transition.Idle x) e m h = absurd m
 woken w d e m h = tt
 
@@ -166,7 +171,7 @@ WakesAfterSeat e x = WokenBy x e → AfterSeat e
 
 wakes_after_seat : (w : PlainWorld) (k : ℕ) (x e : Event) → IsFirstOf w (of_seat k) x → WakesAfterSeat e x
 wakes_after_seat w k x e h =
-    first_all (WakesAfterSeat e) w (of_seat k) x (λ h. h, (λ h. h, (λ h. h, (λ h. h, (λ h. h, tt))))) h
+    first_all (WakesAfterSeat e) w (of_seat k) x (λ h. h, (λ h. h, (λ h. h, (λ h. h, (λ h. h, (λ h. h, tt)))))) h
 
 -- after an event of a seat, where no function is open: from the seats on
 after_seat : (w : PlainWorld) (d : Transition) (k : ℕ) → IsFirstOf w (of_seat k) (event_of d) → Happens d w → NoStart w
@@ -243,7 +248,10 @@ after_fetch w d i y is m none lt closed arrived =
             still w d x (Event.Commit k) is m tt (λ h. absurd h) (seat k less).1.1.0,
             (
               still w d x (Event.Put k) is m tt (λ h. absurd h) (seat k less).1.1.1.0,
-              (still w d x (Event.Take k) is m tt (λ h. absurd h) (seat k less).1.1.1.1.0, tt),
+              (
+                still w d x (Event.Take k) is m tt (λ h. absurd h) (seat k less).1.1.1.1.0,
+                (still w d x (Event.Resume k) is m tt (λ h. absurd h) (seat k less).1.1.1.1.1.0, tt),
+              ),
             ),
           ),
         ),

@@ -32,7 +32,7 @@ pub record PlainDevice : Type 0 where
   pub waiting : List EventRecord
   pub tells_changes : Bool
 
--- the device with these bytes in memory, which is shared or not
+-- the device with these bytes in memory, which is shared or not; no job waits for pages, since all disks are in memory
 abbrev pub standing : Bool → List ℕ → PlainDevice → PlainWorld
 standing shared m d =
     record {
@@ -43,6 +43,8 @@ standing shared m d =
       units = d.units;
       seats = d.seats;
       workers = d.workers;
+      aside = [];
+      woken = [];
       handed_off = d.handed_off;
       limit = d.limit;
       function = d.function;

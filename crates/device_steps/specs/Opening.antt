@@ -67,6 +67,8 @@ pub record IsOpeningFor (size : ℕ) (c : Config) (w : PlainWorld) : Type 0 wher
   pub idle : Everywhere (λ (k : ℕ) (s : _). IsNewSeat s) w.seats
   pub handed_off : Everywhere (λ (k : ℕ) (jobs : List PlainJob). jobs ≡ []) w.handed_off
   pub lists : length w.handed_off ≡ length w.seats
+  pub aside : w.aside ≡ []
+  pub woken : w.woken ≡ []
   pub function : w.function ≡ None
   pub buffers : w.buffers ≡ []
   pub missed : w.missed ≡ false

@@ -541,6 +541,23 @@ impl Device {
         raised
     }
 
+    /// Has the jobs that wait for pages tried again. A host calls it for a Wake. No job waits, since all disks are in memory:
+    /// nothing changes.
+    pub fn wake(&mut self) -> bool
+        ensures { TurnsAlone self.old AnEvent.Wake result self.new }
+    {
+        false
+    }
+
+    /// Has a seat take the first job that is to be tried again. A host calls it for a Resume. There is none, since no job
+    /// waits.
+    pub fn resume(&mut self, number: u16) -> bool
+        ensures { TurnsAlone self.old (AnEvent.Resume number) result self.new }
+    {
+        let _seat = number;
+        false
+    }
+
     /// Takes one event in any memory. A host calls it in a phase that wrote nothing yet. Returns true if it changed
     /// something. `NoMemory` where a Fetch, a Hard or a Resize was refused memory, which changed nothing.
     pub fn step_in<M: WritableMemory>(
@@ -579,6 +596,8 @@ impl Device {
             Event::Hard(place) => self.hard(*place),
             Event::Resize(place, blocks) => self.resize(*place, *blocks),
             Event::Raise => Ok(self.raise_in(memory)),
+            Event::Wake => Ok(self.wake()),
+            Event::Resume(seat) => Ok(self.resume(*seat)),
         }
     }
 }

@@ -192,6 +192,8 @@ fn print_event<W: Write>(out: &mut W, event: &Event) -> Result<(), Stop> {
         Event::Hard(_) => ("hard", ""),
         Event::Resize(_, _) => ("resize", ""),
         Event::Raise => ("raise", ""),
+        Event::Wake => ("wake", ""),
+        Event::Resume(_) => ("resume", "seat"),
     };
     written(write!(out, "trace: {word}"))?;
     match place_of(event) {
@@ -214,6 +216,7 @@ fn place_of(event: &Event) -> Option<u16> {
     match event {
         Event::Fetch(place) | Event::Enter(place) | Event::Direct(place) => Some(*place),
         Event::Put(place) | Event::Take(place) | Event::Prepare(place) => Some(*place),
+        Event::Resume(place) => Some(*place),
         Event::Commit(place) | Event::Answer(place) | Event::Leave(place) => Some(*place),
         _ => None,
     }

@@ -29,6 +29,7 @@ at_itself Part.HandOff w = refl
 at_itself Part.Function w = refl
 at_itself Part.Buffers w = (refl, refl)
 at_itself Part.Waiting w = refl
+at_itself Part.Aside w = (refl, refl)
 
 pub at_turned : (p : Part) (w v : PlainWorld) → At p w v → At p v w
 at_turned Part.Memory w v e = sym e
@@ -40,6 +41,7 @@ at_turned Part.HandOff w v e = sym e
 at_turned Part.Function w v e = sym e
 at_turned Part.Buffers w v e = (sym e.0, sym e.1)
 at_turned Part.Waiting w v e = sym e
+at_turned Part.Aside w v e = (sym e.0, sym e.1)
 
 at_chained : (p : Part) (w v u : PlainWorld) → At p w v → At p v u → At p w u
 at_chained Part.Memory w v u a b = a ∙ b
@@ -51,6 +53,7 @@ at_chained Part.HandOff w v u a b = a ∙ b
 at_chained Part.Function w v u a b = a ∙ b
 at_chained Part.Buffers w v u a b = (a.0 ∙ b.0, a.1 ∙ b.1)
 at_chained Part.Waiting w v u a b = a ∙ b
+at_chained Part.Aside w v u a b = (a.0 ∙ b.0, a.1 ∙ b.1)
 
 entering_same : (x : PlainJob) (w v : PlainWorld) → fixed w ≡ fixed v → entering x v ≡ entering x w
 entering_same x w v f =
@@ -66,7 +69,7 @@ parts_same (Transition.EnterFull x) w v f all = entering_same x w v f
 parts_same (Transition.EnterBusy x) w v f all = entering_same x w v f
 parts_same (Transition.EnterStale x) w v f all = entering_same x w v f
 parts_same (Transition.Hard p jobs) w v f all =
-    ap (λ (z : Fixed). Part.UnitAt p.unit ∷ Part.SeatAt z.workers ∷ Part.Waiting ∷ []) (sym f)
+    ap (λ (z : Fixed). Part.UnitAt p.unit ∷ Part.SeatAt z.workers ∷ Part.Waiting ∷ Part.Aside ∷ []) (sym f)
 parts_same d w v f all = refl
 
 -- Numbers of parts

@@ -142,6 +142,9 @@ seat_kept (Transition.CommitAborted k x why) w i out =
     other (with_hand (Hand.Done x (Outcome.Ended (Ending.Aborted why)))) k w.seats i (seat_apart i k (λ e. out (inl e)))
 seat_kept (Transition.CommitUnknown k x) w i out =
     other (with_hand (Hand.Done x (Outcome.Ended Ending.Lost))) k w.seats i (seat_apart i k (λ e. out (inl e)))
+seat_kept (Transition.Defer k x) w i out = other (with_hand Hand.Empty) k w.seats i (seat_apart i k (λ e. out (inl e)))
+seat_kept (Transition.Resume k x) w i out =
+    other (with_hand (Hand.Taken x)) k w.seats i (seat_apart i k (λ e. out (inl e)))
 seat_kept (Transition.Answer k x o xs) w i out =
     other (with_hand (Hand.Answered x.unit x.chain.ticket)) k w.seats i (seat_apart i k (λ e. out (inl e)))
 seat_kept (Transition.Leave k place t jobs) w i out = other (leaving jobs) k w.seats i (seat_apart i k (λ e. out (inl e)))
@@ -180,6 +183,15 @@ waiting_kept (Transition.Give e c xs) w out = absurd (out (inr (inl refl)))
 waiting_kept (Transition.Miss e) w out = absurd (out (inr (inl refl)))
 waiting_kept d w out = refl
 
+aside_kept : (d : Transition) (w : PlainWorld) → (Has (parts_of d w) Part.Aside → ⊥)
+    → ((after d w).aside ≡ w.aside) × ((after d w).woken ≡ w.woken)
+aside_kept (Transition.Defer k x) w out = absurd (out (inr (inr (inl refl))))
+aside_kept Transition.Wake w out = absurd (out (inl refl))
+aside_kept (Transition.Resume k x) w out = absurd (out (inr (inl refl)))
+aside_kept (Transition.Mark t p m jobs) w out = absurd (out (inr (inr (inr (inl refl)))))
+aside_kept (Transition.Hard p jobs) w out = absurd (out (inr (inr (inr (inl refl)))))
+aside_kept d w out = (refl, refl)
+
 pub others_kept : (d : Transition) (w : PlainWorld) (p : Part) → (Has (parts_of d w) p → ⊥) → At p (after d w) w
 others_kept d w Part.Memory out = memory_kept d w out
 others_kept d w (Part.Ring i) out = ring_kept d w i out
@@ -190,3 +202,4 @@ others_kept d w Part.HandOff out = off_kept d w out
 others_kept d w Part.Function out = function_kept d w out
 others_kept d w Part.Buffers out = buffers_kept d w out
 others_kept d w Part.Waiting out = waiting_kept d w out
+others_kept d w Part.Aside out = aside_kept d w out

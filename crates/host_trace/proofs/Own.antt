@@ -149,6 +149,8 @@ seat_own (Transition.CommitAborted k x why) w v i f all e =
     alike (with_hand (Hand.Done x (Outcome.Ended (Ending.Aborted why)))) k w.seats v.seats i e
 seat_own (Transition.CommitUnknown k x) w v i f all e =
     alike (with_hand (Hand.Done x (Outcome.Ended Ending.Lost))) k w.seats v.seats i e
+seat_own (Transition.Defer k x) w v i f all e = alike (with_hand Hand.Empty) k w.seats v.seats i e
+seat_own (Transition.Resume k x) w v i f all e = alike (with_hand (Hand.Taken x)) k w.seats v.seats i e
 seat_own (Transition.Answer k x o xs) w v i f all e =
     alike (with_hand (Hand.Answered x.unit x.chain.ticket)) k w.seats v.seats i e
 seat_own (Transition.Leave k place t jobs) w v i f all e = alike (leaving jobs) k w.seats v.seats i e
@@ -189,6 +191,18 @@ waiting_own (Transition.Give r c xs) w v f all e = ap (λ l. drop 1 l) e
 waiting_own (Transition.Miss r) w v f all e = ap (λ l. drop 1 l) e
 waiting_own d w v f all e = e
 
+-- those that wait are woken
+woken_own : (w v : PlainWorld) → At Part.Aside w v → w.woken ++ w.aside ≡ v.woken ++ v.aside
+woken_own w v e = ap (λ l. l ++ w.aside) e.1 ∙ ap (λ l. v.woken ++ l) e.0
+
+aside_own : (d : Transition) (w v : PlainWorld) → Own d w v Part.Aside
+aside_own (Transition.Defer k x) w v f all e = (ap (λ l. l ++ x ∷ []) e.0, e.1)
+aside_own Transition.Wake w v f all e = (refl, woken_own w v e)
+aside_own (Transition.Resume k x) w v f all e = (e.0, ap (λ l. drop 1 l) e.1)
+aside_own (Transition.Mark t p m jobs) w v f all e = (refl, woken_own w v e)
+aside_own (Transition.Hard p jobs) w v f all e = (refl, woken_own w v e)
+aside_own d w v f all e = e
+
 pub own_part : (d : Transition) (w v : PlainWorld) (p : Part) → Own d w v p
 own_part d w v Part.Memory f all e = memory_own d w v f all e
 own_part d w v (Part.Ring i) f all e = ring_own d w v i f all e
@@ -199,3 +213,4 @@ own_part d w v Part.HandOff f all e = off_own d w v f all e
 own_part d w v Part.Function f all e = function_own d w v f all e
 own_part d w v Part.Buffers f all e = buffers_own d w v f all e
 own_part d w v Part.Waiting f all e = waiting_own d w v f all e
+own_part d w v Part.Aside f all e = aside_own d w v f all e

@@ -259,6 +259,22 @@ happens_at (Transition.CommitAborted k x why) w v f all h =
       marked = h.marked;
     }
 happens_at (Transition.CommitUnknown k x) w v f all h = h
+happens_at (Transition.Defer k x) w v f all h =
+    record {
+      holds = hand_at w v k (Hand.Taken x) x.unit (all (Part.SeatAt k) (inl refl)) (all (Part.UnitAt x.unit) (inr
+          (inl refl))) h.holds;
+      entry = h.entry;
+      ready = h.ready;
+      backed = h.backed;
+    }
+happens_at Transition.Wake w v f all h =
+    record { first = h.first; rest = h.rest; waits = sym (all Part.Aside (inl refl)).0 ∙ h.waits }
+happens_at (Transition.Resume k x) w v f all h =
+    record {
+      free = (h.free.0, sym (all (Part.SeatAt k) (inl refl)) ∙ h.free.1);
+      rest = h.rest;
+      first = sym (all Part.Aside (inr (inl refl))).1 ∙ h.first;
+    }
 happens_at (Transition.Answer k x o xs) w v f all h =
     let q = x.chain.ticket.queue in
     let m = all Part.Memory (inr (inr (inl refl))) in

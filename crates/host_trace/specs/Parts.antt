@@ -19,6 +19,7 @@ pub data Part : Type 0 where
   Function : Part
   Buffers : Part
   Waiting : Part
+  Aside : Part
 
 -- what no transition changes
 pub record Fixed : Type 0 where
@@ -61,6 +62,7 @@ At Part.HandOff w v = w.handed_off ≡ v.handed_off
 At Part.Function w v = w.function ≡ v.function
 At Part.Buffers w v = (w.buffers ≡ v.buffers) × (w.missed ≡ v.missed)
 At Part.Waiting w v = w.waiting ≡ v.waiting
+At Part.Aside w v = (w.aside ≡ v.aside) × (w.woken ≡ v.woken)
 
 -- a fetch from the control queue looks whether a function is open
 abbrev pub control : ℕ → List Part
@@ -105,14 +107,17 @@ parts_of (Transition.Commit k x r) w = Part.SeatAt k ∷ Part.UnitAt x.unit ∷ 
 parts_of (Transition.CommitBusy k x) w = Part.SeatAt k ∷ Part.UnitAt x.unit ∷ []
 parts_of (Transition.CommitAborted k x why) w = Part.SeatAt k ∷ Part.UnitAt x.unit ∷ []
 parts_of (Transition.CommitUnknown k x) w = Part.SeatAt k ∷ Part.UnitAt x.unit ∷ []
+parts_of (Transition.Defer k x) w = Part.SeatAt k ∷ Part.UnitAt x.unit ∷ Part.Aside ∷ []
+parts_of Transition.Wake w = Part.Aside ∷ []
+parts_of (Transition.Resume k x) w = Part.SeatAt k ∷ Part.Aside ∷ []
 parts_of (Transition.Answer k x o xs) w = Part.SeatAt k ∷ Part.Ring x.chain.ticket.queue ∷ Part.Memory ∷ []
 parts_of (Transition.Leave k place t jobs) w = Part.SeatAt k ∷ Part.UnitAt place ∷ []
-parts_of (Transition.Mark t p m jobs) w = Part.Function ∷ Part.UnitAt p.unit ∷ Part.SeatAt 0 ∷ []
+parts_of (Transition.Mark t p m jobs) w = Part.Function ∷ Part.UnitAt p.unit ∷ Part.SeatAt 0 ∷ Part.Aside ∷ []
 parts_of (Transition.Ask t place rule b) w = Part.Function ∷ Part.UnitAt place ∷ []
 parts_of (Transition.MarkRefused t) w = Part.Function ∷ marked_next w.function
 parts_of (Transition.Check t p) w = Part.Function ∷ Part.UnitAt p.unit ∷ []
 parts_of (Transition.Respond c r xs) w = Part.Function ∷ Part.Ring c.ticket.queue ∷ Part.Memory ∷ []
-parts_of (Transition.Hard p jobs) w = Part.UnitAt p.unit ∷ Part.SeatAt w.workers ∷ Part.Waiting ∷ []
+parts_of (Transition.Hard p jobs) w = Part.UnitAt p.unit ∷ Part.SeatAt w.workers ∷ Part.Waiting ∷ Part.Aside ∷ []
 parts_of (Transition.Resize place blocks) w = Part.UnitAt place ∷ Part.Waiting ∷ []
 parts_of (Transition.Give e c xs) w = Part.Buffers ∷ Part.Waiting ∷ Part.Ring c.ticket.queue ∷ Part.Memory ∷ []
 parts_of (Transition.Miss e) w = Part.Buffers ∷ Part.Waiting ∷ []

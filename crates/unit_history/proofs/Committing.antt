@@ -1,5 +1,5 @@
 -- What a unit answers to a job that is committed, and what its parts are then.
-use Rattle.std.proofs.Common.{◌≡◌, ℕ, ◌+◌, ◌≤◌, Bool, inl, inr, List, ◌∷◌, map, length, Option, Some, None, is_some, IsTrue, refl, sym, ◌∙◌, ap, subst}
+use Rattle.std.proofs.Common.{◌≡◌, ℕ, ◌+◌, ◌≤◌, Bool, inl, inr, List, ◌∷◌, map, length, Option, Some, None, is_some, IsTrue, false, refl, sym, ◌∙◌, ap, subst}
 use Rattle.ring_core.specs.declared.log.Ticket.{Ticket}
 use Rattle.block_store.specs.Blocks.{Blocks}
 use Rattle.unit_attention.specs.declared.code.Code.{Code}
@@ -69,9 +69,9 @@ module _ {o : Opening} {past : List Step} {block_at : Blocks} {pending : List Co
   -- and what is answered
   pub commits_run : (j : PlainJob) (e : Entry) (keeps : Bool) (facts : Facts) (p : Option PlainPerformed) (block_at' : Blocks) (pending' : List Code)
       → IsOf j e past → IsReady j.entry.ticket e past → facts ≡ facts_after o past → Performs keeps facts e.command e.data_out p block_at block_at' pending pending'
-      → Commits (record { opening = o; steps = past; parked = parked_of tasks; keeps_replies = keeps }) j
+      → Commits (record { opening = o; steps = past; parked = parked_of tasks; keeps_replies = keeps; backed = false }) j
       (outcome_for (unit_address o) (length past) j.entry.ticket p)
-      (record { opening = o; steps = step_for j.entry.ticket p ∷ past; parked = parked_of (map (moved (finished j.entry.ticket)) tasks); keeps_replies = keeps })
+      (record { opening = o; steps = step_for j.entry.ticket p ∷ past; parked = parked_of (map (moved (finished j.entry.ticket)) tasks); keeps_replies = keeps; backed = false })
   commits_run j e keeps facts None block_at' pending' of ready as_told short = (
     e,
     of,

@@ -22,8 +22,8 @@ use Rattle.unit_history.proofs.Handing.{parked_run, parked_blocked, parked_full,
 -- units that say the same
 pub same_unit : (o : Opening) (steps steps' : List Step) (parked parked' : List PlainJob) (keeps keeps' : Bool)
     → steps' ≡ steps → parked' ≡ parked → keeps' ≡ keeps
-    → let u : PlainUnit = record { opening = o; steps = steps'; parked = parked'; keeps_replies = keeps' } in
-    let v : PlainUnit = record { opening = o; steps = steps; parked = parked; keeps_replies = keeps } in u ≡ v
+    → let u : PlainUnit = record { opening = o; steps = steps'; parked = parked'; keeps_replies = keeps'; backed = false } in
+    let v : PlainUnit = record { opening = o; steps = steps; parked = parked; keeps_replies = keeps; backed = false } in u ≡ v
 same_unit o steps steps' parked parked' keeps keeps' a b c = cc
 
 -- a ticket came to places that were made before
@@ -40,8 +40,8 @@ module _ {o : Opening} {past : List Step} {block_at : Blocks} {pending : List Co
   pub enters_full : (j : PlainJob) (steps' : List Step) (keeps keeps' : Bool) → j.address ≡ unit_address o
       → length tasks ≡ 64 → next_number j.entry.ticket.queue past ≤ j.entry.ticket.number
       → steps' ≡ Step.Full j.entry.ticket ∷ past → keeps' ≡ keeps
-      → Enters (record { opening = o; steps = past; parked = parked_of tasks; keeps_replies = keeps }) j (entered.Full j)
-      (record { opening = o; steps = steps'; parked = parked_of tasks; keeps_replies = keeps' })
+      → Enters (record { opening = o; steps = past; parked = parked_of tasks; keeps_replies = keeps; backed = false }) j (entered.Full j)
+      (record { opening = o; steps = steps'; parked = parked_of tasks; keeps_replies = keeps'; backed = false })
   enters_full j steps' keeps keeps' named full le steps kept = (
     refl,
     named,
@@ -56,7 +56,7 @@ module _ {o : Opening} {past : List Step} {block_at : Blocks} {pending : List Co
       → j.address ≡ unit_address o → length tasks < 64
       → next_number j.entry.ticket.queue past ≤ j.entry.ticket.number → x ≡ run_at_once tasks j
       → steps' ≡ Step.Enter j.entry ∷ past → keeps' ≡ keeps
-      → Enters (record { opening = o; steps = past; parked = parked_of tasks; keeps_replies = keeps }) j (entered_of x) (record { opening = o; steps = steps'; parked = parked_of (tasks ++ entering place tasks j ∷ []); keeps_replies = keeps' })
+      → Enters (record { opening = o; steps = past; parked = parked_of tasks; keeps_replies = keeps; backed = false }) j (entered_of x) (record { opening = o; steps = steps'; parked = parked_of (tasks ++ entering place tasks j ∷ []); keeps_replies = keeps'; backed = false })
   enters_task j (Some now) place steps' keeps keeps' named few le run steps kept =
       let free = run_free o past block_at pending tasks last_tickets room j now k (sym run) in (
         free.0,

@@ -17,7 +17,7 @@ use Rattle.unit_model.specs.Unit.{PlainUnit, Steps}
 use Rattle.unit_history.proofs.Keeping.{task_at_alive, task_at_none, is_done, is_marked}
 
 abbrev pub unit_with : Opening → List Step → List PlainJob → Bool → PlainUnit
-unit_with o steps jobs keeps = record { opening = o; steps = steps; parked = jobs; keeps_replies = keeps }
+unit_with o steps jobs keeps = record { opening = o; steps = steps; parked = jobs; keeps_replies = keeps; backed = false }
 
 same_unit : (o : Opening) (steps steps' : List Step) (jobs jobs' : List PlainJob) (keeps keeps' : Bool) → steps' ≡ steps → jobs' ≡ jobs → keeps' ≡ keeps
     → unit_with o steps' jobs' keeps' ≡ unit_with o steps jobs keeps

@@ -1,5 +1,5 @@
 -- What a unit keeps.
-use Rattle.std.specs.Prelude.{ℕ, List, [], ◌∷◌}
+use Rattle.std.specs.Prelude.{ℕ, false, List, [], ◌∷◌}
 use Rattle.block_store.specs.declared.paged.PagedStore.{PagedStore}
 use Rattle.unit_model.specs.Contents.{Opening}
 use Rattle.task_set.specs.Tasks.{parked_of}
@@ -24,6 +24,7 @@ opening_of u =
       profile = u.facts.profile;
     }
 
+-- no unit's disk is one whose pages come and go yet
 abbrev pub plain_unit : Inside → PlainUnit
 plain_unit u =
     record {
@@ -31,4 +32,5 @@ plain_unit u =
       steps = u.log.steps;
       parked = parked_of u.tasks;
       keeps_replies = u.log.keeps;
+      backed = false;
     }

@@ -60,7 +60,7 @@ apart_front queues seats =
     (each of_seat seats ++ each (λ q. Event.Enter q ∷ []) queues)
     (tt, (tt, (tt, (tt, all_each IsApart (λ q. Event.Direct q ∷ []) queues (λ k. (tt, tt))))))
     (all_append IsApart (each of_seat seats) (each (λ q. Event.Enter q ∷ []) queues)
-    (all_each IsApart of_seat seats (λ k. (tt, (tt, (tt, (tt, (tt, tt)))))))
+    (all_each IsApart of_seat seats (λ k. (tt, (tt, (tt, (tt, (tt, (tt, tt))))))))
     (all_each IsApart (λ q. Event.Enter q ∷ []) queues (λ k. (tt, tt))))
 
 append_again : (xs ys zs : List Event) → xs ++ (ys ++ zs) ≡ (xs ++ ys) ++ zs

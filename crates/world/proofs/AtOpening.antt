@@ -152,6 +152,8 @@ opens size c w is o =
       seated = o.seats ∙ ap (λ n. n + 1) (sym o.workers);
       handed_off = o.handed_off;
       lists = o.lists;
+      aside = o.aside;
+      woken = o.woken;
       function = o.function;
       buffers = o.buffers;
       missed = o.missed;
@@ -294,6 +296,8 @@ module _ (size : ℕ) (c : Config) (disks : List PagedStore) (bare w : PlainWorl
         seated = b.seated;
         handed_off = b.handed_off;
         lists = b.lists;
+        aside = b.aside;
+        woken = b.woken;
         function = b.function;
         buffers = b.buffers;
         missed = b.missed;

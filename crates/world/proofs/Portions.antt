@@ -120,6 +120,8 @@ pub rests_whole : (v : PlainWorld) → AskAlike (asks 4294967295) asks_all (leng
 rests_whole v same r =
     record {
       chains = r.chains;
+      parked = r.parked;
+      woken = r.woken;
       buffers = r.buffers;
       closed = r.closed;
       waiting = r.waiting;

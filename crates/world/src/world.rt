@@ -185,6 +185,8 @@ impl World {
             Event::Hard(place) => self.device.hard(*place),
             Event::Resize(place, blocks) => self.device.resize(*place, *blocks),
             Event::Raise => Ok(self.device.raise(&mut self.memory)),
+            Event::Wake => Ok(self.device.wake()),
+            Event::Resume(seat) => Ok(self.device.resume(*seat)),
         }
     }
 

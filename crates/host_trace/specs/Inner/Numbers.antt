@@ -1,4 +1,4 @@
--- A number for each part, of rows of nine.
+-- A number for each part, of rows of ten.
 use Rattle.std.specs.Prelude.{ℕ, ◌≡◌, ◌+◌, ◌*◌, ◌<◌, zero, suc, false, [], refl}
 use Rattle.std.proofs.Common.{ap, sym, ◌∙◌, arith, None}
 use Rattle.device_model.specs.World.{PlainWorld}
@@ -14,6 +14,7 @@ kind_of (Part.Ring i) = 5
 kind_of (Part.Slot i) = 6
 kind_of (Part.UnitAt i) = 7
 kind_of (Part.SeatAt i) = 8
+kind_of Part.Aside = 9
 
 abbrev pub index_of : Part → ℕ
 index_of (Part.Ring i) = i
@@ -23,7 +24,7 @@ index_of (Part.SeatAt i) = i
 index_of p = 0
 
 abbrev pub number : Part → ℕ
-number p = 9 * index_of p + kind_of p
+number p = 10 * index_of p + kind_of p
 
 abbrev back : ℕ → ℕ → Part
 back zero i = Part.Memory
@@ -34,7 +35,8 @@ back (suc (suc (suc (suc zero)))) i = Part.Waiting
 back (suc (suc (suc (suc (suc zero))))) i = Part.Ring i
 back (suc (suc (suc (suc (suc (suc zero)))))) i = Part.Slot i
 back (suc (suc (suc (suc (suc (suc (suc zero))))))) i = Part.UnitAt i
-back (suc (suc (suc (suc (suc (suc (suc (suc n)))))))) i = Part.SeatAt i
+back (suc (suc (suc (suc (suc (suc (suc (suc zero)))))))) i = Part.SeatAt i
+back (suc (suc (suc (suc (suc (suc (suc (suc (suc n))))))))) i = Part.Aside
 
 is_back : (p : Part) → back (kind_of p) (index_of p) ≡ p
 is_back Part.Memory = refl
@@ -46,8 +48,9 @@ is_back (Part.Ring i) = refl
 is_back (Part.Slot i) = refl
 is_back (Part.UnitAt i) = refl
 is_back (Part.SeatAt i) = refl
+is_back Part.Aside = refl
 
-small : (p : Part) → kind_of p < 9
+small : (p : Part) → kind_of p < 10
 small Part.Memory = omega arith
 small Part.HandOff = omega arith
 small Part.Function = omega arith
@@ -57,11 +60,12 @@ small (Part.Ring i) = omega arith
 small (Part.Slot i) = omega arith
 small (Part.UnitAt i) = omega arith
 small (Part.SeatAt i) = omega arith
+small Part.Aside = omega arith
 
-kinds : (i k j l : ℕ) → k < 9 → l < 9 → 9 * i + k ≡ 9 * j + l → k ≡ l
+kinds : (i k j l : ℕ) → k < 10 → l < 10 → 10 * i + k ≡ 10 * j + l → k ≡ l
 kinds i k j l a b e = omega (arith, a, b, e)
 
-rows : (i k j l : ℕ) → k < 9 → l < 9 → 9 * i + k ≡ 9 * j + l → i ≡ j
+rows : (i k j l : ℕ) → k < 10 → l < 10 → 10 * i + k ≡ 10 * j + l → i ≡ j
 rows i k j l a b e = omega (arith, a, b, e)
 
 -- no two parts have the same number
@@ -82,6 +86,8 @@ bare =
       units = [];
       seats = [];
       workers = 0;
+      aside = [];
+      woken = [];
       handed_off = [];
       limit = 0;
       function = None;

@@ -2,7 +2,7 @@ use Rattle.std.proofs.Common.{refl}
 use Rattle.device_model.proofs.waiting_laws.waiting_changes_only_when.Goals as goal
 
 pub returns-clause-aside : goal.returns-clause-aside
-returns-clause-aside c = 
+returns-clause-aside c =
     λ w k x.
     record {
       memory = refl;
@@ -14,7 +14,7 @@ returns-clause-aside c =
     }
 
 pub returns-clause-woken : goal.returns-clause-woken
-returns-clause-woken c = 
+returns-clause-woken c =
     λ w.
     record {
       memory = refl;
@@ -26,7 +26,7 @@ returns-clause-woken c =
     }
 
 pub returns-clause-taken : goal.returns-clause-taken
-returns-clause-taken c = 
+returns-clause-taken c =
     λ w k x.
     record {
       memory = refl;

@@ -41,6 +41,8 @@ returns g c =
           c.in_ok-handed_off.ensures.lists
           ∙ omega (arith, c.len-2.ensures, c.in_ok-seats.seats.ok.0, length-map c.in_ok-seats.seats.items seat_of);
       function = refl;
+      aside = refl;
+      woken = refl;
       buffers = ap (λ (p : PlainPort). p.buffers) c.in-Ok.ensures;
       missed = ap (λ (p : PlainPort). p.missed) c.in-Ok.ensures;
       waiting = c.new-3.ensures;

@@ -56,6 +56,6 @@ returns c shared m sound few =
     rw (← c.self.view_is)
     (subst (λ (r : Result Bool NoMemory). TurnsOrWants w (Event.Hard c.args.place) r
     (reset_in w d.seats.items c.args.place c.phase_hard.new.unit d.workers (listing c.phase_hard.new.out s) c.phase_hard.new.waiting)) same
-    (resets w d.seats.items refl firm.room firm.addressed (rw (← c.self.view_is) at few) c.self.invariant.limits c.args.place
+    (resets w d.seats.items (refl, refl) refl firm.room firm.addressed (rw (← c.self.view_is) at few) c.self.invariant.limits c.args.place
     c.index_mut.result.now c.phase_hard.new.unit s c.phase_hard.new.out c.phase_hard.new.waiting u_at s_at
     c.phase_hard.result c.phase_hard.ensures))

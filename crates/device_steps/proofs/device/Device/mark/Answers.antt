@@ -46,7 +46,7 @@ returns c shared m sound =
     ap (λ (o : Opened). slice_get o.function.left 0) (sym c.open.view_is) ∙ sym c.next_unit.ensures
     ∙ c.in-Some-next_unit.is in
     turns_seen shared m _ _ PlainEvent.Mark c.phase_mark.result _ c.self.view_is
-    (marks (standing shared m (seen.the_view d)) d.seats.items refl firm.room firm.addressed
+    (marks (standing shared m (seen.the_view d)) d.seats.items (refl, refl) refl firm.room firm.addressed
     c.self.invariant.limits f c.in-Some.is c.in-Some-next_unit.place c.index_mut.result.now s u_at s_at
     c.phase_mark.new.unit c.phase_mark.new.opened c.phase_mark.new.out f.function.left refl first
     c.phase_mark.result c.phase_mark.ensures)

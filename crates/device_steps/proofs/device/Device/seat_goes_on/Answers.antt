@@ -50,7 +50,7 @@ returns-then-number-self c shared m =
     (slice_get_read d.seats.items d.seats.len k s d.seats.ok.0
     (omega (arith, there, d.seats.ok.0, length-map d.seats.items seat_of)) c.index-seat.ensures) in
     rw (← c.self.view_is)
-    (no_worker w k (idle_there w k s.hand s.jobs at (c.if-not-is_idle.ensures.0 refl))
+    (no_worker w k refl (idle_there w k s.hand s.jobs at (c.if-not-is_idle.ensures.0 refl))
     (λ worker. omega (arith, worker, c.if-number-self.true)))
 
 pub returns : goal.returns
@@ -65,6 +65,6 @@ returns c shared m =
     (slice_get_read d.seats.items d.seats.len k s d.seats.ok.0
     (omega (arith, there, d.seats.ok.0, length-map d.seats.items seat_of)) c.index-seat.ensures) in
     rw (← c.self.view_is)
-    (takes w k c.has_job.result
+    (takes w k c.has_job.result refl
     (idle_there w k s.hand s.jobs at (c.if-not-is_idle.ensures.0 refl)) c.if-number-self.false
     c.has_job.ensures)

@@ -150,3 +150,25 @@ returns-in-Raise-clause-once g c = rw (c.in-Raise.is) tt
 
 pub returns-in-Fetch-clause-once : goal.returns-in-Fetch-clause-once
 returns-in-Fetch-clause-once g c = rw (c.in-Fetch.is) c.fetch_in.ensures.once
+
+pub returns-in-Wake-clause-turns : goal.returns-in-Wake-clause-turns
+returns-in-Wake-clause-turns g c =
+    rw (c.in-Wake.is)
+    (alone_in g.M.Memory.shared (g.M.Memory.may_be c.args.memory.now)
+    (Stored g.M.Memory.stored g.M.Memory.storing c.args.memory.now c.args.memory.now) c.args.self.now Event.Wake c.wake.result c.wake.new.self
+    (none_known g.M.Memory.stored g.M.Memory.storing g.met.M.Memory.none c.args.memory.now c.args.memory.now refl) tt
+    c.requires.sound c.wake.ensures)
+
+pub returns-in-Wake-clause-once : goal.returns-in-Wake-clause-once
+returns-in-Wake-clause-once g c = rw (c.in-Wake.is) tt
+
+pub returns-in-Resume-clause-turns : goal.returns-in-Resume-clause-turns
+returns-in-Resume-clause-turns g c =
+    rw (c.in-Resume.is)
+    (alone_in g.M.Memory.shared (g.M.Memory.may_be c.args.memory.now)
+    (Stored g.M.Memory.stored g.M.Memory.storing c.args.memory.now c.args.memory.now) c.args.self.now (Event.Resume c.in-Resume.seat) c.resume.result c.resume.new.self
+    (none_known g.M.Memory.stored g.M.Memory.storing g.met.M.Memory.none c.args.memory.now c.args.memory.now refl) tt
+    c.requires.sound c.resume.ensures)
+
+pub returns-in-Resume-clause-once : goal.returns-in-Resume-clause-once
+returns-in-Resume-clause-once g c = rw (c.in-Resume.is) tt

@@ -39,5 +39,5 @@ returns c =
     let none = stages.free (standing shared m d) k c.requires.free in
     let p = (alone_idle shared m d d (Event.Put k) c.put.result u c.if-put.false refl sound c.put.ensures).1 in (
       (λ a. inr (none.leave, inr (none.answer, inr (none.commit, inr (p, inl (a, refl)))))),
-      (λ never. (none.leave, (none.answer, (none.commit, (p, (never, tt)))))),
+      (λ never. (none.leave, (none.answer, (none.commit, (p, (never, (stages.none_resumes (standing shared m d) k refl, tt))))))),
     )) c.take.ensures

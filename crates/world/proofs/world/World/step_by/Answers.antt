@@ -133,3 +133,19 @@ invariant_of-self-in-Resize c =
 pub returns-in-Resize : goal.returns-in-Resize
 returns-in-Resize c =
     rw (c.in-Resize.is, ← c.self.view_is) (alone_steps_result c.self.inside.memory c.self.inside.device (Event.Resize c.in-Resize.place c.in-Resize.blocks) c.resize.result c.resize.new.self (subst IsSound (sym c.self.view_is) c.is_sound.ensures.sound) (subst AreFew (sym c.self.view_is) c.is_sound.ensures.few) c.resize.ensures)
+
+pub invariant_of-self-in-Wake : goal.invariant_of-self-in-Wake
+invariant_of-self-in-Wake c =
+    alone_steady c.self.inside.memory c.self.inside.device Event.Wake c.wake.result c.wake.new.self (subst IsSound (sym c.self.view_is) c.is_sound.ensures.sound) c.self.invariant c.wake.ensures
+
+pub returns-in-Wake : goal.returns-in-Wake
+returns-in-Wake c =
+    rw (c.in-Wake.is, ← c.self.view_is) (alone_steps c.self.inside.memory c.self.inside.device Event.Wake c.wake.result c.wake.new.self (subst IsSound (sym c.self.view_is) c.is_sound.ensures.sound) c.wake.ensures)
+
+pub invariant_of-self-in-Resume : goal.invariant_of-self-in-Resume
+invariant_of-self-in-Resume c =
+    alone_steady c.self.inside.memory c.self.inside.device (Event.Resume c.in-Resume.seat) c.resume.result c.resume.new.self (subst IsSound (sym c.self.view_is) c.is_sound.ensures.sound) c.self.invariant c.resume.ensures
+
+pub returns-in-Resume : goal.returns-in-Resume
+returns-in-Resume c =
+    rw (c.in-Resume.is, ← c.self.view_is) (alone_steps c.self.inside.memory c.self.inside.device (Event.Resume c.in-Resume.seat) c.resume.result c.resume.new.self (subst IsSound (sym c.self.view_is) c.is_sound.ensures.sound) c.resume.ensures)
