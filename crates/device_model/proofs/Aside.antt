@@ -14,7 +14,7 @@ use Rattle.device_model.specs.World.{PlainWorld, Opens, change, Everywhere, all_
 use Rattle.device_model.specs.Transitions.{Transition}
 use Rattle.device_model.specs.Event.Hard.{hard_code}
 use Rattle.device_model.specs.After.{after}
-use Rattle.device_model.specs.Happens.{May, Occurrence, Runs, Reached}
+use Rattle.device_model.specs.Happens.{May, Occurrence, Runs}
 use Rattle.device_model.specs.Standing.{IsAside, AreAside, NoneIsBacked}
 use Rattle.device_model.proofs.Lists.{same, there_change, at_other}
 use Rattle.device_model.proofs.Staying.{run_keeps, everywhere}

@@ -7,7 +7,6 @@ use Rattle.std.proofs.lemmas.List.Filters.{sum_by-filter_both}
 use Rattle.std.proofs.lemmas.Bool.Decides.{nat_tests}
 use Rattle.std.proofs.Math.Dec.{eqb-suc-zero, eqb-zero-suc, eqb-suc-suc}
 use Rattle.ring_core.specs.State.{tickets}
-use Rattle.ring_core.specs.Writes.{all_written}
 use Rattle.ring_core.specs.declared.log.Ticket.{Ticket}
 use Rattle.unit_model.specs.Endings.{Ending}
 use Rattle.unit_model.specs.Steps.{Step}

@@ -1,22 +1,21 @@
 -- A run on a live memory is a run with writes of the guest.
-use Rattle.std.proofs.Common.{◌≡◌, ℕ, Bool, false, true, ◌+◌, ◌*◌, ◌≤◌, List, [], ◌∷◌, ◌++◌, map, length, take, drop, refl, sym, ◌∙◌, ap, subst, arith, inl, inr}
-use Rattle.std.specs.Prelude.{⊤}
+use Rattle.std.proofs.Common.{◌≡◌, ℕ, Bool, false, true, ◌+◌, ◌*◌, ◌≤◌, List, [], ◌∷◌, ◌++◌, map, length, drop, refl, sym, ◌∙◌, ap, subst, arith, inl, inr}
 use Rattle.std.specs.List.{sum_by}
 use Rattle.std.proofs.Math.Seq.{drop-length}
 use Rattle.std.proofs.lemmas.List.{append-nil}
 use Rattle.std.proofs.lemmas.List.Sums.{sum_by-cons}
-use Rattle.guest_mem.specs.Memory.{LiesIn, with_bytes}
+use Rattle.guest_mem.specs.Memory.{with_bytes}
 use Rattle.ring_core.specs.declared.log.Ticket.{Ticket}
 use Rattle.device_model.specs.World.{PlainWorld}
 use Rattle.device_model.specs.Events.{Event}
-use Rattle.device_model.specs.Transitions.{Transition, event_of, action_of}
+use Rattle.device_model.specs.Transitions.{event_of, action_of}
 use Rattle.device_model.specs.Changing.{bit}
 use Rattle.device_model.specs.After.{after}
-use Rattle.device_model.specs.Happens.{Occurrence, Happens, WorldStep, Runs, Reached, occurrence_of}
+use Rattle.device_model.specs.Happens.{Occurrence, WorldStep, Runs, Reached, occurrence_of}
 use Rattle.device_model.specs.Turns.{Turns, count_changes}
-use Rattle.device_model.specs.Places.{accepted_count, used_count}
+use Rattle.device_model.specs.Places.{accepted_count}
 use Rattle.device_model.specs.Weights.{fetches}
-use Rattle.device_model.specs.Measure.{price, visits, answered_hand, measure}
+use Rattle.device_model.specs.Measure.{price, measure}
 use Rattle.device_model.specs.Settling.{visited}
 use Rattle.device_model.specs.Waking.{IsOwn}
 use Rattle.device_model.specs.Live.{with_memory, refill, IsRefilled, LiveRuns, Turn, live_world, occurrence_at, transition_at, IsNextLive, LiveSettlesOf, live_roused, IsShortLive, TurnsAt}

@@ -3,7 +3,6 @@ use Rattle.std.proofs.Common.{Bool, true, false, ◌≡◌, ℕ, ◌+◌, ◌*�
 use Rattle.std.specs.Prelude.{◌⊎◌, slice_get}
 use Rattle.std.specs.List.{sum_by}
 use Rattle.std.proofs.lemmas.List.{length_push}
-use Rattle.ring_core.specs.Writes.{all_written}
 use Rattle.unit_model.specs.Endings.{Ending}
 use Rattle.unit_model.specs.Unit.{PlainUnit}
 use Rattle.task_mgmt.specs.Functions.{PlainFunction, marking, next_look, asking, failing, checking}

@@ -3,7 +3,6 @@ use Rattle.std.proofs.Common.{◌≡◌, ℕ, Bool, true, false, not, cond, List
 use Rattle.std.specs.Prelude.{slice_get, ⊤}
 use Rattle.std.specs.List.{AllByRecursion, sum_by}
 use Rattle.std.proofs.lemmas.List.Sums.{sum_by-cons}
-use Rattle.ring_core.specs.Writes.{all_written}
 use Rattle.unit_model.specs.Endings.{Ending}
 use Rattle.unit_model.specs.Tasks.{same_ticket}
 use Rattle.unit_model.specs.Steps.{Step}

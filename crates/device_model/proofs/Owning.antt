@@ -6,7 +6,6 @@ use Rattle.std.proofs.lemmas.Bool.{eq-eqb}
 use Rattle.std.proofs.lemmas.List.Sums.{sum_by-cons}
 use Rattle.unit_model.specs.Endings.{Ending}
 use Rattle.ring_core.specs.State.{PlainChain, Owns}
-use Rattle.ring_core.specs.Writes.{all_written}
 use Rattle.ring_core.specs.declared.log.Ticket.{Ticket}
 use Rattle.device_model.specs.Parts.{PlainFetch, Outcome, Slot, Hand}
 use Rattle.device_model.specs.World.{PlainQueue, PlainWorld, Opens, change, all_off}

@@ -2,7 +2,6 @@
 use Rattle.std.proofs.Common.{◌≡◌, ℕ, Some}
 use Rattle.std.specs.Prelude.{slice_get}
 use Rattle.unit_model.specs.Steps.{Step}
-use Rattle.ring_core.specs.Writes.{all_written}
 use Rattle.unit_model.specs.Unit.{PlainUnit, after as stepped, parking}
 use Rattle.task_mgmt.specs.Functions.{step_by}
 use Rattle.device_model.specs.Parts.{Outcome, Slot}

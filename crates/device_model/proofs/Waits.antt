@@ -1,23 +1,22 @@
 -- What becomes of jobs that wait for pages.
-use Rattle.std.proofs.Common.{◌≡◌, ℕ, ◌+◌, ◌≤◌, List, [], ◌∷◌, length, Some, None, is_some, refl, sym, ◌∙◌, ap, subst, arith}
-use Rattle.std.specs.Prelude.{slice_get, Bool, true, false}
+use Rattle.std.proofs.Common.{◌≡◌, ℕ, ◌+◌, ◌≤◌, List, [], ◌∷◌, length, Some, is_some, refl, sym, ◌∙◌, ap, arith}
+use Rattle.std.specs.Prelude.{slice_get, Bool, false}
 use Rattle.std.specs.List.{sum_by}
 use Rattle.std.proofs.lemmas.List.Sums.{sum_by-append, sum_by_push}
 use Rattle.ring_core.specs.declared.log.Ticket.{Ticket}
 use Rattle.unit_model.specs.declared.reason.Reason.{Reason}
-use Rattle.unit_model.specs.Steps.{Step}
 use Rattle.unit_model.specs.Marks.{mark_of, marked}
 use Rattle.unit_model.proofs.Tickets.{clash}
 use Rattle.unit_model.specs.Jobs.{PlainJob}
 use Rattle.unit_model.specs.Unit.{PlainUnit}
 use Rattle.device_model.specs.Parts.{Hand}
-use Rattle.device_model.specs.World.{Seat, PlainWorld, Opens}
+use Rattle.device_model.specs.World.{Seat, PlainWorld}
 use Rattle.device_model.specs.Events.{Event}
 use Rattle.device_model.specs.Transitions.{Transition, event_of}
 use Rattle.device_model.specs.After.{after}
-use Rattle.device_model.specs.Happens.{Happens, May, Occurrence, Runs, Reached, world_of}
+use Rattle.device_model.specs.Happens.{Happens, May, Occurrence, Reached, world_of}
 use Rattle.device_model.specs.Found.{UnitIs, HasHand, HandAtUnit}
-use Rattle.device_model.specs.Places.{of_chain, of_job, only, accepted_count, used_count, standing_count}
+use Rattle.device_model.specs.Places.{of_chain, of_job, only, accepted_count, used_count}
 use Rattle.device_model.specs.Standing.{NoneIsBacked}
 use Rattle.device_model.specs.Order.{IsQuiet, IsAtRestOf}
 use Rattle.device_model.specs.Measure.{rouses, roused}

@@ -1,10 +1,7 @@
 -- What becomes of jobs that wait for pages of their unit's disk.
-use Rattle.std.specs.Prelude.{◌≡◌, List, [], ◌∷◌, Option}
-use Rattle.scsi_codec.specs.declared.event_queue.Event.{Event as EventRecord}
-use Rattle.ring_core.specs.State.{PlainChain}
+use Rattle.std.specs.Prelude.{◌≡◌, List, [], ◌∷◌}
 use Rattle.unit_model.specs.Jobs.{PlainJob}
-use Rattle.unit_model.specs.Unit.{PlainUnit}
-use Rattle.device_model.specs.World.{PlainQueue, Opened, PlainWorld}
+use Rattle.device_model.specs.World.{PlainWorld}
 use Rattle.device_model.specs.Transitions.{Transition}
 
 -- the job that a transition puts aside, and the one that it takes again

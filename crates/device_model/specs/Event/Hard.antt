@@ -1,5 +1,5 @@
 -- The operator resets a unit.
-use Rattle.std.specs.Prelude.{◌≡◌, List, [], ◌∷◌, length, Some, None, slice_get, ◌+◌, ◌++◌, Option}
+use Rattle.std.specs.Prelude.{◌≡◌, List, [], ◌∷◌, length, Some, None, slice_get, ◌++◌, Option}
 use Rattle.scsi_codec.specs.declared.event_queue.Event.{Event as EventRecord}
 use Rattle.scsi_codec.specs.EventQueue.{transport_reset}
 use Rattle.unit_model.specs.Steps.{Step}
