@@ -1,5 +1,5 @@
 -- An item of a list that is set is the item changed; the same of the seats as they are kept.
-use Rattle.std.proofs.Common.{◌≡◌, ◌≤◌, ℕ, ◌+◌, ◌*◌, zero, suc, Bool, List, [], ◌∷◌, length, Some, refl, sym, ap, ◌∙◌, subst, arith}
+use Rattle.std.proofs.Common.{◌≡◌, ◌≤◌, ℕ, ◌+◌, ◌*◌, zero, suc, Bool, List, [], ◌∷◌, ◌++◌, length, Some, refl, sym, ap, ◌∙◌, subst, arith}
 use Rattle.std.specs.Prelude.{slice_get, slice_set, map}
 use Rattle.std.proofs.lemmas.List.{append-nil}
 use Rattle.unit_model.specs.Jobs.{PlainJob, Jobs}
