@@ -66,7 +66,7 @@ returns-then-turned-clause-turns g c =
     (c.requires.start found (inv.stays found was)) (c.requires.direct found (inv.stays found was)) (inv.below found was)
     (omega (arith, c.loop-number-test.true, inv.all))
     (first_other (stored x y) left seen (of_seat n) (standing shared found d) (standing shared left d')
-    ((λ is. is), ((λ is. is), ((λ is. is), ((λ is. is), ((λ is. is), tt))))) t) (c.after_seat.ensures shared left))
+    ((λ is. is), ((λ is. is), ((λ is. is), ((λ is. is), ((λ is. is), ((λ is. is), tt)))))) t) (c.after_seat.ensures shared left))
     (firsts_in shared middle after (stored x y) (of_seat n) d call.result d' c.if-turned.true turn)))
 
 pub loop-number-preserved : goal.loop-number-preserved
