@@ -1,4 +1,4 @@
-//! What the operator's acts weigh in the ledger that has their sum.
+//! Weighs the operator's acts in the ledger that has their sum.
 
 ghost use Rattle.std.specs.Prelude.{◌≡◌, ◌+◌, ◌<◌, ℕ, Option};
 ghost use Rattle.scsi_codec.specs.declared.lun.Address.{Address};
@@ -11,7 +11,7 @@ use std::sync::ledger::{Book, Ledger, Share};
 /// every weighing, and what runs can't tell one from another. So two lists of acts that weigh the same whatever the
 /// weighing have the same acts, each as often: as many of each kind, on each unit, to each capacity.
 pub trait Weighing {
-    /// What an act on the unit of an address weighs: `None` is a hard reset, and `Some` a resize to so many blocks.
+    /// Gives what an act on the unit of an address weighs: `None` is a hard reset, and `Some` a resize to so many blocks.
     ghost weight: { Address → Option ℕ → ℕ };
 
     /// Adds what an act weighs to a share, and to the book of its ledger. `Acts` calls, for each act.
