@@ -1,6 +1,6 @@
 //! A queue with the notes Direct of its requests, and with what its fetches left.
 
-ghost use Rattle.std.specs.Prelude.{◌≡◌, ◌<◌, length, vec_len, is_some, IfSome, Some};
+ghost use Rattle.std.specs.Prelude.{◌≡◌, ◌<◌, length, vec_len, is_some, IfSome, IsTrue, Some};
 ghost use Rattle.std.specs.Vec.{vec_capacity};
 ghost use Rattle.phases.specs.Slots.{slot_of};
 ghost use Rattle.phases.specs.Direct.{Directs};
@@ -53,28 +53,33 @@ fn record_fetch(fetched: &mut Record<Slot>, outcome: &Result<bool, NoMemory>, sl
     }
 }
 
-/// Returns the ticket that is lost, if one is, once a queue took a chain: `is_direct` says whether its answer was
-/// decided, and `is_answered` whether it was given.
-fn lost_by(
-    lost: Option<Ticket>,
-    queue: &Queue,
-    is_direct: bool,
-    is_answered: bool,
-) -> Option<Ticket>
-    ensures { Loses lost is_direct is_answered result }
+/// Keeps the ticket of a chain that a queue took and that is lost, where none was lost before it: `is_direct` says whether
+/// its answer was decided, and `is_answered` whether it was given.
+#[inline(always)]
+fn note_lost(lost: &mut Option<Ticket>, queue: &Queue, is_direct: bool, is_answered: bool)
+    ensures { Loses lost.old is_direct is_answered lost.new }
 {
-    match lost {
-        Some(ticket) => Some(ticket),
-        None if is_direct && !is_answered => Some(Ticket {
+    if is_direct && !is_answered {
+        keep_first(lost, queue);
+    }
+}
+
+/// Keeps the ticket of the latest chain that a queue took, where none is lost yet. No worker comes here.
+#[inline(never)]
+fn keep_first(lost: &mut Option<Ticket>, queue: &Queue)
+    ensures { IsTrue (is_some lost.new) }
+{
+    if lost.is_none() {
+        *lost = Some(Ticket {
             queue: queue.number(),
             number: queue.log().accepted().saturating_sub(1),
-        }),
-        None => None,
+        });
     }
 }
 
 /// Answers the chain that stands in the slot with its answer, if one does, and keeps its note. There is room for that.
 /// Returns its ticket, if it was answered.
+#[inline(always)]
 fn answer_decided(
     queue: &mut Queue,
     memory: &mut GuestMem,
@@ -88,6 +93,10 @@ fn answer_decided(
     ensures notes { notes.new.items ≡ with_answer (is_some result) (slot_of slot.old) notes.old.items }
     ensures of_chain { IfSome result (λ t. ticket_in (slot_of slot.old) ≡ Some t) }
 {
+    // Most chains are requests: these make no call.
+    if !slot.is_direct() {
+        return None;
+    }
     let note = phase_direct(queue, slot, memory)?;
     let ticket = note.ticket();
     notes.push_reserved(note);
@@ -186,7 +195,7 @@ impl KeptQueue {
         let outcome = phase_fetch(queue, slot, memory, inventory);
         let _behind = queue.log();
         record_fetch(fetched, &outcome, slot);
-        *lost = lost_by(*lost, queue, slot.is_direct(), false);
+        note_lost(lost, queue, slot.is_direct(), false);
         outcome
     }
 
@@ -238,7 +247,7 @@ impl KeptQueue {
         record_fetch(fetched, &outcome, slot);
         let is_direct = slot.is_direct();
         let answered = answer_decided(queue, memory, slot, notes);
-        *lost = lost_by(*lost, queue, is_direct, answered.is_some());
+        note_lost(lost, queue, is_direct, answered.is_some());
         let _behind = queue.log();
         NextChain {
             fetched: outcome,
