@@ -244,15 +244,6 @@ static __attribute__((noinline)) void log_pages(const struct bus_map *map, uint6
 		__atomic_fetch_or(&map->log[page / 8], (uint8_t)(1 << page % 8), __ATOMIC_RELEASE);
 }
 
-/* Called behind each store. */
-static inline void stored(struct place at, size_t len)
-{
-	const struct bus_map *map = map_of(at);
-
-	if (map->log && len)
-		log_pages(map, at.addr, len);
-}
-
 static inline void store_2(unsigned char *bytes, const unsigned char *in, int order)
 {
 	uint16_t all;
@@ -262,7 +253,7 @@ static inline void store_2(unsigned char *bytes, const unsigned char *in, int or
 }
 
 /* Stores bytes into one region, in which they stand there. */
-static inline void store_into(struct place at, unsigned char *bytes, const unsigned char *in, size_t len)
+static inline void store_into(unsigned char *bytes, const unsigned char *in, size_t len)
 {
 	if (len == 2 && is_aligned(bytes, 2)) {
 		store_2(bytes, in, __ATOMIC_RELEASE);
@@ -276,18 +267,22 @@ static inline void store_into(struct place at, unsigned char *bytes, const unsig
 	} else {
 		memcpy(bytes, in, len);
 	}
-	stored(at, len);
 }
 
-/* Stores bytes that may lie in several regions and holes. */
+/* Stores bytes that may lie in several regions and holes, and logs them. */
 static __attribute__((noinline)) ssize_t store_runs(struct place at, const unsigned char *in, size_t len)
 {
+	const struct bus_map *map = map_of(at);
+
 	while (len) {
 		size_t here;
 		unsigned char *bytes = run(at, len, &here);
 
-		if (bytes)
-			store_into(at, bytes, in, here);
+		if (bytes) {
+			store_into(bytes, in, here);
+			if (map->log && here)
+				log_pages(map, at.addr, here);
+		}
 		in += here;
 		at.addr += here;
 		len -= here;
@@ -295,13 +290,27 @@ static __attribute__((noinline)) ssize_t store_runs(struct place at, const unsig
 	return 0;
 }
 
+/* Whether bytes lie in the region that was found last, and no store is logged; and where they stand then. */
+static inline bool is_plain(struct place at, size_t len, unsigned char **bytes)
+{
+	return !map_of(at)->log && is_whole(at, len, bytes);
+}
+
 static inline ssize_t store(struct place at, const unsigned char *in, size_t len)
 {
 	unsigned char *bytes;
 
-	if (!is_whole(at, len, &bytes))
+	if (!is_plain(at, len, &bytes))
 		return store_runs(at, in, len);
-	store_into(at, bytes, in, len);
+	store_into(bytes, in, len);
+	return 0;
+}
+
+/* The same, and what is loaded next isn't older. */
+static __attribute__((noinline)) ssize_t publish_runs(struct place at, const unsigned char *in, size_t len)
+{
+	store_runs(at, in, len);
+	__atomic_thread_fence(__ATOMIC_SEQ_CST);
 	return 0;
 }
 
@@ -310,10 +319,9 @@ static inline ssize_t publish(struct place at, const unsigned char *in, size_t l
 {
 	unsigned char *bytes;
 
-	if (is_whole(at, len, &bytes))
-		store_into(at, bytes, in, len);
-	else
-		store_runs(at, in, len);
+	if (!is_plain(at, len, &bytes))
+		return publish_runs(at, in, len);
+	store_into(bytes, in, len);
 	__atomic_thread_fence(__ATOMIC_SEQ_CST);
 	return 0;
 }
@@ -324,6 +332,19 @@ static inline struct place place_in(const void *bytes)
 
 	memcpy(&at, bytes, sizeof at);
 	return at;
+}
+
+/* Remembers the place of the bytes that come next. */
+static __attribute__((noinline)) ssize_t say(const void *bytes)
+{
+	said = place_in(bytes);
+	return 0;
+}
+
+/* Stores bytes at the place that was said. */
+static __attribute__((noinline)) ssize_t store_said(const void *bytes, size_t len)
+{
+	return store(said, bytes, len);
 }
 
 /* Both answer 0, which ends their caller's loop at once: nothing is left to be done, and nobody looks at the answer. */
@@ -342,8 +363,5 @@ ssize_t vscsi_bus_write(int what, const void *bytes, size_t len)
 
 	if (what == PUT)
 		return len == sizeof said + 2 ? publish(place_in(bytes), behind, 2) : publish(place_in(bytes), behind, 8);
-	if (what == BYTES)
-		return store(said, bytes, len);
-	said = place_in(bytes);
-	return 0;
+	return what == BYTES ? store_said(bytes, len) : say(bytes);
 }
