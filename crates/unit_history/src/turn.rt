@@ -4,7 +4,7 @@ ghost use Rattle.std.specs.Prelude.{◌≡◌, ◌≢◌, ◌||◌, is_some, IsT
 ghost use Rattle.unit_model.specs.Asking.{asked_of};
 ghost use Rattle.unit_history.specs.Inner.Turns.{Turns};
 
-use cdb::Command;
+use cdb::{Command, ModeRequest, WideCommand};
 use task_set::{Job, Task};
 use unit_model::Reason;
 
@@ -19,12 +19,38 @@ pub(crate) enum Turn {
     Ready,
 }
 
+/// Returns true if two MODE SENSEs ask for the same.
+fn asks_same(request: ModeRequest, other: ModeRequest) -> bool
+    ensures yes { IsTrue result → request ≡ other }
+    ensures no { IsFalse result → request ≢ other }
+{
+    request == other
+}
+
+/// Returns true if two commands of the wide profile alone are one.
+fn is_same_wide(command: WideCommand, other: WideCommand) -> bool
+    ensures yes { IsTrue result → command ≡ other }
+    ensures no { IsFalse result → command ≢ other }
+{
+    match (command, other) {
+        (WideCommand::ModeSense(request), WideCommand::ModeSense(another)) => {
+            asks_same(request, another)
+        }
+        (WideCommand::ModeSense(_), _) | (_, WideCommand::ModeSense(_)) => false,
+        _ => command == other,
+    }
+}
+
 /// Returns true if two commands are one.
 fn is_same(command: Command, other: Command) -> bool
     ensures yes { IsTrue result → command ≡ other }
     ensures no { IsFalse result → command ≢ other }
 {
-    command == other
+    match (command, other) {
+        (Command::Wide(wide), Command::Wide(another)) => is_same_wide(wide, another),
+        (Command::Wide(_), _) | (_, Command::Wide(_)) => false,
+        _ => command == other,
+    }
 }
 
 /// Returns true if the task entered with what the job says.
