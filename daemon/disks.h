@@ -53,8 +53,9 @@ struct disks {
   bool held;   // they are
 };
 
-// Adds the disk of words T:L=SIZE[,file=PATH][,grow][,snapshot][,detect-zeroes=unmap][,profile=narrow|wide] or T:L=file=PATH[,..], in its
-// place of the order. A comma of the path stands there twice. Opens nothing: images_open does that. Returns false, and says why, where the words name no disk.
+// Adds the disk of words T:L=SIZE[,file=PATH][,grow][,snapshot][,detect-zeroes=unmap][,profile=narrow|wide] or T:L=file=PATH[,..],
+// in its place of the order. A comma of the path stands there twice. Opens nothing: images_open does that. Returns false, and says
+// why, where the words name no disk.
 bool disks_add(struct disks *disks, const char *words, char *why, size_t room);
 
 // Finds the disk that words T:L=.. name, which disks_add took. Takes a disk out, and closes its image.
