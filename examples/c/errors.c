@@ -78,6 +78,45 @@ static void causes(void) {
   config.profiles = profiles, config.pages = 0, refused(__LINE__, VSCSI_CAUSE_UNIT_PROFILE, 1, 0);
 }
 
+// Returns the status of a MODE SENSE (6) of a target, which is the n-th request of queue 2. No other call of these tests sends one.
+static uint8_t senses_modes(struct vscsi *device, uint8_t target, uint16_t n) {
+  const struct {
+    uint64_t addr;
+    uint32_t length;
+    uint16_t flags, next;
+  } parts[3] = {{0x8000, 51, 1, 1}, {0x9000, 108, 3, 2}, {0xa000, 255, 2, 0}};
+  const uint8_t request[51] = {1, target, 0x40, 0, [19] = 0x1a, 0, 0x3f, 0, 0xff}, index[2] = {(uint8_t)(n + 1)}, head[2] = {0};
+  uint8_t response[12];
+  IS(vscsi_poke(device, 0x8000, request, sizeof request), VSCSI_DONE);
+  IS(vscsi_poke(device, area(2), parts, sizeof parts), VSCSI_DONE);
+  IS(vscsi_poke(device, area(2) + 0x404 + 2 * n, head, 2), VSCSI_DONE);
+  IS(vscsi_poke(device, area(2) + 0x402, index, 2), VSCSI_DONE);
+  IS(vscsi_serve(device, 1u << 2, UINT64_MAX, 0, 0), VSCSI_DONE);
+  IS(vscsi_peek(device, 0x9000, response, sizeof response), VSCSI_DONE);
+  IS(response[11], 0);
+  return response[10];
+}
+
+// That each unit has the commands of its profile: MODE SENSE is one of the wide profile alone.
+static void each_profile(void) {
+  static const uint8_t wide_second[2] = {VSCSI_PROFILE_NARROW, VSCSI_PROFILE_WIDE};
+  struct vscsi device = {0};
+  struct vscsi_disk disks[2] = {{0}, {0}};
+  for (int over = 0; over < 2; over++) {
+    begin(), units[1].calm = 1, config.profiles = wide_second;
+    if (over) {
+      for (unsigned k = 0; k < 2; k++) IS(vscsi_disk_create(&disks[k], units[k].blocks), VSCSI_DONE);
+      IS(vscsi_create_with(&device, &config, disks, 0), VSCSI_DONE);
+    } else {
+      IS(vscsi_create(&device, &config, 0), VSCSI_DONE);
+    }
+    IS(senses_modes(&device, 0, 0), 2);
+    IS(senses_modes(&device, 4, 1), 0);
+    IS(vscsi_destroy(&device), VSCSI_DONE);
+  }
+  begin();
+}
+
 // That a configuration of a header that had no profiles yet is taken, whatever stands behind it.
 static void older(void) {
   struct vscsi device = {0};
@@ -543,6 +582,7 @@ int main(void) {
   struct vscsi device = {0};
   struct vscsi_fault fault;
   causes();
+  each_profile();
   older();
   older_live();
   sizes();

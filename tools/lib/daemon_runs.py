@@ -747,6 +747,18 @@ def test_refused_unmap(room):
     assert image.stat().st_blocks <= 64
 
 
+def test_profiles(room):
+    """Each disk has the commands of its profile: MODE SENSE (6) is one of the wide profile alone."""
+    words = ["--disk", "0:0=1M", "--disk", "0:1=1M,profile=wide", "--disk", "0:2=1M,profile=narrow"]
+    with driven(room, *words, ends=0) as (_, front, _):
+        for lun, status in enumerate((2, 0, 2)):
+            front.put(bytes.fromhex("1a003f00ff00"), lun=lun, writable=255)
+            wait_for(lambda: front.answered() == lun + 1, "a MODE SENSE")  # noqa: B023
+            assert front.status(lun) == status, (lun, front.status(lun))
+        # 67 bytes follow the first: a header, a block descriptor, and pages of 12, 20, 12 and 12 bytes (SPC-4 7.5.5, SBC-3 6.4).
+        assert front.data(1, 4) == bytes.fromhex("43001008"), front.data(1, 4).hex()
+
+
 # Isolation.
 
 
