@@ -71,7 +71,9 @@ static bool take_word(const char **at, struct disk *disk) {
   bool is_narrow = length == sizeof narrow - 1 && !strncmp(*at, narrow, length);
   bool is_wide = length == sizeof wide - 1 && !strncmp(*at, wide, length);
   if (!is_grow && !is_snapshot && !is_punching && !is_narrow && !is_wide) return false;
-  disk->wide = (disk->wide && !is_narrow) || is_wide;
+  if ((is_narrow || is_wide) && disk->has_profile) return false;
+  disk->has_profile = disk->has_profile || is_narrow || is_wide;
+  disk->wide = disk->wide || is_wide;
   disk->punches = disk->punches || is_punching;
   disk->grows = disk->grows || is_grow;
   disk->read_only = disk->read_only || is_snapshot;
@@ -84,7 +86,8 @@ static const char no_read_only[] = "ro: no command is answered DATA PROTECT yet.
 // Takes all words of a disk.
 static bool take_disk(struct disk *disk, const char *at, char *why, size_t room) {
   uint64_t target, lun;
-  snprintf(why, room, "%s: not T:L=SIZE[,file=PATH][,grow][,snapshot][,detect-zeroes=unmap][,profile=narrow|wide], or T:L=file=PATH[,..]", at);
+  snprintf(why, room,
+           "%s: not T:L=SIZE[,file=PATH][,grow][,snapshot][,detect-zeroes=unmap][,profile=narrow|wide], or T:L=file=PATH[,..]", at);
   if (!number(&at, 255, ':', &target) || !number(&at, 16383, '=', &lun)) return false;
   disk->target = (uint8_t)target;
   disk->lun = (uint16_t)lun;

@@ -33,6 +33,7 @@ struct disk {
   bool grows;       // a shorter image is made as long as the disk
   bool made;        // there was no image
   bool punches;     // a WRITE of zeros may make a hole of the image
+  bool has_profile; // the command line says its profile
   bool wide;        // it knows the commands of the wide profile
   uint64_t length;  // of the image when it was opened, in bytes
   bool dirty;       // written since disk_sync

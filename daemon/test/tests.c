@@ -275,7 +275,7 @@ static void test_words(void) {
                                       "0:0=9999999999999999999999", "0:0=1M,file=", "-1:0=1M", "0:0=1025T", "0:0=1M,ro", "0:0=1M,ro,file=x",
                                       "0:0=1M,snapshot", "0:0=1M,grow", "0:0=1M,file=x,grow,snapshot", "0:0=file=", "0:0=file=x,grow",
                                       "0:0=file=x,1M", "0:0=1M,file=x,file=y", "0:0=snapshot", "0:0=1M,file=x,", "0:0=1M,file=x,,,",
-                                      "0:0=1M,profile=", "0:0=1M,profile=broad", "0:0=1M,profile=widest", "0:0=profile=wide"};
+                                      "0:0=1M,profile=", "0:0=1M,profile=broad", "0:0=1M,profile=widest", "0:0=profile=wide", "0:0=1M,profile=wide,profile=narrow"};
   static const char *const refused[] = {"0:0=1M,file=/", "0:0=1M,file=/nowhere/x", "0:0=file=/nowhere/x", "0:0=1M,file=/nowhere/x,snapshot"};
   char why[300];
   struct disks disks = {0};

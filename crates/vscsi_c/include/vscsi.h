@@ -117,7 +117,7 @@ struct vscsi_queue {
   uint16_t size;
 };
 
-/* The commands that a disk knows. Since 1.5. */
+/* The commands that a disk knows (docs/COMMANDS.md): the default ones, or these and MODE SENSE, VERIFY and others. Since 1.5. */
 enum vscsi_profile {
   VSCSI_PROFILE_NARROW = 0,
   VSCSI_PROFILE_WIDE = 1
@@ -268,8 +268,9 @@ struct vscsi_ring {
  *
  * Where `asks` is true, vscsi_live_serve asks the driver of each queue that it serves to notify of its next chain, once nothing
  * is left, and looks once more behind that (VIRTIO 1.2, 2.7.10 and 2.8.10). A host that waits for kicks then calls nothing else
- * before it sleeps. Where it is false the device writes nothing of its own: the host calls vscsi_live_ask, or polls. A
- * configuration that ends before `asks` has false there. Since 1.4. */
+ * before it sleeps. Where it is false the device writes nothing of its own: the host calls vscsi_live_ask, or polls. Since 1.4.
+ *
+ * A configuration that ends before `asks` has false there, and one that ends before `profiles` none. */
 struct vscsi_live_config {
   size_t size;
   uint64_t features;
@@ -478,7 +479,7 @@ enum vscsi_answer vscsi_log(struct vscsi_live *device, uint8_t *bitmap, size_t b
 /* Asks the driver of a queue to notify the device of the next chain that it makes available, or, where `notify` is false, of
  * none (VIRTIO 1.2, 2.7.10 and 2.8.10). A driver that agreed to VSCSI_F_EVENT_IDX notifies of that one chain alone, and one of a
  * split queue that is never asked stops after its first request. So a host that waits for notifications does these three in
- * turn. It serves until nothing is left; it asks for the next chain; and it serves once more. For a driver that made a chain
+ * turn. It serves until nothing is left; it asks for the next chain; and it serves once more, as a driver that made a chain
  * available before it saw what was asked notifies nobody. If that took no step it sleeps, else it asks again. With `asks` of the
  * configuration vscsi_live_serve does all three. A host that polls asks for none, again after 65,535 chains, and for the next
  * one before it sleeps. Nothing is written for a queue that is broken or isn't mapped. Since 1.4.

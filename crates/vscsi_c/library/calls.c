@@ -81,7 +81,7 @@ static bool is_long(size_t count, size_t size) { return count > PTRDIFF_MAX / si
 static const struct vscsi_queue no_queue = {0, 0, 0, 0};
 
 /* The units of a device at most, and one more: of more units the device says that they are too many, whatever they are. */
-enum { MOST_UNITS = 64, UNITS_READ };
+enum { MOST_UNITS = 64, UNITS_READ = MOST_UNITS + 1 };
 
 struct wanted_units {
   size_t count;
@@ -106,9 +106,16 @@ static bool read_units(struct wanted_units *wanted, const struct vscsi_unit *uni
   return true;
 }
 
-/* The sizes of configurations in headers that had no `profiles` yet. */
+/* The sizes of configurations in older headers: without `profiles`, and without `asks`. */
 static const size_t size_without_profiles = offsetof(struct vscsi_config, profiles);
 static const size_t live_size_without_profiles = offsetof(struct vscsi_live_config, profiles);
+static const size_t live_size_without_asks = offsetof(struct vscsi_live_config, asks);
+/* A configuration of an older header isn't taken for one of this header. */
+_Static_assert(sizeof(struct vscsi_config) > offsetof(struct vscsi_config, profiles), "room behind the older fields");
+_Static_assert(offsetof(struct vscsi_config, profiles) >= offsetof(struct vscsi_config, pages) + sizeof(uint64_t),
+               "no field in older padding");
+_Static_assert(offsetof(struct vscsi_live_config, profiles) >= offsetof(struct vscsi_live_config, asks) + sizeof(void *),
+               "no field in older padding");
 
 static const uint8_t *profiles_of(const struct vscsi_config *config) {
   return config->size == size_without_profiles ? NULL : config->profiles;
@@ -257,13 +264,11 @@ enum vscsi_answer vscsi_changed(struct vscsi *device, uint8_t target, uint16_t l
 static const struct vscsi_ring no_ring = {0, 0, 0, 0, {0, 0, false, false}};
 static const struct vscsi_region no_region = {0, 0, NULL};
 
-/* The size of a configuration in a header that had no `asks` yet. */
-static const size_t size_without_asks = offsetof(struct vscsi_live_config, asks);
-
 /* Returns why a configuration of live memory can't be handed on, or VSCSI_DONE. */
 static enum vscsi_answer live_unreadable(const struct vscsi_live_config *config) {
   if (!config) return VSCSI_NULL;
-  if (config->size != sizeof *config && config->size != live_size_without_profiles && config->size != size_without_asks) return VSCSI_BAD_LENGTH;
+  if (config->size != sizeof *config && config->size != live_size_without_profiles && config->size != live_size_without_asks)
+    return VSCSI_BAD_LENGTH;
   if ((!config->rings && config->ring_count) || (!config->units && config->unit_count)) return VSCSI_NULL;
   if (is_long(config->ring_count, sizeof no_ring) || is_long(config->unit_count, sizeof(struct vscsi_disk))) return VSCSI_BAD_LENGTH;
   return VSCSI_DONE;
@@ -298,7 +303,7 @@ enum vscsi_answer vscsi_live_create(struct vscsi_live *device, const struct vscs
     return answer;
   }
   device->map = map;
-  device->asks = config->size != size_without_asks && config->asks;
+  device->asks = config->size != live_size_without_asks && config->asks;
   return VSCSI_DONE;
 }
 
