@@ -57,7 +57,7 @@ answers_none (Hand.Answered place t) q m false r n h' e = stays_none q r e.0.que
 
 pub directs_none : (s : Slot) (q : BareQueue) (m : List ℕ) (b : Bool) (r : BareQueue) (n : List ℕ) (s' : Slot)
     → Directs s q m b r n s' → TakesNone q r
-directs_none (Slot.Direct c o) q m true r n s' (did, is) = by_ring q r s' _ (did []).queue refl refl
+directs_none (Slot.Direct c o) q m true r n s' (did, is) = by_ring q r s' _ (did (record { addresses = []; profiles = [] })).queue refl refl
 directs_none (Slot.Direct c o) q m false r n s' (lets, is) = stays_none q r lets.stays.queue
 directs_none Slot.Empty q m true r n s' e = absurd e
 directs_none Slot.Empty q m false r n s' e = stays_none q r e.0.queue

@@ -92,7 +92,7 @@ log_sends : IsSend log_row
 log_sends = search (sendable, log_fields)
 
 facts_sends : IsSend facts_field.row
-facts_sends = struct_send (shape facts_type) (search sendable, (search sendable, (search crosses depth 30, (option_sends sense_row (search sendable depth 30), tt))))
+facts_sends = struct_send (shape facts_type) (search sendable, (search sendable, (search crosses depth 30, (option_sends sense_row (search sendable depth 30), (search sendable depth 30, tt)))))
 
 base_fields : IsSend base.the_row
 base_fields = recorded_send base.the_field.row _ _ base.the_type.to_one
@@ -144,7 +144,7 @@ lasts_sends : IsSend lasts_row
 lasts_sends = search (sendable, lasts_fields)
 
 backed_sends : IsSend backed_field.row
-backed_sends = struct_send (shape backed_type) (search sendable, (search sendable, (cache.the_field_send, (search crosses depth 30, (search crosses depth 30, tt)))))
+backed_sends = struct_send (shape backed_type) (search sendable, (search sendable, (cache.the_field_send, (search sendable, (search crosses depth 30, (search crosses depth 30, tt))))))
 
 disk_sends : IsSend disk_field.row
 disk_sends = enum_send (enum_shape disk_type) ((store.the_field_send, tt), ((backed_sends, tt), tt))
