@@ -10,8 +10,8 @@ from functools import lru_cache
 from itertools import islice
 
 from disk_model import (
-    BAD_FIELD, BUS_RESET, INQUIRY, INQUIRY_DATA, NEXUS_LOSS, POWER_ON, REQUEST_SENSE, Disk, Request, Wrong, busy, fixed, is_bad, need, number, runs,
-    shown,
+    BAD_FIELD, BUS_RESET, CAPACITY_16, INQUIRY, INQUIRY_DATA, KNOWN, NEXUS_LOSS, POWER_ON, REQUEST_SENSE, Disk, NotModelled, Request, Wrong, busy,
+    fixed, is_bad, need, number, runs, shown,
 )
 
 # Task management functions: those that abort, those that reset, and those that look.
@@ -88,6 +88,17 @@ def disks_of(script):
     units = [(str(int(target)), str(int(lun)), blocks, calm) for target, lun, blocks, calm in found]
     luns = {target: tuple(int(lun) for its, lun, *_ in units if its == target) for target, *_ in units}
     return {f"{target}:{lun}": Disk(int(blocks), [] if calm else [POWER_ON], luns=luns[target]) for target, lun, blocks, calm in units}
+
+
+def wide_units(script):
+    """Returns the units of a script's header that have the wide profile."""
+    found = re.findall(r"^ *unit +(\d+) +(\d+) +\d+(?: +calm)? +profile +wide *$", script, re.M)
+    return {f"{int(target)}:{int(lun)}" for target, lun in found}
+
+
+def is_alike(cdb):
+    """Returns true if a command is the same in both profiles."""
+    return cdb[0] in KNOWN and cdb[0] != INQUIRY and not (cdb[0] == CAPACITY_16 and cdb[1] & 0x1f == 0x12)
 
 
 def last_lines(printed):
@@ -214,6 +225,9 @@ def judge(script, printed, refused=0):
     """
     last = last_lines(printed)
     requests, deeds, _ = requests_of(script)
+    wide = wide_units(script)
+    if any(request.unit in wide and not is_alike(request.cdb) for request in requests.values()):
+        raise NotModelled("a command of the wide profile")
     functions = [deed for deed in deeds if deed.name]
     failed = [deed for deed in functions if last.get(deed.name, "").endswith(f"response={FAILED}")]
     most = max([len(met_by(deed, disks_of(script))) for deed in failed], default=1)
