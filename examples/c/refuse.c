@@ -1,10 +1,11 @@
-// Stands before the allocator, by `-Wl,--wrap=malloc,--wrap=realloc,--wrap=free`: refuses the growth whose number the
+// Stands before the allocator, by `-Wl,--wrap=malloc,--wrap=calloc,--wrap=realloc,--wrap=free`: refuses the growth whose number the
 // variable REFUSED has, says at the end how many there were, and ends with status 70 where a block wasn't freed.
 #include <stdio.h>
 #include <stdlib.h>
 #include <unistd.h>
 
 void *__real_malloc(size_t n);
+void *__real_calloc(size_t count, size_t n);
 void *__real_realloc(void *p, size_t n);
 void __real_free(void *p);
 
@@ -17,6 +18,12 @@ static int refuse(void) {
 
 void *__wrap_malloc(size_t n) {
   void *p = refuse() ? 0 : __real_malloc(n);
+  if (p) live++;
+  return p;
+}
+
+void *__wrap_calloc(size_t items, size_t n) {
+  void *p = refuse() ? 0 : __real_calloc(items, n);
   if (p) live++;
   return p;
 }
