@@ -70,12 +70,14 @@ static unsigned count_of(const struct backend *backend) {
 static bool make(struct backend *backend, char *why, size_t room) {
   struct vscsi_unit units[DEVICE_MOST_UNITS];
   uint8_t profiles[DEVICE_MOST_UNITS];
+  struct vscsi_identity identities[DEVICE_MOST_UNITS];
   struct ring rings[DEVICE_MOST_QUEUES];
   for (size_t i = 0; i < backend->disks->count; i++) {
     const struct disk *disk = &backend->disks->disks[i];
     // Calm: the disks were on before the guest was, and nobody has to be told of that.
     units[i] = (struct vscsi_unit){.blocks = disk->blocks, .lun = disk->lun, .target = disk->target, .calm = 1};
     profiles[i] = disk->wide ? VSCSI_PROFILE_WIDE : VSCSI_PROFILE_NARROW;
+    identities[i] = disk->names;
   }
   backend->made = count_of(backend);
   for (unsigned q = 0; q < backend->made; q++) rings[q] = backend->queues[q].ready ? backend->queues[q].ring : idle_ring();
@@ -87,7 +89,8 @@ static bool make(struct backend *backend, char *why, size_t room) {
                                            .ring_count = backend->made,
                                            .units = units,
                                            .unit_count = backend->disks->count,
-                                           .profiles = profiles};
+                                           .profiles = profiles,
+                                           .identities = identities};
   memset(backend->noted, 0, sizeof backend->noted);
   memset(backend->idle, 0, sizeof backend->idle);
   // Another daemon may have the files still.

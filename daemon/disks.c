@@ -8,6 +8,7 @@
 #include <unistd.h>
 
 #include "log.h"
+#include "names.h"
 #include "signals.h"
 
 // Takes a number and what ends it. The number is at most `most`.
@@ -58,14 +59,18 @@ static char *take_path(const char **at) {
   return NULL;
 }
 
-// Takes one word of a disk up to its end or to a comma. Returns false where there is no such word, or it is there already.
-static bool take_word(const char **at, struct disk *disk) {
+// Takes one word of a disk up to its end or to a comma. Returns false where there is no such word, or it is there already. Says why where
+// a name isn't one.
+static bool take_word(const char **at, struct disk *disk, char *why, size_t room) {
   static const char file[] = "file=", punching[] = "detect-zeroes=unmap", narrow[] = "profile=narrow", wide[] = "profile=wide";
   size_t length = strcspn(*at, ",");
   if (!strncmp(*at, file, sizeof file - 1)) {
     *at += sizeof file - 1;
     return !disk->path && (disk->path = take_path(at));
   }
+  enum named named = names_take(disk, *at, length, why, room);
+  if (named == NAMED_WELL) *at += length;
+  if (named != NAMED_NOT) return named == NAMED_WELL;
   bool is_grow = length == 4 && !strncmp(*at, "grow", length), is_snapshot = length == 8 && !strncmp(*at, "snapshot", length);
   bool is_punching = length == sizeof punching - 1 && !strncmp(*at, punching, length);
   bool is_narrow = length == sizeof narrow - 1 && !strncmp(*at, narrow, length);
@@ -87,15 +92,15 @@ static const char no_read_only[] = "ro: no command is answered DATA PROTECT yet.
 static bool take_disk(struct disk *disk, const char *at, char *why, size_t room) {
   uint64_t target, lun;
   snprintf(why, room,
-           "%s: not T:L=SIZE[,file=PATH][,grow][,snapshot][,detect-zeroes=unmap][,profile=narrow|wide], or T:L=file=PATH[,..]", at);
+           "%s: not T:L=SIZE[,file=PATH][,grow][,snapshot][,detect-zeroes=unmap][,profile=narrow|wide][,NAMES], or T:L=file=PATH[,..]", at);
   if (!number(&at, 255, ':', &target) || !number(&at, 16383, '=', &lun)) return false;
   disk->target = (uint8_t)target;
   disk->lun = (uint16_t)lun;
-  bool has_size = *at >= '0' && *at <= '9', stands = has_size ? size(&at, &disk->blocks) : take_word(&at, disk);
+  bool has_size = *at >= '0' && *at <= '9', stands = has_size ? size(&at, &disk->blocks) : take_word(&at, disk, why, room);
   while (stands && *at == ',') {
     at++;
     if (!strcmp(at, "ro") || !strncmp(at, "ro,", 3)) return snprintf(why, room, "%s", no_read_only), false;
-    stands = take_word(&at, disk);
+    stands = take_word(&at, disk, why, room);
   }
   if (!stands || *at) return false;
   if (!disk->path && (disk->read_only || disk->grows || !has_size)) return snprintf(why, room, "grow and snapshot want file=PATH"), false;
@@ -110,6 +115,7 @@ bool disks_add(struct disks *disks, const char *words, char *why, size_t room) {
     stands = false;
     snprintf(why, room, "%s: there already, or one disk too many", words);
   }
+  stands = stands && names_suit(disks, &disk, why, room);
   if (!stands) return free(disk.path), false;
   size_t place = disks->count;
   for (const struct disk *it = disks->disks; place; place--)

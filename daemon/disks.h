@@ -35,6 +35,8 @@ struct disk {
   bool punches;     // a WRITE of zeros may make a hole of the image
   bool has_profile; // the command line says its profile
   bool wide;        // it knows the commands of the wide profile
+  unsigned named;   // which words of names.h the command line has
+  struct vscsi_identity names;
   uint64_t length;  // of the image when it was opened, in bytes
   bool dirty;       // written since disk_sync
   int error;        // the error number by which the image can't be written now, or 0
@@ -54,7 +56,7 @@ struct disks {
   bool held;   // they are
 };
 
-// Adds the disk of words T:L=SIZE[,file=PATH][,grow][,snapshot][,detect-zeroes=unmap][,profile=narrow|wide] or T:L=file=PATH[,..],
+// Adds the disk of words T:L=SIZE[,file=PATH][,grow][,snapshot][,detect-zeroes=unmap][,profile=narrow|wide][,NAMES] or T:L=file=PATH[,..],
 // in its place of the order. A comma of the path stands there twice. Opens nothing: images_open does that. Returns false, and says
 // why, where the words name no disk.
 bool disks_add(struct disks *disks, const char *words, char *why, size_t room);

@@ -14,6 +14,7 @@
 #include "images.h"
 #include "listener.h"
 #include "log.h"
+#include "names.h"
 #include "options.h"
 #include "sandbox.h"
 #include "session.h"
@@ -167,12 +168,12 @@ static bool open_all(struct daemon *daemon, char *why, size_t room) {
   bool has_path = options->path;
   if (!sandbox_find(&owner, options->user, options->group, why, room)) return false;
   if (has_path ? !listener_can_bind(options->path, why, room) : !listener_take(&daemon->listener, options->fd, why, room)) return false;
-  if (!images_open(&daemon->disks, why, room)) return false;
+  if (!images_open(&daemon->disks, why, room) || !names_read(&daemon->disks, why, room)) return false;
   bool stands = images_make(&daemon->disks, owner.user, owner.group, why, room) &&
                 (daemon->disks.moves || blocks_load(&daemon->disks, why, room)) &&
                 (!has_path || listener_bind(&daemon->listener, options->path, options->mode, owner.user, owner.group, why, room)) &&
                 (!options->control || listener_bind(&daemon->operators, options->control, 0600, owner.user, owner.group, why, room)) &&
-                sandbox_become(&owner, why, room) &&
+                (names_keep(&daemon->disks, owner.user, owner.group), true) && sandbox_become(&owner, why, room) &&
                 (!options->limits || sandbox_limit(options->path, options->control, options->log, why, room));
   if (!stands) images_undo(&daemon->disks);
   return stands;

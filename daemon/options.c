@@ -23,7 +23,7 @@
 
 static const char usage[] =
     "vscsi-vhost-user --socket PATH|--fd N --disk T:L=SIZE[,file=PATH][,grow][,snapshot][,detect-zeroes=unmap]"
-    "[,profile=narrow|wide] ..\n"
+    "[,profile=narrow|wide][,NAMES] ..\n"
     "A virtio SCSI device for a vhost-user front end.\n"
     "\n"
     "  --socket PATH        listen there (also --socket-path)\n"
@@ -36,6 +36,8 @@ static const char usage[] =
     "      snapshot         never write the file; what the guest writes is lost at the end\n"
     "      detect-zeroes=unmap  zeros that the guest writes become holes of the file\n"
     "      profile=wide     know the commands of the wide profile, in place of profile=narrow\n"
+    "      serial=TEXT, naa=HEX, vendor=TEXT, product=TEXT, revision=TEXT, physical-block-exp=N, rotation-rate=N\n"
+    "                       name a disk of the wide profile. Without naa= a random one is kept in PATH.naa\n"
     "  --queues N           at most N request queues, 1 to 16\n"
     "  --poll               look at the rings of a busy guest all the time, which takes a processor\n"
     "  --migratable         have the files only while a queue runs, so that the guest can move to another daemon\n"

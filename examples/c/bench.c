@@ -233,7 +233,8 @@ static void create(const struct vscsi_config *config) {
 #ifdef LIVE
   const struct vscsi_region regions[2] = {{0, sizeof memory, memory}, {UINT64_C(1) << 32, sizeof above, above}};
   struct vscsi_ring its[QUEUES];
-  const struct vscsi_live_config live = {sizeof live, config->features, its, QUEUES, config->units, config->unit_count, false, NULL};
+  const struct vscsi_live_config live = {.size = sizeof live, .features = config->features, .rings = its, .ring_count = QUEUES,
+                                         .units = config->units, .unit_count = config->unit_count};
   for (unsigned q = 0; q < QUEUES; q++) {
     const struct vscsi_queue *queue = &config->queues[q];
     its[q] = (struct vscsi_ring){.desc = queue->desc, .driver = queue->driver, .device = queue->device, .size = queue->size};

@@ -23,6 +23,8 @@ static void check(int line, long long found, long long wanted) {
 static struct vscsi_queue queues[QUEUES];
 static struct vscsi_unit units[2];
 static const uint8_t profiles[2] = {VSCSI_PROFILE_WIDE, VSCSI_PROFILE_WIDE + 1};
+static const uint8_t wide[2] = {VSCSI_PROFILE_WIDE, VSCSI_PROFILE_WIDE};
+static struct vscsi_identity identities[2];
 static struct vscsi_config config;
 
 static uint64_t area(unsigned queue) { return 0x1000 * (queue + 1); }
@@ -78,6 +80,81 @@ static void causes(void) {
   config.profiles = profiles, config.pages = 0, refused(__LINE__, VSCSI_CAUSE_UNIT_PROFILE, 1, 0);
 }
 
+// That the second unit may not say this of itself, whatever its profile.
+static void unnamed(int line, struct vscsi_identity said) {
+  identities[0] = (struct vscsi_identity){.reserved = 0};
+  identities[1] = said;
+  config.profiles = wide, config.identities = identities, refused(line, VSCSI_CAUSE_UNIT_IDENTITY, 1, 0);
+  config.identities = identities, refused(line, VSCSI_CAUSE_UNIT_IDENTITY, 1, 0);
+}
+
+// That names are refused by their own causes: of units, and behind what is wrong otherwise.
+static void names(void) {
+  static const struct vscsi_identity two[2] = {{.naa = {0x30, [7] = 1}}, {.naa = {0x30, [7] = 1}}};
+  begin();
+  unnamed(__LINE__, (struct vscsi_identity){.vendor = "A\tB"});
+  unnamed(__LINE__, (struct vscsi_identity){.product = "\x80"});
+  unnamed(__LINE__, (struct vscsi_identity){.revision = {1, 0, 0, 0}});
+  unnamed(__LINE__, (struct vscsi_identity){.serial = "\x7f"});
+  unnamed(__LINE__, (struct vscsi_identity){.naa = {0x60, 1}});
+  unnamed(__LINE__, (struct vscsi_identity){.naa = {0, 1}});
+  unnamed(__LINE__, (struct vscsi_identity){.physical_exponent = 16});
+  unnamed(__LINE__, (struct vscsi_identity){.rotation_rate = 2});
+  unnamed(__LINE__, (struct vscsi_identity){.rotation_rate = 0x400});
+  unnamed(__LINE__, (struct vscsi_identity){.reserved = 1});
+  config.profiles = wide, config.identities = two, refused(__LINE__, VSCSI_CAUSE_UNIT_NAA, 0, 0);
+  units[1].lun = 1, config.profiles = wide, config.identities = two, refused(__LINE__, VSCSI_CAUSE_NO_LUN_0, 1, 0);
+}
+
+// Returns how many bytes an INQUIRY for a page of a target gave, at 0xa000. It is the n-th request of queue 2.
+static uint32_t inquires(struct vscsi *device, uint8_t target, uint8_t page, uint16_t n) {
+  const struct {
+    uint64_t addr;
+    uint32_t length;
+    uint16_t flags, next;
+  } parts[3] = {{0x8000, 51, 1, 1}, {0x9000, 108, 3, 2}, {0xa000, 255, 2, 0}};
+  const uint8_t request[51] = {1, target, 0x40, 0, [19] = 0x12, 1, page, 0, 0xff}, index[2] = {(uint8_t)(n + 1)}, head[2] = {0};
+  uint8_t response[12];
+  IS(vscsi_poke(device, 0x8000, request, sizeof request), VSCSI_DONE);
+  IS(vscsi_poke(device, area(2), parts, sizeof parts), VSCSI_DONE);
+  IS(vscsi_poke(device, area(2) + 0x404 + 2 * n, head, 2), VSCSI_DONE);
+  IS(vscsi_poke(device, area(2) + 0x402, index, 2), VSCSI_DONE);
+  IS(vscsi_serve(device, 1u << 2, UINT64_MAX, 0, 0), VSCSI_DONE);
+  IS(vscsi_peek(device, 0x9000, response, sizeof response), VSCSI_DONE);
+  IS(response[10], 0);
+  return 255 - (uint32_t)(response[4] | response[5] << 8);
+}
+
+// That a unit tells its page as these bytes.
+static void tells(int line, struct vscsi *device, uint8_t target, uint8_t page, uint16_t n, const void *wanted, uint32_t size) {
+  uint8_t found[255];
+  check(line, inquires(device, target, page, n), size);
+  IS(vscsi_peek(device, 0xa000, found, size), VSCSI_DONE);
+  check(line, memcmp(found, wanted, size), 0);
+}
+
+// That each unit tells its own names (SPC-4 7.8.6, 7.8.15), and one without any those that the device makes.
+static void each_name(void) {
+  static const uint8_t serial[] = "\x00\x80\x00\x06S3R14L", made[] = "\x00\x80\x00\x0dVSCSI00400000";
+  static const uint8_t designators[] =
+      "\x00\x83\x00\x1e\x02\x01\x00\x0e"
+      "ACME    S3R14L\x01\x03\x00\x08\x50\x00\xc5\x00\xa1\xb2\xc3\xd4";
+  struct vscsi device = {0};
+  begin(), units[1].calm = 1, config.profiles = wide, config.identities = identities;
+  identities[0] = (struct vscsi_identity){.vendor = "ACME", .serial = "S3R14L", .naa = {0x50, 0, 0xc5, 0, 0xa1, 0xb2, 0xc3, 0xd4}};
+  identities[1] = (struct vscsi_identity){.rotation_rate = VSCSI_RATE_NOT_REPORTED};
+  IS(vscsi_create(&device, &config, 0), VSCSI_DONE);
+  tells(__LINE__, &device, 0, 0x80, 0, serial, sizeof serial - 1);
+  tells(__LINE__, &device, 0, 0x83, 1, designators, sizeof designators - 1);
+  tells(__LINE__, &device, 4, 0x80, 2, made, sizeof made - 1);
+  uint8_t rates[64] = {0, 0xb1, 0, 0x3c};
+  tells(__LINE__, &device, 4, 0xb1, 3, rates, sizeof rates);
+  rates[5] = 1;
+  tells(__LINE__, &device, 0, 0xb1, 4, rates, sizeof rates);
+  IS(vscsi_destroy(&device), VSCSI_DONE);
+  begin();
+}
+
 // Returns the status of a MODE SENSE (6) of a target, which is the n-th request of queue 2. No other call of these tests sends one.
 static uint8_t senses_modes(struct vscsi *device, uint8_t target, uint16_t n) {
   const struct {
@@ -117,9 +194,16 @@ static void each_profile(void) {
   begin();
 }
 
-// That a configuration of a header that had no profiles yet is taken, whatever stands behind it.
+// That a configuration of a header that had no profiles or no names yet is taken, whatever stands behind it.
 static void older(void) {
   struct vscsi device = {0};
+  begin();
+  identities[0] = (struct vscsi_identity){.reserved = 1};
+  config.identities = identities, config.size = offsetof(struct vscsi_config, identities);
+  IS(vscsi_create(&device, &config, 0), VSCSI_DONE);
+  IS(vscsi_destroy(&device), VSCSI_DONE);
+  config.profiles = profiles;
+  IS(vscsi_create(&device, &config, 0), VSCSI_BAD_CONFIG);
   begin();
   config.profiles = profiles, config.size = offsetof(struct vscsi_config, profiles);
   IS(vscsi_create(&device, &config, 0), VSCSI_DONE);
@@ -145,7 +229,18 @@ static void older_live(void) {
     IS(vscsi_live_create(&device, &live, 0, 0), VSCSI_DONE);
     IS(vscsi_live_destroy(&device), VSCSI_DONE);
   }
+  live.size = offsetof(struct vscsi_live_config, identities);
+  IS(vscsi_live_create(&device, &live, 0, &fault), VSCSI_BAD_CONFIG);
+  live.profiles = wide;
+  identities[0] = (struct vscsi_identity){.reserved = 1};
+  live.identities = identities;
+  IS(vscsi_live_create(&device, &live, 0, 0), VSCSI_DONE);
+  IS(vscsi_live_destroy(&device), VSCSI_DONE);
   live.size = sizeof live;
+  IS(vscsi_live_create(&device, &live, 0, &fault), VSCSI_BAD_CONFIG);
+  IS(fault.cause, VSCSI_CAUSE_UNIT_IDENTITY);
+  IS(fault.place, 0);
+  live.profiles = profiles;
   IS(vscsi_live_create(&device, &live, 0, &fault), VSCSI_BAD_CONFIG);
   IS(fault.cause, VSCSI_CAUSE_UNIT_PROFILE);
   IS(fault.place, 1);
@@ -388,7 +483,7 @@ static void sizes(void) {
   struct vscsi_fault fault = {77, 77, 77};
   begin();
   config.size = 0, IS(vscsi_create(&device, &config, &fault), VSCSI_BAD_LENGTH);
-  config.size = sizeof config - 16, IS(vscsi_create(&device, &config, &fault), VSCSI_BAD_LENGTH);
+  config.size = offsetof(struct vscsi_config, profiles) - 8, IS(vscsi_create(&device, &config, &fault), VSCSI_BAD_LENGTH);
   config.size = sizeof config + 8, config.queues = 0, IS(vscsi_create(&device, &config, 0), VSCSI_BAD_LENGTH);
   IS(fault.cause, 77);
   begin(), config.pages = 0, IS(vscsi_create(&device, &config, 0), VSCSI_BAD_CONFIG);
@@ -583,6 +678,8 @@ int main(void) {
   struct vscsi_fault fault;
   causes();
   each_profile();
+  names();
+  each_name();
   older();
   older_live();
   sizes();

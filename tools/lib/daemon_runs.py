@@ -759,6 +759,79 @@ def test_profiles(room):
         assert front.data(1, 4) == bytes.fromhex("43001008"), front.data(1, 4).hex()
 
 
+def page(front, number, lun, code):
+    """The page of vital product data of a disk that the request of this number asks for."""
+    front.put(bytes([0x12, 1, code, 0, 255, 0]), lun=lun, writable=255)
+    wait_for(lambda: front.answered() == number + 1, "an INQUIRY")
+    assert front.status(number) == 0, (number, front.status(number))
+    data = front.data(number, 255)
+    return data[:4 + data[3]]
+
+
+def test_names(room):
+    """Each disk tells the names of its words (SPC-4 7.8.6, 7.8.15), and wrong ones are refused."""
+    first, second = "profile=wide,serial=FIRST,naa=5000c500a1b2c3d4,vendor=ACME", "profile=wide,serial=SECOND"
+    with driven(room, "--disk", f"0:0=1M,{first}", "--disk", f"0:1=1M,{second}", ends=0) as (_, front, _):
+        assert page(front, 0, 0, 0x80) == b"\x00\x80\x00\x05FIRST"
+        t10 = b"\x02\x01\x00\x0dACME    FIRST"
+        assert page(front, 1, 0, 0x83) == b"\x00\x83\x00\x1d" + t10 + bytes.fromhex("010300085000c500a1b2c3d4")
+        # A disk in memory alone has an NAA only where it is given one.
+        assert page(front, 2, 1, 0x83) == b"\x00\x83\x00\x12" + b"\x02\x01\x00\x0eVSCSI   SECOND"
+    named = ("--socket", room.socket, "--disk")
+    room.ends(*named, "0:0=1M,serial=S", status=2, says="profile=wide")
+    room.ends(*named, "0:0=1M,profile=wide,naa=12", status=2, says="naa= wants 16 hexadecimal digits")
+    room.ends(*named, f"0:0=1M,{first}", "--disk", f"0:1=1M,{first}", status=2, says="naa= is that of another disk")
+
+
+def test_kept_naa(room):
+    """A wide disk on a file has an NAA 3h of its own, which stays: it stands beside the image."""
+    disk, other = room.file("disk.img"), room.file("other.img")
+    kept = room.folder / "disk.img.naa"
+    words = ["--disk", f"0:0=file={disk},profile=wide"]
+
+    def naa():
+        with driven(room, *words, ends=0) as (_, front, _):
+            designators = page(front, 0, 0, 0x83)
+        assert designators[-12:-8] == b"\x01\x03\x00\x08" and designators[-8] >> 4 == 3, designators.hex()
+        return designators[-8:].hex()
+
+    first = naa()
+    assert kept.read_text() == first + "\n" and sorted(it.name for it in room.folder.glob("*.naa*")) == [kept.name]
+    assert naa() == first
+    kept.unlink()
+    assert naa() != first
+    kept.write_text("5000C500A1B2C3D4")
+    with driven(room, *words, ends=0) as (_, front, _):
+        assert page(front, 0, 0, 0x83)[-8:].hex() == "5000c500a1b2c3d4"
+    # The same names twice, and what is no NAA.
+    twice = room.folder / "other.img.naa"
+    shutil.copy(kept, twice)
+    room.refuses(*words, "--disk", f"0:1=file={other},profile=wide", says="other.img.naa: the NAA of another disk")
+    for text in ("", "x", "300000000000000", "30000000000000000", "6000000000000000", "300000000000000g\n"):
+        kept.write_text(text)
+        room.refuses(*words, says="disk.img.naa: not 16 hexadecimal digits")
+        assert kept.read_text() == text
+    kept.unlink()
+    # Neither a narrow disk nor one that is given an NAA has any kept.
+    for more in ("", ",profile=narrow", ",profile=wide,naa=3000000000000001"):
+        with room.runs("--disk", f"0:0=file={disk}{more}"):
+            assert not kept.exists()
+    with room.runs("--disk", f"0:0=file={disk},profile=wide,snapshot"):
+        assert kept.exists()
+
+
+def test_naa_of_a_closed_folder(room):
+    """Where an NAA can't be kept, the disk has none, and the log says so."""
+    folder = room.folder / "closed"
+    folder.mkdir()
+    disk = folder / "disk.img"
+    disk.write_bytes(b"\x5a" * MIB)
+    (folder / "disk.img.naa.new").mkdir()
+    with driven(room, "--disk", f"0:0=file={disk},profile=wide", ends=0) as (_, front, _):
+        assert page(front, 0, 0, 0x83) == b"\x00\x83\x00\x19" + b"\x02\x01\x00\x15VSCSI   VSCSI00000000"
+    assert not (folder / "disk.img.naa").exists()
+
+
 # Isolation.
 
 

@@ -84,7 +84,7 @@ def requests_of(script):
 
 def disks_of(script):
     """Returns the units of a script's header, as they open."""
-    found = re.findall(r"^ *unit +(\d+) +(\d+) +(\d+)( +calm)?(?: +profile +(?:narrow|wide))? *$", script, re.M)
+    found = re.findall(r"^ *unit +(\d+) +(\d+) +(\d+)( +calm)?(?: +profile +(?:narrow|wide(?: +\S+ +\S+)*))? *$", script, re.M)
     units = [(str(int(target)), str(int(lun)), blocks, calm) for target, lun, blocks, calm in found]
     luns = {target: tuple(int(lun) for its, lun, *_ in units if its == target) for target, *_ in units}
     return {f"{target}:{lun}": Disk(int(blocks), [] if calm else [POWER_ON], luns=luns[target]) for target, lun, blocks, calm in units}
@@ -92,7 +92,7 @@ def disks_of(script):
 
 def wide_units(script):
     """Returns the units of a script's header that have the wide profile."""
-    found = re.findall(r"^ *unit +(\d+) +(\d+) +\d+(?: +calm)? +profile +wide *$", script, re.M)
+    found = re.findall(r"^ *unit +(\d+) +(\d+) +\d+(?: +calm)? +profile +wide(?: +\S+ +\S+)* *$", script, re.M)
     return {f"{int(target)}:{int(lun)}" for target, lun in found}
 
 

@@ -15,7 +15,7 @@ use std::sync::{Arc, Wait};
 use std::thread;
 use std::thread::Threads;
 use workers::{Gate, Host, Point, Weighing};
-use world::{Config, Profile, RING_PACKED, UnitSpec, VERSION_1, World};
+use world::{Config, Identity, Profile, RING_PACKED, UnitSpec, VERSION_1, World};
 
 /// The addresses of the areas of a request queue in what is its own.
 pub(crate) const DRIVER: u64 = 0x4000;
@@ -234,6 +234,7 @@ fn config(alloc: Global, work: &Work) -> Result<Config, AllocError> {
             blocks: u64::from(work.depth) * u64::from(work.kind.blocks()) + 1,
             calm: true,
             profile: Profile::Narrow,
+            identity: Identity::PLAIN,
         })?;
     }
     Ok(Config {

@@ -3,15 +3,19 @@ use Rattle.std.proofs.Common.{◌≡◌, ℕ, zero, suc, ◌+◌, ◌*◌, ◌<�
 use Rattle.std.proofs.lemmas.Bool.Decides.{leb_tells}
 use Rattle.sense.specs.declared.Sense.{Sense}
 use Rattle.cdb.specs.declared.commands.Command.{Command}
-use Rattle.cdb.specs.declared.commands.Command.TheVariants.{Read, Write, CompareAndWrite}
+use Rattle.cdb.specs.declared.commands.Command.TheVariants.{Read, Write, CompareAndWrite, Wide}
+use Rattle.cdb.specs.declared.wide_commands.WideCommand.{WideCommand}
+use Rattle.cdb.specs.declared.wide_commands.WideCommand.TheVariants.{Verify}
+use Rattle.command_model.specs.Wide.{wide_answer}
 use Rattle.block_store.specs.Blocks.{Blocks, run, overwritten, block_count, is_within}
 use Rattle.command_model.specs.Data.{Answer}
 use Rattle.command_model.specs.PlainReply.{PlainReply, replied}
 use Rattle.command_model.specs.Statuses.{good}
-use Rattle.command_model.specs.Comparing.{to_compare, first_unequal}
+use Rattle.command_model.specs.Capacity.{within}
+use Rattle.command_model.specs.Comparing.{to_compare, to_verify, first_unequal, compared}
 use Rattle.command_model.specs.Effects.{block_after, where_covered}
 use Rattle.command_model.specs.Facts.{Facts}
-use Rattle.command_model.specs.Replies.{within, compared, answer_of, reported}
+use Rattle.command_model.specs.Replies.{answer_of, reported}
 use Rattle.sense.specs.Conditions.{lba_out_of_range}
 
 -- blocks that agree below a number give the same run below it
@@ -30,6 +34,13 @@ within-same blocks lba count a b same =
       | inr outside ↦ rw outside.0 refl
     ]
 
+wide_answer-agree : (capacity : ℕ) (command : WideCommand) (bytes : List ℕ) (p q : Blocks) → ((b : ℕ) → b < capacity → p b ≡ q b) →
+    wide_answer capacity command bytes p ≡ wide_answer capacity command bytes q
+wide_answer-agree capacity (Verify sent count lba) bytes p q agree =
+    within-same capacity lba count _ _
+    (λ below. ap (λ l. compared (first_unequal (run (to_verify sent bytes) 0 count) l)) (run-agree p q lba count capacity below agree))
+wide_answer-agree capacity _ bytes p q agree = refl
+
 pub answer_of-agree : (facts : Facts) (command : Command) (bytes : List ℕ) (p q : Blocks) → ((b : ℕ) → b < facts.capacity → p b ≡ q b) →
     answer_of facts command bytes p ≡ answer_of facts command bytes q
 answer_of-agree facts (Read lba count) bytes p q agree =
@@ -37,6 +48,7 @@ answer_of-agree facts (Read lba count) bytes p q agree =
 answer_of-agree facts (CompareAndWrite lba count) bytes p q agree =
     within-same facts.capacity lba count _ _
     (λ below. ap (λ l. compared (first_unequal (to_compare count bytes) l)) (run-agree p q lba count facts.capacity below agree))
+answer_of-agree facts (Wide command) bytes p q agree = wide_answer-agree facts.capacity command bytes p q agree
 answer_of-agree facts _ bytes p q agree = refl
 
 -- no attention stopped what ended with GOOD

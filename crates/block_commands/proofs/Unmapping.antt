@@ -9,7 +9,8 @@ use Rattle.sense.specs.Conditions.{parameter_list_length_error, lba_out_of_range
 use Rattle.cdb.specs.declared.commands.Command.TheVariants.{Unmap}
 use Rattle.block_store.specs.Blocks.{Blocks}
 use Rattle.command_model.specs.Facts.{Facts}
-use Rattle.command_model.specs.Replies.{done, unmap_answer, reply_of}
+use Rattle.command_model.specs.Data.{done}
+use Rattle.command_model.specs.Replies.{unmap_answer, reply_of}
 use Rattle.command_model.specs.UnmapList.{descriptors, descriptors_in, descriptor_count, blocks_named, are_in_range}
 use Rattle.block_commands.proofs.Descriptors.{length-descriptors_in}
 

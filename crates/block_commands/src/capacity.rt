@@ -27,15 +27,16 @@ pub(crate) fn capacity_10(capacity: u64) -> [u8; 8]
     data
 }
 
-/// Returns the data of READ CAPACITY (16).
+/// Returns the data of READ CAPACITY (16), with the exponent of a physical block.
 #[tactic(auto, unfolding(command_model::specs::Capacity::capacity_16))]
-pub(crate) fn capacity_16(capacity: u64) -> [u8; 32]
-    ensures { result ≡ capacity_16 capacity }
+pub(crate) fn capacity_16(capacity: u64, exponent: u8) -> [u8; 32]
+    ensures { result ≡ capacity_16 capacity exponent }
 {
     let last = capacity.saturating_sub(1);
     let mut data = [0; 32];
     data[..8].copy_from_slice(&last.to_be_bytes());
     data[8..12].copy_from_slice(&(BLOCK_BYTES as u32).to_be_bytes());
+    data[13] = exponent;
     data[14] = PROVISIONED;
     data
 }

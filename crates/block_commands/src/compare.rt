@@ -2,9 +2,8 @@
 
 ghost use Rattle.std.specs.Prelude.{◌≡◌, ℕ, ◌*◌, ◌<◌, [], length, OnOk, OnErr, IfSome, IsTrue};
 ghost use Rattle.block_store.specs.Blocks.{run, overwritten};
-ghost use Rattle.command_model.specs.Capacity.{is_in_range};
-ghost use Rattle.command_model.specs.Comparing.{first_unequal, to_compare, to_write};
-ghost use Rattle.command_model.specs.Replies.{within, compared};
+ghost use Rattle.command_model.specs.Capacity.{is_in_range, within};
+ghost use Rattle.command_model.specs.Comparing.{compared, first_unequal, to_compare, to_write};
 ghost use Rattle.block_commands.specs.Inner.Steps.{Gives, Wants};
 ghost use Rattle.block_commands.specs.Inner.Ready.{is_inside, is_near_to};
 

@@ -1,6 +1,6 @@
 //! One command, run whole.
 
-ghost use Rattle.std.specs.Prelude.{◌≡◌, ◌≤◌, ◌+◌, ◌<◌, ◌^◌, ℕ, length, vec_len, IfOk, OnOk, OnErr, unwrap_or, MatchResult, IsOkAnd, IsTrue, [], Err, None};
+ghost use Rattle.std.specs.Prelude.{◌≡◌, ◌≤◌, ◌+◌, ◌<◌, ◌^◌, ℕ, length, vec_len, IfOk, OnOk, OnErr, unwrap_or, IsTrue, None};
 ghost use Rattle.std.specs.Result.{ForOk};
 ghost use Rattle.cdb.specs.Need.{need_of};
 ghost use Rattle.command_model.specs.Data.{data_of};
@@ -16,7 +16,7 @@ ghost use Rattle.block_commands.specs.Inner.Ready.{IsReady};
 use crate::attention::met_attention;
 use crate::capacity::{capacity_10, capacity_16};
 use crate::compare::compare_and_write;
-use crate::data::cut;
+use crate::data::{cut, without_data};
 use crate::facts::UnitFacts;
 use crate::failure::Failure;
 use crate::inquiry::inquiry;
@@ -99,12 +99,13 @@ fn run<S: Store>(
         Command::Read { lba, blocks } => read(room, store, lba, blocks),
         Command::Write { lba, blocks } => without_data(alloc, write(store, lba, blocks, bytes)),
         Command::Inquiry { what, allocation } => {
+            let identity = facts.identity_told();
             Ok(inquiry(
                 alloc,
                 facts.profile,
+                &identity,
                 what,
-                facts.target,
-                facts.lun,
+                facts.address,
                 allocation,
             )?)
         }
@@ -113,7 +114,8 @@ fn run<S: Store>(
             Ok(Vec::from_slice(alloc, &data)?)
         }
         Command::ReadCapacity16 { allocation } => {
-            Ok(cut(alloc, &capacity_16(store.capacity()), allocation)?)
+            let exponent = facts.identity_told().physical_exponent;
+            Ok(cut(alloc, &capacity_16(store.capacity(), exponent), allocation)?)
         }
         Command::SynchronizeCache { lba, blocks } => {
             synchronize(store, lba, blocks)?;
@@ -132,18 +134,10 @@ fn run<S: Store>(
         Command::ReportLuns { select, allocation } => {
             Ok(lun_list(alloc, listed_luns(select, &facts.luns), allocation)?)
         }
-        Command::Wide(command) => wide(alloc, store.capacity(), &command, bytes),
+        Command::Wide(command) => wide(alloc, store, &command, bytes),
         Command::Bad { .. } => Err(Failure::Refused(Sense::INVALID_FIELD_IN_CDB)),
         Command::Unknown => Err(Failure::Refused(Sense::INVALID_OPCODE)),
     }
-}
-
-/// Returns no data, where a command ended well.
-fn without_data(alloc: Global, ended: Result<(), Failure>) -> Result<Vec<u8>, Failure>
-    ensures { MatchResult ended (λ _. IsOkAnd result (λ bytes. bytes.items ≡ [])) (λ failure. result ≡ Err failure) }
-{
-    ended?;
-    Ok(Vec::new(alloc))
 }
 
 /// Returns the reply to a command that gave this data, or was refused.

@@ -1,23 +1,44 @@
 //! The facts of its logical unit that a command is told.
 
-ghost use Rattle.std.specs.Prelude.{◌≤◌, length};
+ghost use Rattle.std.specs.Prelude.{◌≡◌, ◌≤◌, length};
+ghost use Rattle.scsi_codec.specs.Lun.{number_of};
 
 use cdb::Profile;
+use command_model::Identity;
+use scsi_codec::Address;
 use sense::Sense;
 
 /// The facts of its logical unit that a command is told, apart from the blocks.
 #[derive(Drop)]
 pub struct UnitFacts {
-    /// The target of the unit.
-    pub target: u8,
-    /// The unit's logical unit number, 0 to 16,383.
-    pub lun: u16,
+    /// The address of the unit.
+    pub address: Address,
+    /// Its number, which is compared with those of arrivals.
+    pub number: u32,
     /// The LUNs of the target's units, its own among them, each once by rising number.
     pub luns: Vec<u16>,
     /// The oldest unit attention that is pending, if any: its sense key is UNIT ATTENTION.
     pub pending: Option<Sense>,
     /// The commands that the unit knows.
     pub profile: Profile,
+    /// What its configuration says of it.
+    pub identity: Identity,
     // There are no more LUNs than flat space addresses tell apart (SAM-5 §4.7.7.3).
     ghost few: { length luns.items ≤ 16384 },
+    ghost numbered: { number ≡ number_of address },
+}
+
+impl UnitFacts {
+    ghost use Rattle.std.specs.Prelude.{◌≡◌};
+    ghost use Rattle.command_model.specs.Identity.{told_by};
+
+    /// Returns what the unit tells of what its configuration says of it.
+    pub(crate) fn identity_told(&self) -> Identity
+        ensures { result ≡ told_by self.now.profile self.now.identity }
+    {
+        match self.profile {
+            Profile::Narrow => Identity::PLAIN,
+            Profile::Wide => self.identity,
+        }
+    }
 }

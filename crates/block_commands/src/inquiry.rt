@@ -1,12 +1,15 @@
 //! The data of INQUIRY (SPC-4 §6.6, §7.8, SBC-3 §6.6).
 
-ghost use Rattle.std.specs.Prelude.{◌≡◌, ◌+◌, ◌*◌, ◌/◌, ◌%◌, ◌<◌, nat_lt, take, IfOk, OnErr, IsTrue};
-ghost use Rattle.command_model.specs.Inquiry.{serial, serial_page, identification_page, extended_page, limits_page, characteristics_page, standard_of, supported_pages, inquiry_data};
+ghost use Rattle.std.specs.Prelude.{◌≡◌, ◌≤◌, ◌+◌, ◌*◌, ◌/◌, ◌%◌, ◌<◌, ◌++◌, length, nat_lt, take, IfOk, OnErr, IsTrue};
+ghost use Rattle.arrayvec.specs.ArrayVec.{array_vec_len};
+ghost use Rattle.command_model.specs.Inquiry.{serial, serial_of, serial_page, identification_page, naa_designator, t10_designator, extended_page, limits_page, characteristics_page, standard_of, supported_pages, inquiry_data};
 ghost use Rattle.command_model.specs.StandardData.{wide_standard_data};
 
 use crate::data::cut;
+use arrayvec::ArrayVec;
 use cdb::{InquiryData, Profile};
-use command_model::standard_data;
+use command_model::{Identity, standard_data};
+use scsi_codec::Address;
 use std::alloc::{AllocError, Global};
 
 /// Byte 0 of the standard data of a block device that is there.
@@ -23,62 +26,88 @@ const WIDE_SUPPORTED_PAGES: [u8; 11] = [
 /// Logical Block Provisioning: UNMAP and WRITE SAME unmap, to zeros; thin provisioning.
 const PROVISIONING_PAGE: [u8; 8] = [0x00, 0xb2, 0x00, 0x04, 0x00, 0xe4, 0x02, 0x00];
 
-/// The bytes before the serial number on the page of that name.
-const SERIAL_HEADER: [u8; 4] = [0x00, 0x80, 0x00, 0x0d];
+/// The bytes of a page that tells what a configuration says of a unit. The longest is the standard data.
+type Page = ArrayVec<u8, 96>;
 
-/// The bytes before the serial number in Device Identification: the designator is ASCII text that begins with the
-/// vendor.
-const IDENTIFICATION_HEADER: [u8; 16] = *b"\x00\x83\x00\x19\x02\x01\x00\x15VSCSI   ";
-
-/// Returns the data that an INQUIRY asks for, of the unit of this profile, target and LUN, cut to the allocation length.
+/// Returns the data that an INQUIRY asks for, of the unit of this profile and address that tells this identity, cut to the
+/// allocation length.
 #[tactic(auto, unfolding(command_model::specs::Inquiry::provisioning_page))]
 pub(crate) fn inquiry(
     alloc: Global,
     profile: Profile,
+    identity: &Identity,
     what: InquiryData,
-    target: u8,
-    lun: u16,
+    address: Address,
     allocation: u32,
 ) -> Result<Vec<u8>, AllocError>
-    ensures data { IfOk result (λ bytes. bytes.items ≡ take allocation (inquiry_data profile what target lun)) }
+    ensures data { IfOk result (λ bytes. bytes.items ≡ take allocation (inquiry_data profile identity.now what address.target address.lun)) }
     ensures want { OnErr result (IsTrue (nat_lt 0 allocation)) }
 {
     match what {
-        InquiryData::Standard => standard(alloc, profile, allocation),
+        InquiryData::Standard => standard(alloc, profile, identity, allocation),
         InquiryData::SupportedPages => supported_pages(alloc, profile, allocation),
-        InquiryData::SerialNumber => cut(alloc, &serial_page(target, lun), allocation),
+        InquiryData::SerialNumber => {
+            let page = serial_page(&serial_of(identity, address));
+            cut(alloc, page.as_slice(), allocation)
+        }
         InquiryData::DeviceIdentification => {
-            cut(alloc, &identification_page(target, lun), allocation)
+            let page = identification_page(identity, &serial_of(identity, address));
+            cut(alloc, page.as_slice(), allocation)
         }
         InquiryData::ExtendedInquiry => cut(alloc, &extended_page(), allocation),
         InquiryData::BlockLimits => cut(alloc, &limits_page(), allocation),
         InquiryData::BlockDeviceCharacteristics => {
-            cut(alloc, &characteristics_page(), allocation)
+            cut(
+                alloc,
+                &characteristics_page(identity.rotation_rate),
+                allocation,
+            )
         }
         InquiryData::LogicalBlockProvisioning => cut(alloc, &PROVISIONING_PAGE, allocation),
     }
 }
 
 /// Returns the standard data of this profile, cut to the allocation length.
-fn standard(alloc: Global, profile: Profile, allocation: u32) -> Result<Vec<u8>, AllocError>
-    ensures data { IfOk result (λ bytes. bytes.items ≡ take allocation (standard_of profile)) }
+fn standard(
+    alloc: Global,
+    profile: Profile,
+    identity: &Identity,
+    allocation: u32,
+) -> Result<Vec<u8>, AllocError>
+    ensures data { IfOk result (λ bytes. bytes.items ≡ take allocation (standard_of profile identity.now)) }
     ensures want { OnErr result (IsTrue (nat_lt 0 allocation)) }
 {
     match profile {
         Profile::Narrow => cut(alloc, &standard_data(BLOCK_DEVICE), allocation),
-        Profile::Wide => cut(alloc, &wide_standard_data(), allocation),
+        Profile::Wide => cut(alloc, wide_standard_data(identity).as_slice(), allocation),
     }
 }
 
 /// Makes the standard data of the wide profile.
 #[tactic(auto, unfolding(command_model::specs::StandardData::wide_standard_data))]
-fn wide_standard_data() -> [u8; 96]
-    ensures { result ≡ wide_standard_data }
+fn wide_standard_data(identity: &Identity) -> Page
+    ensures { result.items ≡ wide_standard_data identity.now.vendor identity.now.product identity.now.revision }
 {
-    let mut data = [0; 96];
-    data[..36].copy_from_slice(b"\x00\x00\x06\x02\x5b\x00\x00\x02VSCSI   TASK SET DISK   0001");
-    data[58..64].copy_from_slice(&[0x00, 0xa0, 0x04, 0x60, 0x04, 0xc0]);
+    let mut data = Page::new();
+    add(&mut data, &[0x00, 0x00, 0x06, 0x02, 0x5b, 0x00, 0x00, 0x02]);
+    add(&mut data, &identity.vendor);
+    add(&mut data, &identity.product);
+    add(&mut data, &identity.revision);
+    add(&mut data, &[0; 22]);
+    add(&mut data, &[0x00, 0xa0, 0x04, 0x60, 0x04, 0xc0]);
+    add(&mut data, &[0; 32]);
     data
+}
+
+/// Adds bytes to a page, which has room for them.
+fn add(page: &mut Page, bytes: &[u8])
+    requires { array_vec_len page.old + length bytes.now ≤ 96 }
+    ensures bytes { page.new.items ≡ page.old.items ++ bytes.now }
+    ensures len { array_vec_len page.new ≡ array_vec_len page.old + length bytes.now }
+{
+    let Ok(()) = page.try_extend_from_slice(bytes) else {
+        unreachable!()
+    };
 }
 
 /// Returns the page Supported VPD Pages of this profile, cut to the allocation length.
@@ -106,34 +135,76 @@ fn extended_page() -> [u8; 64]
 
 /// Makes the page Block Device Characteristics.
 #[tactic(auto, unfolding(command_model::specs::Inquiry::characteristics_page))]
-fn characteristics_page() -> [u8; 64]
-    ensures { result ≡ characteristics_page }
+fn characteristics_page(rate: u16) -> [u8; 64]
+    ensures { result ≡ characteristics_page rate }
 {
     let mut page = [0; 64];
-    page[..6].copy_from_slice(&[0x00, 0xb1, 0x00, 0x3c, 0x00, 0x01]);
+    page[..4].copy_from_slice(&[0x00, 0xb1, 0x00, 0x3c]);
+    page[4..6].copy_from_slice(&rate.to_be_bytes());
     page
 }
 
 /// Makes the page Unit Serial Number.
-#[tactic(auto, unfolding(command_model::specs::Inquiry::serial_page, command_model::specs::Inquiry::serial))]
-fn serial_page(target: u8, lun: u16) -> [u8; 17]
-    ensures { result ≡ serial_page target lun }
+#[tactic(auto, unfolding(command_model::specs::Inquiry::serial_page))]
+fn serial_page(number: &Page) -> Page
+    requires { length number.now.items ≤ 20 }
+    ensures { result.items ≡ serial_page number.now.items }
 {
-    let mut page = [0; 17];
-    page[..4].copy_from_slice(&SERIAL_HEADER);
-    page[4..].copy_from_slice(&serial(target, lun));
+    let number = number.as_slice();
+    let mut page = Page::new();
+    add(&mut page, &[0x00, 0x80, 0x00, number.len() as u8]);
+    add(&mut page, number);
     page
 }
 
 /// Makes the page Device Identification.
-#[tactic(auto, unfolding(command_model::specs::Inquiry::identification_page, command_model::specs::Inquiry::serial))]
-fn identification_page(target: u8, lun: u16) -> [u8; 29]
-    ensures { result ≡ identification_page target lun }
+#[tactic(auto, unfolding(command_model::specs::Inquiry::identification_page))]
+fn identification_page(identity: &Identity, number: &Page) -> Page
+    requires { length number.now.items ≤ 20 }
+    ensures { result.items ≡ identification_page identity.now.vendor number.now.items identity.now.naa }
 {
-    let mut page = [0; 29];
-    page[..16].copy_from_slice(&IDENTIFICATION_HEADER);
-    page[16..].copy_from_slice(&serial(target, lun));
+    let designators = designators(identity, number);
+    let designators = designators.as_slice();
+    let mut page = Page::new();
+    add(&mut page, &[0x00, 0x83, 0x00, designators.len() as u8]);
+    add(&mut page, designators);
     page
+}
+
+/// Makes the designators of a unit: that of its vendor and serial number, and its NAA, if any.
+fn designators(identity: &Identity, number: &Page) -> Page
+    requires { length number.now.items ≤ 20 }
+    ensures bytes { result.items ≡ t10_designator identity.now.vendor number.now.items ++ naa_designator identity.now.naa }
+    ensures few { length result.items ≤ 44 }
+{
+    let number = number.as_slice();
+    let mut page = Page::new();
+    add(&mut page, &[0x02, 0x01, 0x00, 8 + number.len() as u8]);
+    add(&mut page, &identity.vendor);
+    add(&mut page, number);
+    match &identity.naa {
+        None => {}
+        Some(naa) => {
+            add(&mut page, &[0x01, 0x03, 0x00, 0x08]);
+            add(&mut page, naa);
+        }
+    }
+    page
+}
+
+/// Returns the serial number that a unit of this address tells.
+fn serial_of(identity: &Identity, address: Address) -> Page
+    ensures bytes { result.items ≡ serial_of identity.now address.target address.lun }
+    ensures few { length result.items ≤ 20 }
+{
+    let mut number = Page::new();
+    if identity.serial_len == 0 {
+        add(&mut number, &serial(address.target, address.lun));
+    } else {
+        let len = (identity.serial_len as usize).min(identity.serial.len());
+        add(&mut number, &identity.serial[..len]);
+    }
+    number
 }
 
 /// Returns the serial number of the unit of this target and LUN.

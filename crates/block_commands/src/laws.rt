@@ -5,13 +5,16 @@ ghost use Rattle.sense.specs.declared.Sense.{Sense};
 ghost use Rattle.sense.specs.Conditions.{miscompare};
 ghost use Rattle.cdb.specs.declared.commands.InquiryData.{InquiryData};
 ghost use Rattle.cdb.specs.declared.commands.SelectReport.{SelectReport};
-ghost use Rattle.cdb.specs.Fields.{number};
+ghost use Rattle.cdb.specs.Decoding.{command};
+ghost use Rattle.cdb.specs.Fields.{byte, number};
+ghost use Rattle.cdb.specs.declared.profile.Profile.{Profile};
 ghost use Rattle.cdb.specs.Need.{need_of};
 ghost use Rattle.block_store.specs.Blocks.{Blocks, run, zero_block};
 ghost use Rattle.command_model.specs.PlainReply.{success, refusal};
 ghost use Rattle.command_model.specs.Statuses.{good, check_condition};
 ghost use Rattle.command_model.specs.Attention.{takes};
 ghost use Rattle.command_model.specs.Capacity.{is_in_range};
+ghost use Rattle.command_model.specs.Codes.{ActionDecides, OfEach, PlainDecides, action_commands, is_told, plain_commands};
 ghost use Rattle.command_model.specs.Comparing.{to_compare};
 ghost use Rattle.command_model.specs.Effects.{block_after};
 ghost use Rattle.command_model.specs.Facts.{Facts};
@@ -20,6 +23,7 @@ ghost use Rattle.command_model.specs.Replies.{reply_of};
 ghost use Rattle.command_model.specs.UnmapList.{blocks_named, descriptors, are_in_range, is_named};
 
 use block_store::written_is_read_back;
+use cdb::laws::opcodes;
 use cdb::{Command, MOST_COMPARE_BLOCKS, MOST_TRANSFER_BLOCKS, MOST_WRITE_SAME_BLOCKS};
 
 /// A reply is GOOD or CHECK CONDITION. GOOD moves all that the command needs from the driver, and the
@@ -145,4 +149,19 @@ pub fn attention_is_met()
     ensures { (facts : Facts) (command : Command) (bytes : List ℕ) (blocks : Blocks) (attention : Sense) →
         IsTrue (takes command) → ((allocation : ℕ) → command ≢ Command.RequestSense allocation) →
         reply_of (record facts { pending = Some attention }) command bytes blocks ≡ refusal attention }
+{}
+
+/// REPORT SUPPORTED OPERATION CODES tells of exactly the opcodes that a unit of the wide profile knows.
+pub fn codes_are_told()
+    ensures others { (cdb : List ℕ) → IsFalse (is_told (byte 0 cdb)) → command Profile.Wide cdb ≡ Command.Unknown }
+    ensures told { (cdb : List ℕ) → IsTrue (is_told (byte 0 cdb)) → command Profile.Wide cdb ≢ Command.Unknown }
+{
+    opcodes();
+}
+
+/// The fields of which its usage maps are the bits decide all: two CDBs of a command that agree in these, and in NACA,
+/// mean the same.
+pub fn usage_maps_decide()
+    ensures plain { OfEach PlainDecides plain_commands }
+    ensures actions { OfEach ActionDecides action_commands }
 {}

@@ -11,6 +11,7 @@
 
 mod attention;
 mod capacity;
+mod codes;
 mod compare;
 mod data;
 mod disks;
@@ -28,6 +29,7 @@ mod prepared;
 mod readiness;
 mod transfer;
 mod unmap;
+mod verify;
 mod wide;
 
 pub use attention::takes_attention;

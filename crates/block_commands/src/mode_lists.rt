@@ -1,21 +1,25 @@
 //! The parameter list of MODE SELECT (SPC-4 §6.9, §7.5.5).
 
-ghost use Rattle.std.specs.Prelude.{◌≡◌, ◌≤◌, ◌<◌, false, length};
+ghost use Rattle.std.specs.Prelude.{◌≡◌, ◌≤◌, Ok, Err, MatchResult, length};
 ghost use Rattle.cdb.specs.declared.wide_commands.ModeDescriptor.{ModeDescriptor};
-ghost use Rattle.command_model.specs.Modes.{block_descriptor, page_list};
-ghost use Rattle.command_model.specs.ModeLists.{are_current, begins_with, behind, changes_nothing, descriptor_bytes, header_length, is_kept, is_kept_by, is_long, is_same, medium_type, select_answer};
+ghost use Rattle.command_model.specs.Modes.{descriptor_length, page_list};
+ghost use Rattle.command_model.specs.ModeLists.{begins_with, begins_with_page, behind_page, described_answer, descriptor_bytes, descriptor_of, has_block_length, header_length, is_long, is_page, is_same, medium_type, pages_answer, select_answer};
 ghost use Rattle.block_commands.specs.Inner.Steps.{Ends};
 
 use crate::compare::first_unequal;
-use crate::modes::{
-    caching, control, error_recovery, exceptions, long_descriptor, short_descriptor,
-};
-use cdb::ModeForm;
+use crate::modes::{caching, control, descriptor_length, error_recovery, exceptions};
+use block_store::BLOCK_BYTES;
+use cdb::{ModeDescriptor, ModeForm};
 use sense::Sense;
 
-/// Takes a parameter list that changes nothing; refuses every other, and one whose header is cut.
-pub(crate) fn mode_select(form: ModeForm, capacity: u64, list: &[u8]) -> Result<(), Sense>
-    ensures { Ends (select_answer form capacity list.now) result }
+/// The bytes of a page before what its page length counts.
+const PAGE_HEADER_BYTES: usize = 2;
+
+/// Takes a parameter list that changes nothing. Refuses every other with the first cause in the order of its bytes:
+/// PARAMETER LIST LENGTH ERROR where it ends within its header, its block descriptor or a page, else INVALID FIELD IN
+/// PARAMETER LIST.
+pub(crate) fn mode_select(form: ModeForm, list: &[u8]) -> Result<(), Sense>
+    ensures { Ends (select_answer form list.now) result }
 {
     if list.is_empty() {
         return Ok(());
@@ -23,10 +27,83 @@ pub(crate) fn mode_select(form: ModeForm, capacity: u64, list: &[u8]) -> Result<
     if list.len() < header_length(form) {
         return Err(Sense::PARAMETER_LIST_LENGTH_ERROR);
     }
-    if !changes_nothing(form, capacity, list) {
+    if medium_type(form, list) != 0 {
         return Err(Sense::INVALID_FIELD_IN_PARAMETER_LIST);
     }
+    let descriptor = descriptor_of(is_long(form, list), descriptor_bytes(form, list));
+    take_described(descriptor, &list[header_length(form)..])
+}
+
+/// Takes what follows the header, where that announces this block descriptor.
+fn take_described(descriptor: Option<ModeDescriptor>, bytes: &[u8]) -> Result<(), Sense>
+    ensures { Ends (described_answer descriptor bytes.now) result }
+{
+    let Some(descriptor) = descriptor else {
+        return Err(Sense::INVALID_FIELD_IN_PARAMETER_LIST);
+    };
+    let end = usize::from(descriptor_length(descriptor));
+    if bytes.len() < end {
+        return Err(Sense::PARAMETER_LIST_LENGTH_ERROR);
+    }
+    if !has_block_length(descriptor, bytes) {
+        return Err(Sense::INVALID_FIELD_IN_PARAMETER_LIST);
+    }
+    take_pages(bytes.len(), &bytes[end..])
+}
+
+/// Takes at most so many pages, in any order.
+fn take_pages(most: usize, list: &[u8]) -> Result<(), Sense>
+    ensures { Ends (pages_answer most list.now) result }
+{
+    let mut rest = list;
+    for taken in 0..most {
+        if rest.is_empty() {
+            return Ok(());
+        }
+        match behind_page(rest) {
+            Ok(later) => rest = later,
+            Err(sense) => return Err(sense),
+        }
+    }
     Ok(())
+}
+
+/// Returns what stands behind the first page of a list.
+fn behind_page(list: &[u8]) -> Result<&[u8], Sense>
+    ensures { MatchResult result (λ rest. behind_page list.now ≡ Ok rest.now) (λ sense. behind_page list.now ≡ Err sense) }
+{
+    if list.len() < PAGE_HEADER_BYTES {
+        return Err(Sense::PARAMETER_LIST_LENGTH_ERROR);
+    }
+    if !is_page(list[0]) {
+        return Err(Sense::INVALID_FIELD_IN_PARAMETER_LIST);
+    }
+    let end = PAGE_HEADER_BYTES + usize::from(list[1]);
+    if list.len() < end {
+        return Err(Sense::PARAMETER_LIST_LENGTH_ERROR);
+    }
+    if !begins_with_page(list) {
+        return Err(Sense::INVALID_FIELD_IN_PARAMETER_LIST);
+    }
+    Ok(&list[end..])
+}
+
+/// Returns true if there is a page of this code, with PS and SPF 0.
+fn is_page(code: u8) -> bool
+    ensures { result ≡ is_page code }
+{
+    matches!(code, 0x01 | 0x08 | 0x0a | 0x1c)
+}
+
+/// Returns true if a list begins with a page as MODE SENSE gives it.
+#[tactic(auto, unfolding(command_model::specs::ModeLists::begins_with_page))]
+fn begins_with_page(list: &[u8]) -> bool
+    ensures { result ≡ begins_with_page list.now }
+{
+    begins_with(list, &error_recovery())
+        || begins_with(list, &caching())
+        || begins_with(list, &control())
+        || begins_with(list, &exceptions())
 }
 
 /// Returns how many bytes the header has.
@@ -38,21 +115,6 @@ fn header_length(form: ModeForm) -> usize
         ModeForm::Six => 4,
         ModeForm::Ten => 8,
     }
-}
-
-/// Returns true if a list with a whole header sets all as it is.
-fn changes_nothing(form: ModeForm, capacity: u64, list: &[u8]) -> bool
-    requires { header_length form ≤ length list.now }
-    ensures { result ≡ changes_nothing form capacity list.now }
-{
-    let rest = &list[header_length(form)..];
-    medium_type(form, list) == 0
-        && is_kept_by(
-            is_long(form, list),
-            descriptor_bytes(form, list),
-            capacity,
-            rest,
-        )
 }
 
 /// Returns the medium type.
@@ -98,56 +160,49 @@ fn descriptor_bytes_10(list: &[u8]) -> u16
     u16::from_be_bytes(bytes)
 }
 
-/// Returns true if what follows the header is as it is, where the block descriptor has so many bytes.
-fn is_kept_by(long: bool, bytes: u16, capacity: u64, rest: &[u8]) -> bool
-    ensures { result ≡ is_kept_by long bytes capacity rest.now }
+/// Returns the block descriptor that LONGLBA and the block descriptor length announce, if there is such a one.
+fn descriptor_of(long: bool, bytes: u16) -> Option<ModeDescriptor>
+    ensures { result ≡ descriptor_of long bytes }
 {
-    if bytes == 0 {
-        are_current(rest)
-    } else if long {
-        bytes == 16 && has_long(capacity, rest)
-    } else {
-        bytes == 8 && has_short(capacity, rest)
+    match bytes {
+        0 => Some(ModeDescriptor::Absent),
+        16 if long => Some(ModeDescriptor::Long),
+        8 if !long => Some(ModeDescriptor::Short),
+        _ => None,
     }
 }
 
-/// Returns true if a list begins with the block descriptor of 16 bytes, and current pages follow.
-fn has_long(capacity: u64, rest: &[u8]) -> bool
-    ensures { result ≡ is_kept ModeDescriptor.Long capacity rest.now }
+/// Returns true if a whole block descriptor at the front of a list has the block length of the unit. The number of blocks
+/// is ignored.
+fn has_block_length(descriptor: ModeDescriptor, bytes: &[u8]) -> bool
+    requires { descriptor_length descriptor ≤ length bytes.now }
+    ensures { result ≡ has_block_length descriptor bytes.now }
 {
-    let descriptor = long_descriptor(capacity);
-    begins_with(rest, &descriptor) && are_current(&rest[descriptor.len()..])
-}
-
-/// Returns true if a list begins with the block descriptor of 8 bytes, and current pages follow.
-fn has_short(capacity: u64, rest: &[u8]) -> bool
-    ensures { result ≡ is_kept ModeDescriptor.Short capacity rest.now }
-{
-    let descriptor = short_descriptor(capacity);
-    begins_with(rest, &descriptor) && are_current(&rest[descriptor.len()..])
-}
-
-/// Returns true if a list is of current pages alone, by rising code and each at most once.
-#[tactic(auto, unfolding(command_model::specs::ModeLists::are_current))]
-fn are_current(list: &[u8]) -> bool
-    ensures { result ≡ are_current list.now }
-{
-    let list = behind(&error_recovery(), list);
-    let list = behind(&caching(), list);
-    let list = behind(&control(), list);
-    let list = behind(&exceptions(), list);
-    list.len() == 0
-}
-
-/// Returns what is left of a list behind these bytes, if it begins with them.
-fn behind<'a>(front: &[u8], list: &'a [u8]) -> &'a [u8]
-    ensures { result.now ≡ behind front.now list.now }
-{
-    if begins_with(list, front) {
-        &list[front.len()..]
-    } else {
-        list
+    match descriptor {
+        ModeDescriptor::Absent => true,
+        ModeDescriptor::Short => has_length_short(bytes),
+        ModeDescriptor::Long => has_length_long(bytes),
     }
+}
+
+/// Returns true if a block descriptor of 8 bytes has it.
+fn has_length_short(bytes: &[u8]) -> bool
+    requires { 8 ≤ length bytes.now }
+    ensures { result ≡ has_block_length ModeDescriptor.Short bytes.now }
+{
+    let mut length = [0; 4];
+    length.copy_from_slice(&bytes[4..8]);
+    u32::from_be_bytes(length) == BLOCK_BYTES as u32
+}
+
+/// Returns true if a block descriptor of 16 bytes has it.
+fn has_length_long(bytes: &[u8]) -> bool
+    requires { 16 ≤ length bytes.now }
+    ensures { result ≡ has_block_length ModeDescriptor.Long bytes.now }
+{
+    let mut length = [0; 8];
+    length.copy_from_slice(&bytes[8..16]);
+    u64::from_be_bytes(length) == BLOCK_BYTES as u64
 }
 
 /// Returns true if a list begins with these bytes.

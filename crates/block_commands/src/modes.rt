@@ -91,7 +91,7 @@ fn pages_length(pages: ModePages) -> u8
 }
 
 /// Returns how many bytes the block descriptor has.
-fn descriptor_length(descriptor: ModeDescriptor) -> u8
+pub(crate) fn descriptor_length(descriptor: ModeDescriptor) -> u8
     ensures length { result ≡ descriptor_length descriptor }
     ensures few { result ≤ 16 }
 {
@@ -156,7 +156,7 @@ fn put_descriptor(
 
 /// Makes the block descriptor of 8 bytes.
 #[tactic(auto, unfolding(command_model::specs::Modes::block_descriptor))]
-pub(crate) fn short_descriptor(capacity: u64) -> [u8; 8]
+fn short_descriptor(capacity: u64) -> [u8; 8]
     ensures { result ≡ block_descriptor ModeDescriptor.Short capacity }
 {
     let blocks = capacity.min(u64::from(u32::MAX)) as u32;
@@ -168,7 +168,7 @@ pub(crate) fn short_descriptor(capacity: u64) -> [u8; 8]
 
 /// Makes the block descriptor of 16 bytes.
 #[tactic(auto, unfolding(command_model::specs::Modes::block_descriptor))]
-pub(crate) fn long_descriptor(capacity: u64) -> [u8; 16]
+fn long_descriptor(capacity: u64) -> [u8; 16]
     ensures { result ≡ block_descriptor ModeDescriptor.Long capacity }
 {
     let mut descriptor = [0; 16];

@@ -7,7 +7,7 @@ ghost use Rattle.command_model.specs.Data.{data_of};
 ghost use Rattle.command_model.specs.Attention.{met};
 ghost use Rattle.command_model.specs.UnmapList.{descriptors_in, descriptors, is_named, are_in_range};
 ghost use Rattle.command_model.specs.Replies.{unmap_answer};
-ghost use Rattle.block_commands.specs.Inner.Ready.{IsReady, is_inside, is_near_to, is_near_any, is_done};
+ghost use Rattle.block_commands.specs.Inner.Ready.{IsReady, is_inside, is_read_wide, is_near_to, is_near_any, is_done};
 
 use crate::attention::met_attention;
 use crate::capacity::is_in_range;
@@ -15,7 +15,7 @@ use crate::extents::{UNMAP_HEADER_BYTES, extent_at, taken_descriptors};
 use crate::facts::UnitFacts;
 use crate::unmap::{are_in_range, is_too_much};
 use block_store::{Readiness, Store};
-use cdb::{Command, need};
+use cdb::{Command, WideCommand, need};
 
 /// Asks for the blocks that a read of the range needs, unless the range is refused.
 fn to_read<S: Store>(store: &mut S, lba: u64, blocks: u32) -> Readiness
@@ -128,6 +128,24 @@ fn to_compare<S: Store>(store: &mut S, lba: u64, blocks: u32) -> Readiness
     read.and(write)
 }
 
+/// Asks for the blocks that a command of the wide profile alone reads.
+fn to_run_wide<S: Store>(store: &mut S, command: &WideCommand) -> Readiness
+    ensures ready { result ≡ Ready → (b : ℕ) → IsTrue (is_read_wide (S.size store.old) command.now b) → IsTrue (S.is_held store.new b) }
+    ensures asked { result ≢ Full → (b : ℕ) → IsTrue (is_read_wide (S.size store.old) command.now b) → IsTrue (S.is_coming store.new b) }
+    ensures whole { IsTrue (S.is_whole store.old) → result ≡ Ready }
+    ensures kind { S.is_whole store.new ≡ S.is_whole store.old }
+    ensures blocks { (b : ℕ) → S.block_at store.new b ≡ S.block_at store.old b }
+    ensures size { S.size store.new ≡ S.size store.old }
+    ensures held { (b : ℕ) → IsTrue (S.is_held store.old b) → IsTrue (S.is_held store.new b) }
+    ensures coming { (b : ℕ) → IsTrue (S.is_coming store.old b) → IsTrue (S.is_coming store.new b) }
+    ensures keeps_room { (b : ℕ) → IsTrue (S.has_room store.old b) → IsTrue (S.has_room store.new b) }
+{
+    match *command {
+        WideCommand::Verify { blocks, lba, .. } => to_read(store, lba, u32::from(blocks)),
+        _ => Readiness::Ready,
+    }
+}
+
 /// Makes a store ready for a command: makes room for what the command may write over, and asks the host for each page
 /// that it needs in memory and that isn't there, all of them at once. The blocks stay as they are. `Ready` where
 /// [`exec`](crate::exec) may run; a store whose blocks are all in memory always is.
@@ -158,6 +176,7 @@ pub fn make_ready<S: Store>(
         Command::WriteSame { lba, blocks } => to_write(store, lba, blocks),
         Command::CompareAndWrite { lba, blocks } => to_compare(store, lba, u32::from(blocks)),
         Command::Unmap { .. } => to_unmap(store, bytes),
+        Command::Wide(command) => to_run_wide(store, &command),
         _ => Readiness::Ready,
     }
 }

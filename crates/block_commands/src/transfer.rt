@@ -2,8 +2,8 @@
 
 ghost use Rattle.std.specs.Prelude.{◌≡◌, ◌&&◌, nat_lt, ℕ, ◌*◌, ◌-◌, [], length, vec_len, IfOk, OnOk, OnErr, Ok, IsTrue};
 ghost use Rattle.block_store.specs.Blocks.{run, overwritten, filled};
-ghost use Rattle.command_model.specs.Capacity.{is_in_range};
-ghost use Rattle.command_model.specs.Replies.{within, done};
+ghost use Rattle.command_model.specs.Capacity.{is_in_range, within};
+ghost use Rattle.command_model.specs.Data.{done};
 ghost use Rattle.block_commands.specs.Inner.Steps.{Gives, Ends, Wants};
 ghost use Rattle.block_commands.specs.Inner.Ready.{is_inside, is_near_to};
 

@@ -1,15 +1,19 @@
 //! The commands of the wide profile alone.
 
-ghost use Rattle.std.specs.Prelude.{◌≡◌, ◌≤◌, ◌<◌, nat_lt, vec_len, take, IfOk, OnErr, IsTrue};
+ghost use Rattle.std.specs.Prelude.{◌≡◌, ◌≤◌, ◌<◌, ℕ, length, nat_lt, vec_len, take, IfOk, OnErr, IsTrue};
 ghost use Rattle.cdb.specs.Need.{wide_need};
 ghost use Rattle.command_model.specs.Modes.{mode_answer};
 ghost use Rattle.command_model.specs.Wide.{lba_status, task_management_data, wide_answer, wide_wants};
 ghost use Rattle.block_commands.specs.Inner.Steps.{Gives, Wants};
+ghost use Rattle.block_commands.specs.Inner.Ready.{is_read_wide};
 
-use crate::data::cut;
+use crate::codes::operation_codes;
+use crate::data::{cut, without_data};
 use crate::failure::Failure;
 use crate::mode_lists::mode_select;
 use crate::modes::{is_saved, mode_data};
+use crate::verify::verify;
+use block_store::Store;
 use cdb::{ModeRequest, WideCommand};
 use sense::Sense;
 use std::alloc::{AllocError, Global};
@@ -26,22 +30,25 @@ const EXTENDED_TASK_MANAGEMENT: [u8; 16] = [
 /// The bytes that follow byte 3 of the data of GET LBA STATUS.
 const STATUS_LENGTH: u32 = 20;
 
-/// Runs a command of the wide profile alone, of a unit of this capacity, on exactly the data that it needs. None changes
-/// a block.
-pub(crate) fn wide(
+/// Runs a command of the wide profile alone on the blocks of a unit, on exactly the data that it needs. None changes a
+/// block.
+pub(crate) fn wide<S: Store>(
     alloc: Global,
-    capacity: u64,
+    store: &S,
     command: &WideCommand,
     bytes: &[u8],
 ) -> Result<Vec<u8>, Failure>
-    ensures answer { Gives (λ bytes. bytes.items) (wide_answer capacity command.now bytes.now) result }
+    requires data { length bytes.now ≡ (wide_need command.now).out }
+    requires read { (b : ℕ) → IsTrue (is_read_wide (S.size store.now) command.now b) → IsTrue (S.is_held store.now b) }
+    ensures answer { Gives (λ bytes. bytes.items)
+        (wide_answer (S.size store.now) command.now bytes.now (S.block_at store.now)) result }
     ensures room { IfOk result (λ bytes. vec_len bytes ≤ (wide_need command.now).into) }
-    ensures want { Wants (wide_wants command.now) result }
+    ensures want { Wants (wide_wants (S.size store.now) command.now) result }
 {
     match *command {
-        WideCommand::ModeSense(request) => mode_sense(alloc, &request, capacity),
+        WideCommand::ModeSense(request) => mode_sense(alloc, &request, store.capacity()),
         WideCommand::ModeSelect { form, .. } => {
-            mode_select(form, capacity, bytes)?;
+            mode_select(form, bytes)?;
             Ok(Vec::new(alloc))
         }
         WideCommand::ReportTaskManagement {
@@ -49,10 +56,16 @@ pub(crate) fn wide(
             allocation,
         } => Ok(task_management(alloc, extended, allocation)?),
         WideCommand::GetLbaStatus { allocation, lba } => {
-            if lba >= capacity {
+            if lba >= store.capacity() {
                 return Err(Failure::Refused(Sense::LBA_OUT_OF_RANGE));
             }
-            Ok(cut(alloc, &lba_status(capacity, lba), allocation)?)
+            Ok(cut(alloc, &lba_status(store.capacity(), lba), allocation)?)
+        }
+        WideCommand::ReportOperationCodes { asked, allocation } => {
+            operation_codes(alloc, asked, allocation)
+        }
+        WideCommand::Verify { sent, blocks, lba } => {
+            without_data(alloc, verify(alloc, store, sent, lba, blocks, bytes))
         }
     }
 }

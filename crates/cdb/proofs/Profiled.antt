@@ -4,7 +4,7 @@ use Rattle.std.specs.List.{list_all}
 use Rattle.std.proofs.lemmas.Bool.{eqb-true}
 use Rattle.cdb.specs.Fields.{byte, bit, bits, number, is_set, is_over}
 use Rattle.cdb.specs.Profile.{Row}
-use Rattle.cdb.specs.WideProfile.{action_meaning}
+use Rattle.cdb.specs.WideProfile.{verified}
 use Rattle.cdb.specs.declared.profile.Profile.{Profile}
 use Rattle.cdb.specs.declared.profile.Profile.TheVariants.{Narrow, Wide}
 use Rattle.cdb.specs.Opcodes.{is_profiled, control_of}
@@ -49,10 +49,18 @@ both : (a b : Bool) → a ≡ true → b ≡ true → (a && b) ≡ true
 both true b first second = second
 both false b first second = first
 
+verified_known : (lba count : ℕ) (cdb : List ℕ) → is_known (verified lba count cdb) ≡ true
+verified_known lba count cdb =
+    either_meant (bits 1 2 1 cdb == 0) _ _ refl (either_meant (bits 1 2 1 cdb == 1) _ _ refl refl)
+
 all_known : (profile : Profile) (cdb : List ℕ) → list_all (λ row. is_known (row.meaning cdb)) (rows profile) ≡ true
 all_known Narrow cdb = refl
 all_known Wide cdb =
-    both (is_known (action_meaning cdb)) _ (either_meant (bits 1 4 0 cdb == 0x10) _ _ refl refl) refl
+    both _ _ (verified_known (number 2 5 cdb) (number 7 8 cdb) cdb)
+    (both _ _ (verified_known (number 2 9 cdb) (number 10 13 cdb) cdb)
+    (both _ _ (either_meant (bits 1 4 0 cdb == 0x10) _ _ refl refl)
+    (both _ _ (either_meant (bits 1 4 0 cdb == 0x0c) _ _ refl refl)
+    (both _ _ (verified_known (number 2 5 cdb) (number 6 9 cdb) cdb) refl))))
 
 pub known : (profile : Profile) (cdb : List ℕ) → is_profiled profile (byte 0 cdb) ≡ true → command profile cdb ≢ Unknown
 known profile cdb h is_unknown =

@@ -1,11 +1,13 @@
 -- How many bytes of data a command needs, from the driver and for it. A logical block has 512
 -- bytes; an allocation length and a parameter list length count whole.
-use Rattle.std.specs.Prelude.{ℕ, ◌*◌}
+use Rattle.std.specs.Prelude.{ℕ, ◌*◌, min}
 use Rattle.cdb.specs.declared.transfers.Transfer.{Transfer}
 use Rattle.cdb.specs.declared.commands.Command.{Command}
 use Rattle.cdb.specs.declared.commands.Command.TheVariants.{TestUnitReady, RequestSense, Read, Write, Inquiry, ReadCapacity10, ReadCapacity16, SynchronizeCache, WriteSame, Unmap, CompareAndWrite, ReportLuns, Wide, Bad, Unknown}
 use Rattle.cdb.specs.declared.wide_commands.WideCommand.{WideCommand}
-use Rattle.cdb.specs.declared.wide_commands.WideCommand.TheVariants.{ModeSense, ModeSelect, ReportTaskManagement, GetLbaStatus}
+use Rattle.cdb.specs.declared.wide_commands.WideCommand.TheVariants.{ModeSense, ModeSelect, ReportTaskManagement, ReportOperationCodes, GetLbaStatus, Verify}
+use Rattle.cdb.specs.declared.wide_commands.VerifyData.{VerifyData}
+use Rattle.cdb.specs.declared.wide_commands.VerifyData.TheVariants.{EachBlock, OneBlock}
 
 abbrev pub no_bytes : Transfer
 no_bytes = record { out = 0; into = 0 }
@@ -18,12 +20,19 @@ bytes_out n = record { out = n; into = 0 }
 abbrev pub bytes_in : ℕ → Transfer
 bytes_in n = record { out = 0; into = n }
 
+-- of a VERIFY of so many blocks: a block for each, or one for all; of none nothing is sent, SBC-3 §5.29
+abbrev pub sent_blocks : VerifyData → ℕ → ℕ
+sent_blocks EachBlock count = count
+sent_blocks OneBlock count = min count 1
+
 -- of a command of the wide profile alone
 abbrev pub wide_need : WideCommand → Transfer
 wide_need (ModeSense request) = bytes_in request.allocation
 wide_need (ModeSelect form list_length) = bytes_out list_length
 wide_need (ReportTaskManagement extended allocation) = bytes_in allocation
 wide_need (GetLbaStatus allocation lba) = bytes_in allocation
+wide_need (ReportOperationCodes asked allocation) = bytes_in allocation
+wide_need (Verify sent count lba) = bytes_out (512 * sent_blocks sent count)
 
 abbrev pub need_of : Command → Transfer
 need_of TestUnitReady = no_bytes

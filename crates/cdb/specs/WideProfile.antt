@@ -1,11 +1,14 @@
 -- The rows of the wide profile's own: SPC-4 and SBC-3.
-use Rattle.std.specs.Prelude.{ℕ, ◌==◌, Bool, ◌||◌, not, nat_lt, List, [], ◌∷◌, if◌then◌else◌, Option, find, unwrap_or, option_map, is_none}
+use Rattle.std.specs.Prelude.{ℕ, ◌==◌, Bool, ◌||◌, ◌&&◌, not, nat_lt, List, [], ◌∷◌, if◌then◌else◌, Option, find, unwrap_or, option_map, is_none}
 use Rattle.std.specs.List.{list_any}
 use Rattle.cdb.specs.Fields.{byte, bits, bit, number, is_set, is_over}
 use Rattle.cdb.specs.Profile.{Row, row, never, protect}
 use Rattle.cdb.specs.declared.commands.Command.{Command}
 use Rattle.cdb.specs.declared.commands.Command.TheVariants.{TestUnitReady, Write, ReadCapacity16, SynchronizeCache, Wide}
-use Rattle.cdb.specs.declared.wide_commands.WideCommand.TheVariants.{ModeSense, ModeSelect, ReportTaskManagement, GetLbaStatus}
+use Rattle.cdb.specs.declared.wide_commands.WideCommand.TheVariants.{ModeSense, ModeSelect, ReportTaskManagement, ReportOperationCodes, GetLbaStatus, Verify}
+use Rattle.cdb.specs.declared.wide_commands.CodesAsked.{CodesAsked}
+use Rattle.cdb.specs.declared.wide_commands.CodesAsked.TheVariants.{AllCommands, OneCommand, OneServiceAction}
+use Rattle.cdb.specs.declared.wide_commands.VerifyData.TheVariants.{EachBlock, OneBlock}
 use Rattle.cdb.specs.declared.wide_commands.ModeRequest.{ModeRequest}
 use Rattle.cdb.specs.declared.wide_commands.ModeForm.{ModeForm}
 use Rattle.cdb.specs.declared.wide_commands.ModeForm.TheVariants.{Six, Ten}
@@ -63,9 +66,15 @@ select_causes cdb = not (bit 1 4 cdb) ∷ bit 1 0 cdb ∷ []
 abbrev pub written_causes : ℕ → List ℕ → List Bool
 written_causes count cdb = bit 1 2 cdb ∷ protect cdb ∷ is_over 2048 count ∷ []
 
--- VERIFY, SBC-3 §5.29: a comparison, VRPROTECT
+-- VERIFY, SBC-3 §5.29: BYTCHK 10b, VRPROTECT
 abbrev pub verified_causes : ℕ → List ℕ → List Bool
-verified_causes count cdb = is_set (bits 1 2 1 cdb) ∷ protect cdb ∷ is_over 2048 count ∷ []
+verified_causes count cdb = (bits 1 2 1 cdb == 2) ∷ protect cdb ∷ is_over 2048 count ∷ []
+
+-- by BYTCHK: nothing is compared; each block with a block of data, or with the one block of data
+abbrev pub verified : ℕ → ℕ → List ℕ → Command
+verified lba count cdb =
+    if bits 1 2 1 cdb == 0 then SynchronizeCache lba count
+    else (if bits 1 2 1 cdb == 1 then Wide (Verify EachBlock count lba) else Wide (Verify OneBlock count lba))
 
 -- SERVICE ACTION IN (16): a service action but READ CAPACITY (16) and GET LBA STATUS
 abbrev pub action_causes : List ℕ → List Bool
@@ -78,6 +87,27 @@ action_meaning cdb =
 
 abbrev pub service_row : Row
 service_row = row 0x9e 15 action_causes action_meaning
+
+-- MAINTENANCE IN: a service action but REPORT SUPPORTED OPERATION CODES and REPORT SUPPORTED TASK MANAGEMENT FUNCTIONS; of
+-- the first RCTD, and a reporting option over 010b; of the second an allocation length below 4
+abbrev pub maintenance_causes : List ℕ → List Bool
+maintenance_causes cdb =
+    not (bits 1 4 0 cdb == 0x0c || bits 1 4 0 cdb == 0x0d)
+    ∷ (bits 1 4 0 cdb == 0x0c && (bit 2 7 cdb || is_over 2 (bits 2 2 0 cdb)))
+    ∷ (bits 1 4 0 cdb == 0x0d && nat_lt (number 6 9 cdb) 4)
+    ∷ []
+
+-- the commands that a reporting option asks for
+abbrev pub codes_asked : ℕ → ℕ → ℕ → CodesAsked
+codes_asked option opcode action =
+    if option == 0 then AllCommands
+    else (if option == 1 then OneCommand opcode else OneServiceAction opcode action)
+
+abbrev pub maintenance_meaning : List ℕ → Command
+maintenance_meaning cdb =
+    if bits 1 4 0 cdb == 0x0c
+    then Wide (ReportOperationCodes (codes_asked (bits 2 2 0 cdb) (byte 3 cdb) (number 4 5 cdb)) (number 6 9 cdb))
+    else Wide (ReportTaskManagement (bit 2 7 cdb) (number 6 9 cdb))
 
 abbrev pub wide_rows : List Row
 wide_rows =
@@ -103,7 +133,7 @@ wide_rows =
     -- VERIFY (10), SBC-3 §5.29
     ∷ row 0x2f 9
     (λ cdb. verified_causes (number 7 8 cdb) cdb)
-    (λ cdb. SynchronizeCache (number 2 5 cdb) (number 7 8 cdb))
+    (λ cdb. verified (number 2 5 cdb) (number 7 8 cdb) cdb)
     -- PRE-FETCH (10), SBC-3 §5.8
     ∷ row 0x34 9 never (λ cdb. SynchronizeCache (number 2 5 cdb) (number 7 8 cdb))
     -- MODE SELECT (10), SPC-4 §6.10
@@ -118,16 +148,13 @@ wide_rows =
     -- VERIFY (16), SBC-3 §5.31
     ∷ row 0x8f 15
     (λ cdb. verified_causes (number 10 13 cdb) cdb)
-    (λ cdb. SynchronizeCache (number 2 9 cdb) (number 10 13 cdb))
+    (λ cdb. verified (number 2 9 cdb) (number 10 13 cdb) cdb)
     -- PRE-FETCH (16), SBC-3 §5.9
     ∷ row 0x90 15 never (λ cdb. SynchronizeCache (number 2 9 cdb) (number 10 13 cdb))
     -- READ CAPACITY (16), SBC-3 §5.16, and GET LBA STATUS, SBC-3 §5.4
     ∷ service_row
-    -- REPORT SUPPORTED TASK MANAGEMENT FUNCTIONS, SPC-4 §6.36: a service action of MAINTENANCE IN other than 0dh; an
-    -- allocation length below 4
-    ∷ row 0xa3 11
-    (λ cdb. not (bits 1 4 0 cdb == 0x0d) ∷ nat_lt (number 6 9 cdb) 4 ∷ [])
-    (λ cdb. Wide (ReportTaskManagement (bit 2 7 cdb) (number 6 9 cdb)))
+    -- REPORT SUPPORTED OPERATION CODES, SPC-4 §6.35, and REPORT SUPPORTED TASK MANAGEMENT FUNCTIONS, SPC-4 §6.36
+    ∷ row 0xa3 11 maintenance_causes maintenance_meaning
     -- WRITE AND VERIFY (12), SBC-3 §5.38
     ∷ row 0xae 11
     (λ cdb. written_causes (number 6 9 cdb) cdb)
@@ -135,5 +162,5 @@ wide_rows =
     -- VERIFY (12), SBC-3 §5.30
     ∷ row 0xaf 11
     (λ cdb. verified_causes (number 6 9 cdb) cdb)
-    (λ cdb. SynchronizeCache (number 2 5 cdb) (number 6 9 cdb))
+    (λ cdb. verified (number 2 5 cdb) (number 6 9 cdb) cdb)
     ∷ []

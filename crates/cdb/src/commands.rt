@@ -58,7 +58,7 @@ pub enum Command {
         allocation: u32,
     },
     /// SYNCHRONIZE CACHE (10) or (16) (SBC-3 §5.26, §5.27). In the wide profile also PRE-FETCH (10) or (16) (SBC-3 §5.8,
-    /// §5.9), and VERIFY (10), (12) or (16) (SBC-3 §5.29 to §5.31) without a comparison.
+    /// §5.9), and VERIFY (10), (12) or (16) (SBC-3 §5.29 to §5.31) that compares nothing.
     SynchronizeCache {
         /// The first block.
         lba: u64,

@@ -25,5 +25,6 @@ pub use decoding::decode;
 pub use profile::Profile;
 pub use transfers::{Transfer, need};
 pub use wide_commands::{
-    ModeDescriptor, ModeForm, ModePages, ModeRequest, ModeValues, WideCommand,
+    CodesAsked, ModeDescriptor, ModeForm, ModePages, ModeRequest, ModeValues, VerifyData,
+    WideCommand,
 };

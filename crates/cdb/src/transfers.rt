@@ -1,9 +1,9 @@
 //! The data that a command moves.
 
-ghost use Rattle.std.specs.Prelude.{◌≡◌};
-ghost use Rattle.cdb.specs.Need.{bytes_in, bytes_out, need_of, wide_need};
+ghost use Rattle.std.specs.Prelude.{◌≡◌, ◌≤◌};
+ghost use Rattle.cdb.specs.Need.{bytes_in, bytes_out, need_of, sent_blocks, wide_need};
 
-use crate::{Command, WideCommand};
+use crate::{Command, VerifyData, WideCommand};
 
 /// The bytes of a logical block.
 const BLOCK_BYTES: u32 = 512;
@@ -56,7 +56,22 @@ fn wide_need(command: &WideCommand) -> Transfer
         WideCommand::ModeSense(request) => from_device(u32::from(request.allocation)),
         WideCommand::ModeSelect { list_length, .. } => from_driver(u32::from(list_length)),
         WideCommand::ReportTaskManagement { allocation, .. }
+        | WideCommand::ReportOperationCodes { allocation, .. }
         | WideCommand::GetLbaStatus { allocation, .. } => from_device(allocation),
+        WideCommand::Verify { sent, blocks, .. } => from_driver(
+            sent_blocks(sent, blocks) * BLOCK_BYTES,
+        ),
+    }
+}
+
+/// Returns how many blocks of data a VERIFY of so many blocks takes.
+fn sent_blocks(sent: VerifyData, blocks: u16) -> u32
+    ensures count { result ≡ sent_blocks sent blocks }
+    ensures few { result ≤ blocks }
+{
+    match sent {
+        VerifyData::EachBlock => u32::from(blocks),
+        VerifyData::OneBlock => u32::from(blocks.min(1)),
     }
 }
 

@@ -27,6 +27,51 @@ pub enum WideCommand {
         /// The first block to tell of.
         lba: u64,
     },
+    /// REPORT SUPPORTED OPERATION CODES (SPC-4 §6.35).
+    ReportOperationCodes {
+        /// The commands to tell of.
+        asked: CodesAsked,
+        /// The most bytes to return.
+        allocation: u32,
+    },
+    /// VERIFY (10), (12) or (16) that compares (SBC-3 §5.29 to §5.31). One that doesn't is a
+    /// [`crate::Command::SynchronizeCache`].
+    Verify {
+        /// The data to compare with.
+        sent: VerifyData,
+        /// The number of blocks, 0 to `MOST_TRANSFER_BLOCKS`.
+        blocks: u16,
+        /// The first block.
+        lba: u64,
+    },
+}
+
+/// The commands that a REPORT SUPPORTED OPERATION CODES tells of: the field REPORTING OPTIONS (SPC-4 §6.35).
+#[derive(Clone, Copy, PartialEq, Eq)]
+pub enum CodesAsked {
+    /// 000b: all.
+    AllCommands,
+    /// 001b: that of an opcode without service actions.
+    OneCommand {
+        /// The opcode.
+        opcode: u8,
+    },
+    /// 010b: that of an opcode and a service action.
+    OneServiceAction {
+        /// The opcode.
+        opcode: u8,
+        /// The service action.
+        action: u16,
+    },
+}
+
+/// The data that blocks are compared with: the field BYTCHK (SBC-3 §5.29).
+#[derive(Clone, Copy, PartialEq, Eq)]
+pub enum VerifyData {
+    /// 01b: a block of data for each.
+    EachBlock,
+    /// 11b: one block of data for all.
+    OneBlock,
 }
 
 /// What a MODE SENSE asks for.

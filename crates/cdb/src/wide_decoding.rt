@@ -4,7 +4,7 @@ ghost use Rattle.std.specs.Prelude.{◌≡◌, ◌<◌, ◌≤◌, ◌∷◌, �
 ghost use Rattle.std.specs.List.{list_any};
 ghost use Rattle.cdb.specs.Fields.{bit, bits, byte, is_over, is_set};
 ghost use Rattle.cdb.specs.Profile.{protect};
-ghost use Rattle.cdb.specs.WideProfile.{mode_causes, mode_pages_of, mode_sense_of, mode_values, select_causes, subpages};
+ghost use Rattle.cdb.specs.WideProfile.{codes_asked, mode_causes, mode_pages_of, mode_sense_of, mode_values, select_causes, subpages, verified, verified_causes};
 ghost use Rattle.cdb.specs.Decoding.{command, row_of};
 ghost use Rattle.cdb.specs.Inner.Decoding.{fields_of, unless};
 ghost use Rattle.cdb.specs.Need.{need_of};
@@ -17,17 +17,21 @@ use crate::fields::{
 use crate::opcodes;
 use crate::profile::Profile;
 use crate::wide_commands::{
-    ModeDescriptor, ModeForm, ModePages, ModeRequest, ModeValues, WideCommand,
+    CodesAsked, ModeDescriptor, ModeForm, ModePages, ModeRequest, ModeValues, VerifyData,
+    WideCommand,
 };
 use byteorder::{BigEndian, ByteOrder};
 
 /// The service action of SERVICE ACTION IN (16) that is GET LBA STATUS (SBC-3 §5.4).
 const GET_LBA_STATUS: u8 = 0x12;
 
+/// The service action of MAINTENANCE IN that is REPORT SUPPORTED OPERATION CODES (SPC-4 §6.35).
+const REPORT_OPERATION_CODES: u8 = 0x0c;
+
 /// The service action of MAINTENANCE IN that is REPORT SUPPORTED TASK MANAGEMENT FUNCTIONS (SPC-4 §6.36).
 const REPORT_TASK_MANAGEMENT: u8 = 0x0d;
 
-/// The least allocation length of that command.
+/// The least allocation length of the latter.
 const LEAST_TASK_MANAGEMENT_BYTES: u32 = 4;
 
 /// The subpage code that asks for a page with all its subpages (SPC-4 §6.11).
@@ -131,7 +135,7 @@ fn wide_12(cdb: &[u8; CDB_BYTES]) -> Command
     ensures data_out { (need_of result).out ≤ 1048576 }
 {
     let fields = match cdb[0] {
-        opcodes::MAINTENANCE_IN => report_task_management(cdb),
+        opcodes::MAINTENANCE_IN => maintenance_in(cdb),
         opcodes::WRITE_AND_VERIFY_12 => write_and_verify(cdb, blocks_12(cdb)),
         opcodes::VERIFY_12 => verify(cdb, blocks_12(cdb)),
         _ => return Command::Unknown,
@@ -154,18 +158,34 @@ fn write_and_verify(cdb: &[u8; CDB_BYTES], blocks: Blocks) -> Option<Command>
     write(cdb, blocks)
 }
 
-/// Decodes VERIFY, of these blocks. It compares nothing, so all that it asks is that the blocks are there.
+/// Decodes VERIFY, of these blocks. Where it compares nothing, all that it asks is that the blocks are there.
 fn verify(cdb: &[u8; CDB_BYTES], blocks: Blocks) -> Option<Command>
     ensures meaning { result
-        ≡ unless (is_set (bits 1 2 1 cdb.now) ∷ protect cdb.now ∷ is_over 2048 blocks.count ∷ [])
-        (Command.SynchronizeCache blocks.lba blocks.count) }
+        ≡ unless (verified_causes blocks.count cdb.now) (verified blocks.lba blocks.count cdb.now) }
     ensures data_out { IfSome result (λ c. (need_of c).out ≤ 1048576) }
 {
-    let compares = has_bit(cdb[1], 2) || has_bit(cdb[1], 1);
-    if compares || has_protect(cdb) || blocks.count > u32::from(MOST_TRANSFER_BLOCKS) {
+    if has_protect(cdb) || blocks.count > u32::from(MOST_TRANSFER_BLOCKS) {
         return None;
     }
-    Some(synchronize_cache(blocks))
+    match low_bits(cdb[1] >> 1, 2) {
+        0 => Some(synchronize_cache(blocks)),
+        1 => Some(comparison(VerifyData::EachBlock, blocks)),
+        3 => Some(comparison(VerifyData::OneBlock, blocks)),
+        _ => None,
+    }
+}
+
+/// Makes a VERIFY that compares.
+fn comparison(sent: VerifyData, blocks: Blocks) -> Command
+    requires { blocks.count ≤ 2048 }
+    ensures meaning { result ≡ Command.Wide (WideCommand.Verify sent blocks.count blocks.lba) }
+    ensures data_out { (need_of result).out ≤ 1048576 }
+{
+    Command::Wide(WideCommand::Verify {
+        sent,
+        blocks: blocks.count as u16,
+        lba: blocks.lba,
+    })
 }
 
 /// Decodes START STOP UNIT. A unit is always active, so it can be started alone.
@@ -221,20 +241,46 @@ fn mode_select(cdb: &[u8; CDB_BYTES], form: ModeForm, list_length: u16) -> Optio
     Some(Command::Wide(WideCommand::ModeSelect { form, list_length }))
 }
 
-/// Decodes REPORT SUPPORTED TASK MANAGEMENT FUNCTIONS, one of the service actions of MAINTENANCE IN.
-fn report_task_management(cdb: &[u8; CDB_BYTES]) -> Option<Command>
+/// Decodes the service actions of MAINTENANCE IN.
+fn maintenance_in(cdb: &[u8; CDB_BYTES]) -> Option<Command>
     ensures meaning { result ≡ fields_of Profile.Wide 0xa3 cdb.now }
     ensures data_out { IfSome result (λ c. (need_of c).out ≤ 1048576) }
 {
     let service_action = low_bits(cdb[1], 5);
     let allocation = BigEndian::read_u32(&cdb[6..10]);
-    if service_action != REPORT_TASK_MANAGEMENT || allocation < LEAST_TASK_MANAGEMENT_BYTES {
-        return None;
+    match service_action {
+        REPORT_OPERATION_CODES => {
+            let timeouts = has_bit(cdb[2], 7);
+            if timeouts {
+                return None;
+            }
+            let action = BigEndian::read_u16(&cdb[4..6]);
+            let asked = codes_asked(low_bits(cdb[2], 3), cdb[3], action)?;
+            Some(Command::Wide(WideCommand::ReportOperationCodes { asked, allocation }))
+        }
+        REPORT_TASK_MANAGEMENT => {
+            if allocation < LEAST_TASK_MANAGEMENT_BYTES {
+                return None;
+            }
+            Some(Command::Wide(WideCommand::ReportTaskManagement {
+                extended: has_bit(cdb[2], 7),
+                allocation,
+            }))
+        }
+        _ => None,
     }
-    Some(Command::Wide(WideCommand::ReportTaskManagement {
-        extended: has_bit(cdb[2], 7),
-        allocation,
-    }))
+}
+
+/// Returns the commands that a reporting option, 0 to 7, asks for, if the device has that option.
+fn codes_asked(option: u8, opcode: u8, action: u16) -> Option<CodesAsked>
+    ensures { result ≡ unless (is_over 2 option ∷ []) (codes_asked option opcode action) }
+{
+    match option {
+        0 => Some(CodesAsked::AllCommands),
+        1 => Some(CodesAsked::OneCommand { opcode }),
+        2 => Some(CodesAsked::OneServiceAction { opcode, action }),
+        _ => None,
+    }
 }
 
 /// Decodes MODE SENSE (6).

@@ -5,13 +5,14 @@ use Rattle.request_intake.specs.declared.inventory.UnitSpec.{UnitSpec}
 use Rattle.unit_model.specs.Unit.{PlainUnit}
 use Rattle.virtqueue.specs.Queue.{BareQueue}
 
--- own: a unit opened with the address, the capacity and the profile that were wanted, and keeps the replies that receipts are compared
--- with
+-- own: a unit opened with the address, the capacity, the profile and the names that were wanted, and keeps the replies that
+-- receipts are compared with
 pub record IsOpenedAs (s : UnitSpec) (u : PlainUnit) : Type 0 where
   pub target : u.opening.target ≡ s.target
   pub lun : u.opening.lun ≡ s.lun
   pub blocks : u.opening.blocks ≡ s.blocks
   pub profile : u.opening.profile ≡ s.profile
+  pub identity : u.opening.identity ≡ s.identity
   pub keeps : u.keeps_replies ≡ true
 
 -- own: these are the units that were wanted, each at its place

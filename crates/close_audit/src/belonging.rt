@@ -15,7 +15,8 @@ const FIRST: Ticket = Ticket {
     number: 0,
 };
 
-/// Returns whether a unit opened with this address, capacity and profile, and keeps replies for receipts to be compared with.
+/// Returns whether a unit opened with this address, capacity, profile and names, and keeps replies for receipts to be
+/// compared with.
 fn is_opened_as(spec: &UnitSpec, unit: &UnitState) -> bool
     ensures { IsTrue result ↔ IsOpenedAs spec.now unit.now }
 {
@@ -23,6 +24,7 @@ fn is_opened_as(spec: &UnitSpec, unit: &UnitState) -> bool
         && unit.lun() == spec.lun
         && unit.opening_blocks() == spec.blocks
         && unit.profile() == spec.profile
+        && unit.identity() == spec.identity
         && unit.keeps_replies()
 }
 

@@ -2,9 +2,10 @@
 use Rattle.std.specs.Prelude.{ℕ, List, Option}
 use Rattle.sense.specs.declared.Sense.{Sense}
 use Rattle.cdb.specs.declared.profile.Profile.{Profile}
+use Rattle.command_model.specs.declared.identity.Identity.{Identity}
 
 -- the address of the unit, the LUNs of its target by rising number, its capacity in blocks, the
--- oldest pending unit attention, and the commands that it knows
+-- oldest pending unit attention, the commands that it knows, and what its configuration says of it
 pub record Facts : Type 0 where
   pub target : ℕ
   pub lun : ℕ
@@ -12,3 +13,4 @@ pub record Facts : Type 0 where
   pub capacity : ℕ
   pub pending : Option Sense
   pub profile : Profile
+  pub identity : Identity

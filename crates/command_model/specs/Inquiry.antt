@@ -1,11 +1,13 @@
 -- The data of INQUIRY: the standard data, and the pages of vital product data, SPC-4
 -- §7.8 and SBC-3 §6.6.
-use Rattle.std.specs.Prelude.{ℕ, ◌+◌, ◌/◌, ◌%◌, ◌^◌, List, [], ◌∷◌, ◌++◌, map, replicate, codes}
+use Rattle.std.specs.Prelude.{ℕ, ◌+◌, ◌/◌, ◌%◌, ◌^◌, ◌==◌, List, [], ◌∷◌, ◌++◌, length, map, replicate, take, codes, Option, Some, None, if◌then◌else◌}
+use Rattle.std.specs.Int.{w16, to_be_bytes}
 use Rattle.cdb.specs.declared.profile.Profile.{Profile}
 use Rattle.cdb.specs.declared.profile.Profile.TheVariants.{Narrow, Wide}
 use Rattle.cdb.specs.declared.commands.InquiryData.{InquiryData}
 use Rattle.cdb.specs.declared.commands.InquiryData.TheVariants.{Standard, SupportedPages, SerialNumber, DeviceIdentification, ExtendedInquiry, BlockLimits, BlockDeviceCharacteristics, LogicalBlockProvisioning}
-use Rattle.command_model.specs.StandardData.{standard_data, wide_standard_data, vendor}
+use Rattle.command_model.specs.StandardData.{standard_data, wide_standard_data}
+use Rattle.command_model.specs.declared.identity.Identity.{Identity}
 
 -- byte 0 of the standard data, the peripheral qualifier and device type: a block device that is there
 -- (SPC-4 §6.6.2)
@@ -16,15 +18,19 @@ block_device = 0x00
 abbrev pub digit : ℕ → ℕ → ℕ
 digit number place = 0x30 + number / 10 ^ place % 10
 
--- the serial number: the target in 3 digits, the LUN in 5
+-- own: the serial number of a unit that is given none: the target in 3 digits, the LUN in 5
 unfoldable pub serial : ℕ → ℕ → List ℕ
 serial target lun =
     codes "VSCSI" ++ map (digit target) (2 ∷ 1 ∷ 0 ∷ []) ++ map (digit lun) (4 ∷ 3 ∷ 2 ∷ 1 ∷ 0 ∷ [])
 
+-- the serial number that a unit tells
+abbrev pub serial_of : Identity → ℕ → ℕ → List ℕ
+serial_of i target lun = if i.serial_len == 0 then serial target lun else take i.serial_len i.serial
+
 -- the standard data of a profile
-abbrev pub standard_of : Profile → List ℕ
-standard_of Narrow = standard_data block_device
-standard_of Wide = wide_standard_data
+abbrev pub standard_of : Profile → Identity → List ℕ
+standard_of Narrow i = standard_data block_device
+standard_of Wide i = wide_standard_data i.vendor i.product i.revision
 
 -- page 00h, Supported VPD Pages, SPC-4 §7.8.14
 unfoldable pub supported_pages : Profile → List ℕ
@@ -32,14 +38,23 @@ supported_pages Narrow = 0x00 ∷ 0x00 ∷ 0x00 ∷ 0x05 ∷ 0x00 ∷ 0x80 ∷ 0
 supported_pages Wide = 0x00 ∷ 0x00 ∷ 0x00 ∷ 0x07 ∷ 0x00 ∷ 0x80 ∷ 0x83 ∷ 0x86 ∷ 0xb0 ∷ 0xb1 ∷ 0xb2 ∷ []
 
 -- page 80h, Unit Serial Number, SPC-4 §7.8.15
-unfoldable pub serial_page : ℕ → ℕ → List ℕ
-serial_page target lun = (0x00 ∷ 0x80 ∷ 0x00 ∷ 0x0d ∷ []) ++ serial target lun
+unfoldable pub serial_page : List ℕ → List ℕ
+serial_page number = (0x00 ∷ 0x80 ∷ 0x00 ∷ length number ∷ []) ++ number
 
--- page 83h, Device Identification, SPC-4 §7.8.6: one designator in ASCII, based on the T10 vendor
--- identification, of 21 bytes
-unfoldable pub identification_page : ℕ → ℕ → List ℕ
-identification_page target lun =
-    (0x00 ∷ 0x83 ∷ 0x00 ∷ 0x19 ∷ 0x02 ∷ 0x01 ∷ 0x00 ∷ 0x15 ∷ []) ++ vendor ++ serial target lun
+-- a designator in ASCII based on the T10 vendor identification, SPC-4 §7.8.6.4: the vendor, and the serial number behind
+abbrev pub t10_designator : List ℕ → List ℕ → List ℕ
+t10_designator vendor number = (0x02 ∷ 0x01 ∷ 0x00 ∷ (8 + length number) ∷ []) ++ vendor ++ number
+
+-- a binary designator of 8 bytes that names the unit by NAA, SPC-4 §7.8.6.6, if there is one
+abbrev pub naa_designator : Option (List ℕ) → List ℕ
+naa_designator None = []
+naa_designator (Some naa) = (0x01 ∷ 0x03 ∷ 0x00 ∷ 0x08 ∷ []) ++ naa
+
+-- page 83h, Device Identification, SPC-4 §7.8.6
+unfoldable pub identification_page : List ℕ → List ℕ → Option (List ℕ) → List ℕ
+identification_page vendor number naa =
+    (0x00 ∷ 0x83 ∷ 0x00 ∷ length (t10_designator vendor number ++ naa_designator naa) ∷ [])
+    ++ t10_designator vendor number ++ naa_designator naa
 
 -- page 86h, Extended INQUIRY Data, SPC-4 §7.8.7, 64 bytes: byte 5 with HEADSUP, ORDSUP and SIMPSUP; byte 13, at most
 -- 18 bytes of sense
@@ -70,21 +85,23 @@ limits_page =
     ++ (0x00 ∷ 0x00 ∷ 0x00 ∷ 0x00 ∷ 0x00 ∷ 0x01 ∷ 0x00 ∷ 0x00 ∷ [])
     ++ replicate 20 0x00
 
--- page B1h, Block Device Characteristics, SBC-3 §6.6, 64 bytes: bytes 4 and 5, a medium that doesn't rotate
-unfoldable pub characteristics_page : List ℕ
-characteristics_page = (0x00 ∷ 0xb1 ∷ 0x00 ∷ 0x3c ∷ 0x00 ∷ 0x01 ∷ []) ++ replicate 58 0x00
+-- page B1h, Block Device Characteristics, SBC-3 §6.6.3, 64 bytes: bytes 4 and 5, the medium rotation rate
+unfoldable pub characteristics_page : ℕ → List ℕ
+characteristics_page rate =
+    (0x00 ∷ 0xb1 ∷ 0x00 ∷ 0x3c ∷ []) ++ to_be_bytes w16 rate ++ replicate 58 0x00
 
 -- page B2h, Logical Block Provisioning, SBC-3 §6.6.6: LBPU, LBPWS, LBPWS10, LBPRZ; thin
 unfoldable pub provisioning_page : List ℕ
 provisioning_page = 0x00 ∷ 0xb2 ∷ 0x00 ∷ 0x04 ∷ 0x00 ∷ 0xe4 ∷ 0x02 ∷ 0x00 ∷ []
 
--- the data that is asked for, of the unit of this profile, target and LUN
-abbrev pub inquiry_data : Profile → InquiryData → ℕ → ℕ → List ℕ
-inquiry_data profile Standard target lun = standard_of profile
-inquiry_data profile SupportedPages target lun = supported_pages profile
-inquiry_data profile SerialNumber target lun = serial_page target lun
-inquiry_data profile DeviceIdentification target lun = identification_page target lun
-inquiry_data profile ExtendedInquiry target lun = extended_page
-inquiry_data profile BlockLimits target lun = limits_page
-inquiry_data profile BlockDeviceCharacteristics target lun = characteristics_page
-inquiry_data profile LogicalBlockProvisioning target lun = provisioning_page
+-- the data that is asked for, of the unit of this profile, target and LUN, which tells this identity
+abbrev pub inquiry_data : Profile → Identity → InquiryData → ℕ → ℕ → List ℕ
+inquiry_data profile i Standard target lun = standard_of profile i
+inquiry_data profile i SupportedPages target lun = supported_pages profile
+inquiry_data profile i SerialNumber target lun = serial_page (serial_of i target lun)
+inquiry_data profile i DeviceIdentification target lun =
+    identification_page i.vendor (serial_of i target lun) i.naa
+inquiry_data profile i ExtendedInquiry target lun = extended_page
+inquiry_data profile i BlockLimits target lun = limits_page
+inquiry_data profile i BlockDeviceCharacteristics target lun = characteristics_page i.rotation_rate
+inquiry_data profile i LogicalBlockProvisioning target lun = provisioning_page

@@ -9,9 +9,11 @@ pub mod StandardData
 pub mod Statuses
 pub mod Attention
 pub mod Capacity
+pub mod Codes
 pub mod Comparing
 pub mod Effects
 pub mod Facts
+pub mod Identity
 pub mod Inquiry
 pub mod Luns
 pub mod ModeLists

@@ -24,7 +24,7 @@ wants blocks (WriteSame lba count) = is_in_range blocks lba count
 wants blocks (Unmap list_length) = false
 wants blocks (CompareAndWrite lba count) = is_in_range blocks lba count
 wants blocks (ReportLuns select allocation) = true
-wants blocks (Wide command) = wide_wants command
+wants blocks (Wide command) = wide_wants blocks command
 wants blocks (Bad opcode) = false
 wants blocks Unknown = false
 

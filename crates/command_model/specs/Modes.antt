@@ -11,7 +11,7 @@ use Rattle.cdb.specs.declared.wide_commands.ModeDescriptor.TheVariants.{Absent, 
 use Rattle.cdb.specs.declared.wide_commands.ModePages.{ModePages}
 use Rattle.cdb.specs.declared.wide_commands.ModePages.TheVariants.{ErrorRecovery, Caching, Control, InformationalExceptions, All}
 use Rattle.cdb.specs.declared.wide_commands.ModeValues.{ModeValues}
-use Rattle.cdb.specs.declared.wide_commands.ModeValues.TheVariants.{Current, Changeable, Default, Saved}
+use Rattle.cdb.specs.declared.wide_commands.ModeValues.TheVariants.{Changeable, Saved}
 use Rattle.command_model.specs.Data.{Answer}
 
 -- a page: its code, and the bytes that follow its page length

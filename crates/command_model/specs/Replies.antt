@@ -2,34 +2,23 @@
 -- blocks before.
 use Rattle.std.specs.Prelude.{ℕ, ◌==◌, ◌||◌, nat_lt, List, [], length, take, Option, Some, None, Ok, Err, if◌then◌else◌, unwrap_or}
 use Rattle.sense.specs.declared.Sense.{Sense}
-use Rattle.sense.specs.Conditions.{no_sense, parameter_list_length_error, invalid_opcode, lba_out_of_range, invalid_field_in_cdb, invalid_field_in_parameter_list, miscompare}
+use Rattle.sense.specs.Conditions.{no_sense, parameter_list_length_error, invalid_opcode, lba_out_of_range, invalid_field_in_cdb, invalid_field_in_parameter_list}
 use Rattle.sense.specs.Fixed.{fixed}
 use Rattle.cdb.specs.declared.commands.Command.{Command}
 use Rattle.cdb.specs.declared.commands.Command.TheVariants.{TestUnitReady, RequestSense, Read, Write, Inquiry, ReadCapacity10, ReadCapacity16, SynchronizeCache, WriteSame, Unmap, CompareAndWrite, ReportLuns, Wide, Bad, Unknown}
 use Rattle.block_store.specs.Blocks.{Blocks, run}
-use Rattle.command_model.specs.Data.{Answer}
+use Rattle.command_model.specs.Data.{Answer, done}
 use Rattle.command_model.specs.PlainReply.{PlainReply, refusal, replied}
 use Rattle.command_model.specs.Attention.{met}
-use Rattle.command_model.specs.Capacity.{is_in_range, capacity_10, capacity_16}
-use Rattle.command_model.specs.Comparing.{to_compare, first_unequal}
+use Rattle.command_model.specs.Capacity.{within, capacity_10, capacity_16}
+use Rattle.command_model.specs.Comparing.{to_compare, first_unequal, compared}
 use Rattle.command_model.specs.Facts.{Facts}
+use Rattle.command_model.specs.Identity.{told_by}
+use Rattle.command_model.specs.declared.identity.Identity.{Identity}
 use Rattle.command_model.specs.Inquiry.{inquiry_data}
 use Rattle.command_model.specs.Luns.{listed, lun_list}
 use Rattle.command_model.specs.UnmapList.{descriptors, blocks_named, are_in_range}
 use Rattle.command_model.specs.Wide.{wide_answer}
-
--- no data
-abbrev pub done : Answer
-done = Ok []
-
--- this answer, unless the range passes the last of so many blocks, SBC-3 §4.5
-abbrev pub within : ℕ → ℕ → ℕ → Answer → Answer
-within blocks lba count answer = if is_in_range blocks lba count then answer else Err lba_out_of_range
-
--- COMPARE AND WRITE, SBC-3 §5.2, by the offset of the first unequal byte
-abbrev pub compared : Option ℕ → Answer
-compared None = done
-compared (Some offset) = Err (miscompare offset)
 
 -- UNMAP, SBC-3 §5.28, by its descriptors: at most 16, of at most 65,536 blocks in all
 abbrev pub unmapped : ℕ → List (ℕ × ℕ) → Answer
@@ -42,6 +31,10 @@ abbrev pub unmap_answer : ℕ → List ℕ → Answer
 unmap_answer blocks bytes =
     if length bytes == 0 then done
     else (if nat_lt (length bytes) 8 then Err parameter_list_length_error else unmapped blocks (descriptors bytes))
+
+-- what the unit tells of what its configuration says of it
+abbrev pub identity_told : Facts → Identity
+identity_told facts = told_by facts.profile facts.identity
 
 -- the answer of a command that no attention stops
 abbrev pub answer_of : Facts → Command → List ℕ → Blocks → Answer
@@ -56,10 +49,11 @@ answer_of facts (Read lba count) bytes blocks = within facts.capacity lba count 
 answer_of facts (Write lba count) bytes blocks = within facts.capacity lba count done
 -- SPC-4 §6.6
 answer_of facts (Inquiry what allocation) bytes blocks =
-    Ok (take allocation (inquiry_data facts.profile what facts.target facts.lun))
+    Ok (take allocation (inquiry_data facts.profile (identity_told facts) what facts.target facts.lun))
 -- SBC-3 §5.15, §5.16
 answer_of facts ReadCapacity10 bytes blocks = Ok (capacity_10 facts.capacity)
-answer_of facts (ReadCapacity16 allocation) bytes blocks = Ok (take allocation (capacity_16 facts.capacity))
+answer_of facts (ReadCapacity16 allocation) bytes blocks =
+    Ok (take allocation (capacity_16 facts.capacity (identity_told facts).physical_exponent))
 -- SBC-3 §5.26: a count of 0, to the end, is in range where the address is at most the capacity
 answer_of facts (SynchronizeCache lba count) bytes blocks = within facts.capacity lba count done
 -- SBC-3 §5.43
@@ -70,7 +64,7 @@ answer_of facts (CompareAndWrite lba count) bytes blocks =
 -- SPC-4 §6.33
 answer_of facts (ReportLuns select allocation) bytes blocks =
     Ok (take allocation (lun_list (listed select facts.luns)))
-answer_of facts (Wide command) bytes blocks = wide_answer facts.capacity command bytes
+answer_of facts (Wide command) bytes blocks = wide_answer facts.capacity command bytes blocks
 -- SPC-4 §4.5
 answer_of facts (Bad opcode) bytes blocks = Err invalid_field_in_cdb
 answer_of facts Unknown bytes blocks = Err invalid_opcode

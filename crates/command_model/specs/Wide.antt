@@ -1,11 +1,15 @@
--- What a command of the wide profile alone is answered in a unit of so many blocks, by the data from the driver. None
--- changes a block.
-use Rattle.std.specs.Prelude.{ℕ, ◌-◌, Bool, true, false, nat_lt, List, [], ◌∷◌, ◌++◌, min, replicate, take, Ok, Err, if◌then◌else◌}
+-- What a command of the wide profile alone is answered in a unit of so many blocks, by the data from the driver and the
+-- blocks. None changes a block.
+use Rattle.std.specs.Prelude.{ℕ, ◌-◌, Bool, true, false, ◌&&◌, nat_lt, List, [], ◌∷◌, ◌++◌, min, replicate, take, Ok, Err, if◌then◌else◌}
 use Rattle.std.specs.Int.{w32, w64, to_be_bytes}
 use Rattle.sense.specs.Conditions.{lba_out_of_range}
 use Rattle.cdb.specs.declared.wide_commands.WideCommand.{WideCommand}
-use Rattle.cdb.specs.declared.wide_commands.WideCommand.TheVariants.{ModeSense, ModeSelect, ReportTaskManagement, GetLbaStatus}
+use Rattle.cdb.specs.declared.wide_commands.WideCommand.TheVariants.{ModeSense, ModeSelect, ReportTaskManagement, ReportOperationCodes, GetLbaStatus, Verify}
+use Rattle.block_store.specs.Blocks.{Blocks, run}
 use Rattle.command_model.specs.Data.{Answer}
+use Rattle.command_model.specs.Capacity.{is_in_range, within}
+use Rattle.command_model.specs.Comparing.{to_verify, first_unequal, compared}
+use Rattle.command_model.specs.Codes.{codes_answer}
 use Rattle.command_model.specs.Modes.{mode_answer}
 use Rattle.command_model.specs.ModeLists.{select_answer}
 
@@ -23,17 +27,23 @@ task_management_data extended =
     if extended then (0xdc ∷ 0x03 ∷ 0x00 ∷ 0x0c ∷ []) ++ replicate 12 0x00
     else 0xdc ∷ 0x03 ∷ 0x00 ∷ 0x00 ∷ []
 
-abbrev pub wide_answer : ℕ → WideCommand → List ℕ → Answer
-wide_answer blocks (ModeSense request) bytes = mode_answer request blocks
-wide_answer blocks (ModeSelect form list_length) bytes = select_answer form blocks bytes
-wide_answer blocks (ReportTaskManagement extended allocation) bytes =
+abbrev pub wide_answer : ℕ → WideCommand → List ℕ → Blocks → Answer
+wide_answer capacity (ModeSense request) bytes blocks = mode_answer request capacity
+wide_answer capacity (ModeSelect form list_length) bytes blocks = select_answer form bytes
+wide_answer capacity (ReportTaskManagement extended allocation) bytes blocks =
     Ok (take allocation (task_management_data extended))
-wide_answer blocks (GetLbaStatus allocation lba) bytes =
-    if nat_lt lba blocks then Ok (take allocation (lba_status blocks lba)) else Err lba_out_of_range
+wide_answer capacity (GetLbaStatus allocation lba) bytes blocks =
+    if nat_lt lba capacity then Ok (take allocation (lba_status capacity lba)) else Err lba_out_of_range
+wide_answer capacity (ReportOperationCodes asked allocation) bytes blocks = codes_answer asked allocation
+-- SBC-3 §5.29
+wide_answer capacity (Verify sent count lba) bytes blocks =
+    within capacity lba count (compared (first_unequal (run (to_verify sent bytes) 0 count) (run blocks lba count)))
 
 -- whether it may be refused memory
-abbrev pub wide_wants : WideCommand → Bool
-wide_wants (ModeSense request) = true
-wide_wants (ModeSelect form list_length) = false
-wide_wants (ReportTaskManagement extended allocation) = nat_lt 0 allocation
-wide_wants (GetLbaStatus allocation lba) = nat_lt 0 allocation
+abbrev pub wide_wants : ℕ → WideCommand → Bool
+wide_wants capacity (ModeSense request) = true
+wide_wants capacity (ModeSelect form list_length) = false
+wide_wants capacity (ReportTaskManagement extended allocation) = nat_lt 0 allocation
+wide_wants capacity (GetLbaStatus allocation lba) = nat_lt 0 allocation
+wide_wants capacity (ReportOperationCodes asked allocation) = nat_lt 0 allocation
+wide_wants capacity (Verify sent count lba) = nat_lt 0 count && is_in_range capacity lba count

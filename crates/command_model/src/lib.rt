@@ -7,12 +7,14 @@
 #![tactic(auto)]
 
 mod absent;
+mod identity;
 pub mod laws;
 mod opcodes;
 mod reply;
 mod standard;
 
 pub use absent::{ABSENT_BYTES, AbsentReply, exec_absent};
+pub use identity::{Identity, SERIAL_BYTES};
 pub use opcodes::{INQUIRY, REQUEST_SENSE};
 pub use reply::{BUSY, CHECK_CONDITION, GOOD, Reply, TASK_SET_FULL};
 pub use standard::standard_data;

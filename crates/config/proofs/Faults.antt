@@ -1,11 +1,11 @@
 -- The first item that fails a test, if one does.
-use Rattle.std.proofs.Common.{◌≡◌, ◌⊎◌, inl, inr, ℕ, suc, zero, ◌+◌, ◌-◌, ◌<◌, ◌≤◌, cond, not, ◌&&◌, Bool, true, false, List, [], ◌∷◌, length, map, get_or, slice_get, Option, Some, None, refl, sym, ◌∙◌, subst, arith}
+use Rattle.std.proofs.Common.{◌≡◌, ◌⊎◌, inl, inr, ℕ, suc, zero, ◌+◌, ◌-◌, ◌<◌, ◌≤◌, cond, not, ◌&&◌, ◌||◌, ◌==◌, ap, Bool, true, false, List, [], ◌∷◌, length, map, get_or, slice_get, Option, Some, None, refl, sym, ◌∙◌, subst, arith}
 use Rattle.std.specs.List.{list_all, position, position_or_len}
 use Rattle.std.proofs.lemmas.List.Quantifiers.{position-Some}
 use Rattle.std.proofs.lemmas.List.Sums.{fails_before_first, list_all-from_AllPass}
 use Rattle.std.proofs.lemmas.List.Folds.{list_all_at}
 use Rattle.std.proofs.lemmas.Option.{slice_get-get_or}
-use Rattle.std.proofs.lemmas.Bool.{ltb-false}
+use Rattle.std.proofs.lemmas.Bool.{ltb-false, ne_eqb}
 use Rattle.request_intake.specs.Inventory.{address_of, stands_before, is_rising}
 use Rattle.request_intake.specs.declared.inventory.UnitSpec.{UnitSpec}
 use Rattle.ring_core.specs.declared.layout.Form.{Form}
@@ -67,6 +67,8 @@ of_queue form memory queues place l (fault.UnitLun k) many e at h = h
 of_queue form memory queues place l (fault.UnitBlocks k) many e at h = h
 of_queue form memory queues place l (fault.UnitOrder k) many e at h = h
 of_queue form memory queues place l (fault.NoLun0 k) many e at h = h
+of_queue form memory queues place l (fault.UnitIdentity k) many e at h = h
+of_queue form memory queues place l (fault.UnitNaa k) many e at h = h
 
 pub of_unit : (units : List UnitSpec) (place : ℕ) (u : UnitSpec) (f : ConfigFault)
     → is_within 1 64 (length units) ≡ true → first is_unit units ≡ Some place → slice_get units place ≡ Some u → IsUnitFault place u f → IsUnitsFault units f
@@ -84,6 +86,13 @@ of_unit units place u fault.Handoff many e at h = h
 of_unit units place u fault.UnitCount many e at h = absurd h
 of_unit units place u (fault.UnitOrder k) many e at h = absurd h
 of_unit units place u (fault.NoLun0 k) many e at h = absurd h
+of_unit units place u (fault.UnitIdentity k) many e at h =
+    subst (λ n. FirstUnit units n (fault.UnitIdentity n)) (sym h.0) (record { many = many; first = e; unit = u; at = at; cause = (refl, h.1, h.2, h.3) })
+of_unit units place u (fault.UnitNaa k) many e at h = absurd h
+
+-- a number that isn't 0 leaves the test to what stands behind it
+pub or_else : (n m : ℕ) (a b : Bool) → n ≡ m → (n ≡ 0 → ⊥) → a ≡ b → not a ≡ ((m == 0) || not b)
+or_else n m a b e never f = ap not f ∙ ap (λ (w : Bool). w || not b) (sym (ne_eqb m 0 (λ z. never (e ∙ z))))
 
 -- units rise where each stands above the one before it
 pub rising : (units : List UnitSpec) → ((k : ℕ) (a b : UnitSpec) → slice_get units k ≡ Some a → slice_get units (suc k) ≡ Some b → stands_before (address_of a) (address_of b) ≡ true)

@@ -1,5 +1,7 @@
 -- Which configurations the device takes.
-use Rattle.std.specs.Prelude.{ℕ, ◌+◌, ◌*◌, ◌^◌, ◌≡◌, ◌==◌, ◌&&◌, bit_and, nat_le, Bool, true, false, cond, List, length, map, Option, Some, None, is_none}
+use Rattle.std.specs.Prelude.{ℕ, ◌+◌, ◌*◌, ◌^◌, ◌≡◌, ◌==◌, ◌&&◌, ◌||◌, bit_and, nat_le, Bool, true, false, cond, not, List, length, map, Option, Some, None, is_none}
+use Rattle.std.specs.Int.{w64, from_be_bytes}
+use Rattle.command_model.specs.Identity.{is_identity}
 use Rattle.std.specs.List.{list_all, list_any}
 use Rattle.ring_core.specs.declared.layout.Form.{Form}
 use Rattle.ring_core.specs.declared.layout.Form.TheVariants.{Split, Packed}
@@ -32,18 +34,35 @@ form_of features = cond (are_taken features) (Some (cond (has_bit features 34) P
 abbrev pub is_queue : Form → ℕ → Layout → Bool
 is_queue form memory l = nat_le 2 l.size && nat_le l.size 1024 && is_none (placement_of form memory l)
 
--- a unit of a LUN to 16,383 and of 1 to 2^40 blocks
+-- a unit of a LUN to 16,383 and of 1 to 2^40 blocks, that says of itself what a unit may
 abbrev pub is_unit : UnitSpec → Bool
-is_unit u = nat_le u.lun 16383 && nat_le 1 u.blocks && nat_le u.blocks (2 ^ 40)
+is_unit u = nat_le u.lun 16383 && nat_le 1 u.blocks && nat_le u.blocks (2 ^ 40) && is_identity u.identity
+
+-- own: the number that a unit's NAA designator is; 0, which is no NAA 3h and no 5h, where it has none
+abbrev pub naa_number : Option (List ℕ) → ℕ
+naa_number None = 0
+naa_number (Some naa) = from_be_bytes w64 naa
+
+abbrev pub naa_of : UnitSpec → ℕ
+naa_of u = naa_number u.identity.naa
+
+-- own: another unit, at another address, has this number
+abbrev pub shares : UnitSpec → UnitSpec → Bool
+shares u v = (naa_of v == naa_of u) && not ((v.target == u.target) && (v.lun == u.lun))
+
+-- no other unit has the unit's NAA designator, which names it alone (SPC-4 §7.8.6.6)
+abbrev pub has_own_naa : List UnitSpec → UnitSpec → Bool
+has_own_naa units u = (naa_of u == 0) || not (list_any (shares u) units)
 
 abbrev pub has_lun_0 : List UnitSpec → ℕ → Bool
 has_lun_0 units target = list_any (λ u. (u.target == target) && (u.lun == 0)) units
 
--- 1 to 64 units in rising order, each target with LUN 0
+-- 1 to 64 units in rising order, each target with LUN 0, no two of one NAA designator
 abbrev pub are_units : List UnitSpec → Bool
 are_units units =
     nat_le 1 (length units) && nat_le (length units) 64 && list_all is_unit units
     && is_rising (map address_of units) && list_all (λ u. has_lun_0 units u.target) units
+    && list_all (has_own_naa units) units
 
 -- a control queue, an event queue and 1 to 16 request queues
 abbrev pub are_queues : Option Form → ℕ → List Layout → Bool

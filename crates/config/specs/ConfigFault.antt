@@ -4,9 +4,10 @@ use Rattle.std.specs.List.{list_all}
 use Rattle.ring_core.specs.declared.layout.Form.{Form}
 use Rattle.ring_core.specs.declared.layout.Layout.{Layout}
 use Rattle.virtqueue.specs.Queue.{placement_of}
+use Rattle.command_model.specs.Identity.{is_identity}
 use Rattle.request_intake.specs.Inventory.{address_of, stands_before, is_rising}
 use Rattle.request_intake.specs.declared.inventory.UnitSpec.{UnitSpec}
-use Rattle.config.specs.Config.{form_of, size_of, is_queue, is_unit, has_lun_0, are_queues}
+use Rattle.config.specs.Config.{form_of, size_of, is_queue, is_unit, has_lun_0, has_own_naa, are_queues}
 use Rattle.config.specs.declared.config.Config.{Config}
 use Rattle.config.specs.declared.config_fault.ConfigFault.{ConfigFault}
 use Rattle.config.specs.declared.config_fault.ConfigFault.TheVariants as fault
@@ -40,6 +41,8 @@ abbrev pub IsUnitFault : ℕ → UnitSpec → ConfigFault → Type 0
 IsUnitFault place u (fault.UnitLun k) = (k ≡ place) × (nat_le u.lun 16383 ≡ false)
 IsUnitFault place u (fault.UnitBlocks k) =
     (k ≡ place) × (nat_le u.lun 16383 ≡ true) × (is_within 1 (2 ^ 40) u.blocks ≡ false)
+IsUnitFault place u (fault.UnitIdentity k) =
+    (k ≡ place) × (nat_le u.lun 16383 ≡ true) × (is_within 1 (2 ^ 40) u.blocks ≡ true) × (is_identity u.identity ≡ false)
 IsUnitFault place u f = ⊥
 
 -- the first unit whose numbers aren't taken has this fault
@@ -69,15 +72,19 @@ pub record Falls (units : List UnitSpec) (place : ℕ) : Type 0 where
 abbrev pub AreFit : List UnitSpec → Type 0
 AreFit units = (is_within 1 64 (length units) ≡ true) × (list_all is_unit units ≡ true)
 
--- the first unit, by numbers, then by order, whose target has no LUN 0
+-- the first unit, by itself, then by order, then whose target has no LUN 0, then whose NAA designator another has
 abbrev pub IsUnitsFault : List UnitSpec → ConfigFault → Type 0
 IsUnitsFault units fault.UnitCount = is_within 1 64 (length units) ≡ false
 IsUnitsFault units (fault.UnitLun place) = FirstUnit units place (fault.UnitLun place)
 IsUnitsFault units (fault.UnitBlocks place) = FirstUnit units place (fault.UnitBlocks place)
+IsUnitsFault units (fault.UnitIdentity place) = FirstUnit units place (fault.UnitIdentity place)
 IsUnitsFault units (fault.UnitOrder place) = AreFit units × Falls units place
 IsUnitsFault units (fault.NoLun0 place) =
     AreFit units × (is_rising (map address_of units) ≡ true)
     × (position (λ u. not (has_lun_0 units u.target)) units ≡ Some place)
+IsUnitsFault units (fault.UnitNaa place) =
+    AreFit units × (is_rising (map address_of units) ≡ true) × (list_all (λ u. has_lun_0 units u.target) units ≡ true)
+    × (position (λ u. not (has_own_naa units u)) units ≡ Some place)
 IsUnitsFault units f = ⊥
 
 -- of queues where the features name a form of them

@@ -1,8 +1,9 @@
 //! The reasons for which a device isn't taken.
 
 ghost use Rattle.std.specs.Prelude.{◌≡◌, not, is_none, false, IfSome, map, position};
+ghost use Rattle.std.specs.List.{list_any};
 ghost use Rattle.request_intake.specs.Inventory.{address_of, stands_before, is_rising};
-ghost use Rattle.config.specs.Config.{is_queue, is_unit, has_lun_0, are_units, are_queues};
+ghost use Rattle.config.specs.Config.{is_queue, is_unit, has_lun_0, naa_of, shares, has_own_naa, are_units, are_queues};
 ghost use Rattle.config.specs.ConfigFault.{IsQueueFault, IsQueuesFault, IsUnitFault, IsUnitsFault, Falls};
 
 use request_intake::UnitSpec;
@@ -45,6 +46,10 @@ pub enum ConfigFault {
     UnitOrder(usize),
     /// The target of the unit at this place has no LUN 0.
     NoLun0(usize),
+    /// The unit at this place says of itself what no unit may: [`Identity::is_valid`] denies it.
+    UnitIdentity(usize),
+    /// Another unit has the NAA designator of the unit at this place.
+    UnitNaa(usize),
 }
 
 impl fmt::Display for ConfigFault {
@@ -62,6 +67,8 @@ impl fmt::Display for ConfigFault {
             ConfigFault::UnitBlocks(place) => write!(f, "unit {place}: capacity out of range"),
             ConfigFault::UnitOrder(place) => write!(f, "unit {place}: not above the one before"),
             ConfigFault::NoLun0(place) => write!(f, "unit {place}: target without LUN 0"),
+            ConfigFault::UnitIdentity(place) => write!(f, "unit {place}: names out of range"),
+            ConfigFault::UnitNaa(place) => write!(f, "unit {place}: NAA of another unit"),
         }
     }
 }
@@ -116,7 +123,7 @@ pub(crate) fn fault_of_queues(form: Form, memory: u64, queues: &[Layout]) -> Opt
 fn check_unit(unit: &UnitSpec) -> bool
     ensures { result ≡ is_unit unit.now }
 {
-    unit.lun <= 16383 && unit.blocks >= 1 && unit.blocks <= MOST_BLOCKS
+    unit.lun <= 16383 && unit.blocks >= 1 && unit.blocks <= MOST_BLOCKS && unit.identity.is_valid()
 }
 
 /// Returns why a unit doesn't lie within the limits.
@@ -126,8 +133,10 @@ fn fault_of_unit(place: usize, unit: &UnitSpec) -> ConfigFault
 {
     if unit.lun > 16383 {
         ConfigFault::UnitLun(place)
-    } else {
+    } else if unit.blocks < 1 || unit.blocks > MOST_BLOCKS {
         ConfigFault::UnitBlocks(place)
+    } else {
+        ConfigFault::UnitIdentity(place)
     }
 }
 
@@ -154,6 +163,44 @@ fn first_lacking(units: &[UnitSpec]) -> Option<usize>
     units
         .iter()
         .position(|unit| !check_lun_0(units, unit.target))
+}
+
+/// Returns the number that a unit's NAA designator is; 0 where it has none.
+fn naa(unit: &UnitSpec) -> u64
+    ensures { result ≡ naa_of unit.now }
+{
+    match unit.identity.naa {
+        None => 0,
+        Some(bytes) => u64::from_be_bytes(bytes),
+    }
+}
+
+/// Returns true if another unit has the NAA designator of a unit.
+fn shares(unit: &UnitSpec, other: &UnitSpec) -> bool
+    ensures { result ≡ shares unit.now other.now }
+{
+    naa(other) == naa(unit) && !(other.target == unit.target && other.lun == unit.lun)
+}
+
+/// Returns true if another of these units has the NAA designator of a unit.
+fn is_shared(units: &[UnitSpec], unit: &UnitSpec) -> bool
+    ensures { result ≡ list_any (shares unit.now) units.now }
+{
+    units.iter().any(|other| shares(unit, other))
+}
+
+/// Returns true if no other unit has the NAA designator of a unit.
+fn has_own_naa(units: &[UnitSpec], unit: &UnitSpec) -> bool
+    ensures { result ≡ has_own_naa units.now unit.now }
+{
+    naa(unit) == 0 || !is_shared(units, unit)
+}
+
+/// Returns the first unit whose NAA designator another has.
+fn first_sharing(units: &[UnitSpec]) -> Option<usize>
+    ensures { result ≡ position (λ u. not (has_own_naa units.now u)) units.now }
+{
+    units.iter().position(|unit| !has_own_naa(units, unit))
 }
 
 /// Returns true if one unit stands above another.
@@ -190,8 +237,11 @@ pub(crate) fn fault_of_units(units: &[UnitSpec]) -> Option<ConfigFault>
     if let Some(place) = first_fall(units) {
         return Some(ConfigFault::UnitOrder(place));
     }
-    match first_lacking(units) {
-        Some(place) => Some(ConfigFault::NoLun0(place)),
+    if let Some(place) = first_lacking(units) {
+        return Some(ConfigFault::NoLun0(place));
+    }
+    match first_sharing(units) {
+        Some(place) => Some(ConfigFault::UnitNaa(place)),
         None => None,
     }
 }

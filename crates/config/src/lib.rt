@@ -13,5 +13,5 @@ pub use config::{
     VERSION_1, form, tells_changes,
 };
 pub use config_fault::{ConfigFault, MOST_BLOCKS, MOST_DESCRIPTORS};
-pub use request_intake::{Profile, UnitSpec};
+pub use request_intake::{Identity, Profile, UnitSpec};
 pub use ring_core::{Layout, LayoutFault};

@@ -93,7 +93,8 @@ applies (Transition.CommitAborted k x why) w h = (x, (h.holds.out, h.holds.seat)
 applies (Transition.CommitUnknown k x) w h = absurd h
 applies (Transition.Defer k x) w h = (x, (h.holds.out, h.holds.seat))
 applies Transition.Wake w h = h
-applies (Transition.Resume k x) w h = record { free = h.free; job = x; rest = h.rest; first = h.first }
+applies (Transition.Resume k x) w h =
+    record { worker = h.worker; free = h.free; job = x; rest = h.rest; first = h.first }
 applies (Transition.Answer k x o xs) w h = (x, o, (h.out, h.seat))
 applies (Transition.Leave k place t jobs) w h = (place, t, (h.holds.out, h.holds.seat))
 applies (Transition.Mark t p m jobs) w h =

@@ -232,16 +232,19 @@ resume_not_free : (w : PlainWorld) (k : ℕ) (hand : Hand) (out : List PlainJob)
 resume_not_free w k hand out at e h =
     false_true (sym e ∙ ap is_empty_hand (one_hand w k hand Hand.Empty out h.free.0 at h.free.1))
 
-resume_off : (w : PlainWorld) (k : ℕ) (out woken : List PlainJob) → At w k Hand.Empty out → w.woken ≡ woken
-    → Decided w (Event.Resume k)
-resume_off w k out [] at e = inr (λ h. no_job (sym e ∙ h.first))
-resume_off w k out (x ∷ rest) at e = inl (record { free = (out, at); job = x; rest = rest; first = e })
+resume_off : (w : PlainWorld) (k : ℕ) (out woken : List PlainJob) → k < w.workers → At w k Hand.Empty out
+    → w.woken ≡ woken → Decided w (Event.Resume k)
+resume_off w k out [] lt at e = inr (λ h. no_job (sym e ∙ h.first))
+resume_off w k out (x ∷ rest) lt at e =
+    inl (record { worker = lt; free = (out, at); job = x; rest = rest; first = e })
 
-resume_at : (w : PlainWorld) (k : ℕ) (hand : Hand) (out : List PlainJob) → At w k hand out → Decided w (Event.Resume k)
-resume_at w k Hand.Empty out at = resume_off w k out w.woken at refl
-resume_at w k (Hand.Taken x) out at = inr (resume_not_free w k (Hand.Taken x) out at refl)
-resume_at w k (Hand.Done x o) out at = inr (resume_not_free w k (Hand.Done x o) out at refl)
-resume_at w k (Hand.Answered place t) out at = inr (resume_not_free w k (Hand.Answered place t) out at refl)
+resume_at : (w : PlainWorld) (k : ℕ) (hand : Hand) (out : List PlainJob) → (k < w.workers) ⊎ (w.workers ≤ k)
+    → At w k hand out → Decided w (Event.Resume k)
+resume_at w k hand out (inr le) at = inr (λ h. not_below k w.workers le h.worker)
+resume_at w k Hand.Empty out (inl lt) at = resume_off w k out w.woken lt at refl
+resume_at w k (Hand.Taken x) out (inl lt) at = inr (resume_not_free w k (Hand.Taken x) out at refl)
+resume_at w k (Hand.Done x o) out (inl lt) at = inr (resume_not_free w k (Hand.Done x o) out at refl)
+resume_at w k (Hand.Answered place t) out (inl lt) at = inr (resume_not_free w k (Hand.Answered place t) out at refl)
 
 commit_decided : (w : PlainWorld) (k : ℕ) (o : Option Seat) → slice_get w.seats k ≡ o → Decided w (Event.Commit k)
 commit_decided w k None at = inr (λ h. nothing (sym at ∙ h.1.1))
@@ -265,7 +268,7 @@ take_decided w k (Some s) at = take_at w k s.hand s.out (below_or_not k w.worker
 
 resume_decided : (w : PlainWorld) (k : ℕ) (o : Option Seat) → slice_get w.seats k ≡ o → Decided w (Event.Resume k)
 resume_decided w k None at = inr (λ h. nothing (sym at ∙ h.free.1))
-resume_decided w k (Some s) at = resume_at w k s.hand s.out at
+resume_decided w k (Some s) at = resume_at w k s.hand s.out (below_or_not k w.workers) at
 
 -- The function
 

@@ -377,7 +377,7 @@ does w (Event.Resize place blocks) f own no_fetch h = absurd own
 does w (Event.Hard place) f own no_fetch h = absurd own
 does w Event.Wake f own no_fetch h = absurd own
 does w (Event.Resume k) f own no_fetch h =
-    (Transition.Resume k h.job, refl, record { free = h.free; rest = h.rest; first = h.first })
+    (Transition.Resume k h.job, refl, record { worker = h.worker; free = h.free; rest = h.rest; first = h.first })
 does w (Event.Fetch i) f own no_fetch h = absurd (no_fetch tt)
 does w (Event.Enter i) f own no_fetch (x, h) = enters w i x (can_enter w i h.0 x f h.1 h.2)
 does w (Event.Direct i) f own no_fetch (c, o, h) = directs w i c o h.0 f h.1 h.2

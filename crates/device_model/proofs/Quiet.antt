@@ -37,8 +37,8 @@ pub record QuietSeat (w : PlainWorld) (k : ℕ) : Type 0 where
   pub answer : Never w (Event.Answer k)
   pub commit : Never w (Event.Commit k)
   pub put : Never w (Event.Put k)
-  pub take : Never w (Event.Take k)
   pub resume : Never w (Event.Resume k)
+  pub take : Never w (Event.Take k)
 
 pub record AllQuiet (asked : ℕ → Bool) (w : PlainWorld) : Type 0 where
   pub answer_tmf : Never w Event.AnswerTmf
@@ -55,8 +55,8 @@ quiet_seat w k h =
       answer = h.1.0;
       commit = h.1.1.0;
       put = h.1.1.1.0;
-      take = h.1.1.1.1.0;
-      resume = h.1.1.1.1.1.0;
+      resume = h.1.1.1.1.0;
+      take = h.1.1.1.1.1.0;
     }
 
 never_asked : (b : Bool) (w : PlainWorld) (q : ℕ) → NoneApplies w (if b then Event.Fetch q ∷ [] else []) → b ≡ true

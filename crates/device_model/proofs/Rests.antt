@@ -97,13 +97,13 @@ none_handed_off w s k (x ∷ rest) works at e never off =
     let bare = subst (λ l. slice_get w.seats 0 ≡ Some (record { hand = Hand.Empty; out = l })) e.out free in
     absurd (never (record { worker = works; seat = bare; from = k; job = x; rest = rest; handed_off = off }))
 
--- with a seat that has nothing, no job is to be tried again
-none_woken : (w : PlainWorld) (s : Seat) (k : ℕ) (jobs : List PlainJob) → slice_get w.seats k ≡ Some s → EmptySeat s
-    → Never w (Event.Resume k) → w.woken ≡ jobs → jobs ≡ []
-none_woken w s k [] at e never is = refl
-none_woken w s k (x ∷ rest) at e never is =
+-- with a worker that has nothing, no job is to be tried again
+none_woken : (w : PlainWorld) (s : Seat) (k : ℕ) (jobs : List PlainJob) → k < w.workers → slice_get w.seats k ≡ Some s
+    → EmptySeat s → Never w (Event.Resume k) → w.woken ≡ jobs → jobs ≡ []
+none_woken w s k [] works at e never is = refl
+none_woken w s k (x ∷ rest) works at e never is =
     let free = subst (λ h. slice_get w.seats k ≡ Some (record { hand = h; out = s.out })) e.hand at in
-    absurd (never (record { free = (s.out, free); job = x; rest = rest; first = is }))
+    absurd (never (record { worker = works; free = (s.out, free); job = x; rest = rest; first = is }))
 
 -- Units
 
@@ -344,7 +344,7 @@ quiet_rests_of asked old trace w r h =
     ] in
     let woken : w.woken ≡ [] =
     elim (slice_get_cases w.seats 0).1 [
-      | inl q ↦ none_woken w q.0 0 w.woken q.2 (seats 0 q.0 q.2) (quiet.seats 0 first).resume refl
+      | inl q ↦ none_woken w q.0 0 w.woken works q.2 (seats 0 q.0 q.2) (quiet.seats 0 first).resume refl
       | inr q ↦ absurd (let le = q.0 in omega (arith, le, first))
     ] in
     let aside = run_aside old trace w r.opens r.runs in

@@ -18,7 +18,7 @@ use Rattle.device_model.specs.Happens.{Happens, May, Occurrence, Reached, world_
 use Rattle.device_model.specs.Found.{UnitIs, HasHand, HandAtUnit}
 use Rattle.device_model.specs.Places.{of_chain, of_job, only, accepted_count, used_count}
 use Rattle.device_model.specs.Standing.{NoneIsBacked}
-use Rattle.device_model.specs.Order.{IsQuiet, IsAtRestOf}
+use Rattle.device_model.specs.Order.{IsQuiet, IsAtRest, IsAtRestOf}
 use Rattle.device_model.specs.Measure.{rouses, roused}
 use Rattle.device_model.specs.Settling.{SettlesOf, roused_by}
 use Rattle.device_model.specs.Waiting.{deferred, resumed}
@@ -109,6 +109,22 @@ marked_ends w k x u why (Transition.EnterStale y) hand at mark h e = absurd h
 marked_ends w k x u why (Transition.Idle f) hand at mark h e = absurd h
 marked_ends w k x u why (Transition.Poke y) hand at mark h e = absurd (cc)
 marked_ends w k x u why d hand at mark h e = absurd (cc)
+
+-- Where no job waits
+
+pub none_left : (w : PlainWorld) → w.aside ≡ [] → IsAtRest w
+    → (p : Ticket → ℕ) → used_count p w + sum_by (of_chain p) w.buffers ≡ accepted_count p w
+none_left w none rest p =
+    let c = rest.chains p in
+    let z = none_waiting p w rest.parked none in
+    omega (arith, c, z)
+
+pub none_left_of : (asked : ℕ → Bool) (w : PlainWorld) → w.aside ≡ [] → IsAtRestOf asked w
+    → (p : Ticket → ℕ) → used_count p w + sum_by (of_chain p) w.buffers ≡ accepted_count p w
+none_left_of asked w none rest p =
+    let c = rest.chains p in
+    let z = none_waiting p w rest.parked none in
+    omega (arith, c, z)
 
 -- Where no disk is one whose pages come and go
 

@@ -954,26 +954,34 @@ raise_wakes d w m h = inl h
 -- Resume
 
 -- where one seat is changed: it is that one that has its hand free, or the event applied before
-resume_was : (v w : PlainWorld) (g : Seat → Seat) (k j : ℕ) → v.seats ≡ change g k w.seats → v.woken ≡ w.woken
-    → (h : MayResume v j)
+resume_was : (v w : PlainWorld) (g : Seat → Seat) (k j : ℕ) → v.seats ≡ change g k w.seats → v.workers ≡ w.workers
+    → v.woken ≡ w.woken → (h : MayResume v j)
     → ((j ≡ k) × (x : Seat) × (slice_get w.seats k ≡ Some x) × (Hand.Empty ≡ (g x).hand)) ⊎ MayResume w j
-resume_was v w g k j seats woken h =
+resume_was v w g k j seats workers woken h =
     elim (hand_was g k w.seats j Hand.Empty (h.free.0, ap (λ l. slice_get l j) (sym seats) ∙ h.free.1)) [
       | inl p ↦ inl p
-      | inr old ↦ inr (record { free = old; job = h.job; rest = h.rest; first = sym woken ∙ h.first })
+      | inr old ↦ inr (record {
+        worker = subst (λ n. j < n) workers h.worker;
+        free = old;
+        job = h.job;
+        rest = h.rest;
+        first = sym woken ∙ h.first;
+      })
     ]
 
 resume_not : (v w : PlainWorld) (g : Seat → Seat) (k j : ℕ) (hand : Hand) → v.seats ≡ change g k w.seats
-    → v.woken ≡ w.woken → ((x : Seat) → (g x).hand ≡ hand) → (hand ≡ Hand.Empty → ⊥) → MayResume v j → MayResume w j
-resume_not v w g k j hand seats woken is apart h =
-    elim (resume_was v w g k j seats woken h) [
+    → v.workers ≡ w.workers → v.woken ≡ w.woken → ((x : Seat) → (g x).hand ≡ hand) → (hand ≡ Hand.Empty → ⊥) → MayResume v j → MayResume w j
+resume_not v w g k j hand seats workers woken is apart h =
+    elim (resume_was v w g k j seats workers woken h) [
       | inl p ↦ absurd (apart (sym (is p.1) ∙ sym p.3))
       | inr old ↦ old
     ]
 
-resume_same : (v w : PlainWorld) (j : ℕ) → v.seats ≡ w.seats → v.woken ≡ w.woken → MayResume v j → MayResume w j
-resume_same v w j seats woken h =
+resume_same : (v w : PlainWorld) (j : ℕ) → v.seats ≡ w.seats → v.workers ≡ w.workers → v.woken ≡ w.woken
+    → MayResume v j → MayResume w j
+resume_same v w j seats workers woken h =
     record {
+      worker = subst (λ n. j < n) workers h.worker;
       free = (h.free.0, ap (λ l. slice_get l j) (sym seats) ∙ h.free.1);
       job = h.job;
       rest = h.rest;
@@ -985,32 +993,32 @@ resume_wakes : (d : Transition) (w : PlainWorld) (j : ℕ) → Happens d w → A
 resume_wakes (Transition.Run x) w j m h =
     let k = owner w.workers x.chain.ticket.queue in
     let free = hand_kept (with_jobs (x ∷ [])) k w.seats j Hand.Empty (λ z. refl) h.free in
-    inl (record { free = free; job = h.job; rest = h.rest; first = h.first })
+    inl (record { worker = h.worker; free = free; job = h.job; rest = h.rest; first = h.first })
 resume_wakes (Transition.Put k x) w j m h =
     elim (hand_was (without_first Hand.Empty) k w.seats j Hand.Empty h.free) [
       | inl p ↦
           let free : Holds w.seats j Hand.Empty = (x ∷ m.rest, ap (λ n. slice_get w.seats n) p.0 ∙ m.seat) in
-          inl (record { free = free; job = h.job; rest = h.rest; first = h.first })
-      | inr old ↦ inl (record { free = old; job = h.job; rest = h.rest; first = h.first })
+          inl (record { worker = h.worker; free = free; job = h.job; rest = h.rest; first = h.first })
+      | inr old ↦ inl (record { worker = h.worker; free = old; job = h.job; rest = h.rest; first = h.first })
     ]
 resume_wakes (Transition.Keep k x) w j m h =
     let new = Hand.Taken x in
-    inl (resume_not (after (Transition.Keep k x) w) w (without_first new) k j new refl refl (λ z. refl) taken_free h)
+    inl (resume_not (after (Transition.Keep k x) w) w (without_first new) k j new refl refl refl (λ z. refl) taken_free h)
 resume_wakes (Transition.Take k from x) w j m h =
     let new = Hand.Taken x in
-    inl (resume_not (after (Transition.Take k from x) w) w (with_hand new) k j new refl refl (λ z. refl) taken_free h)
+    inl (resume_not (after (Transition.Take k from x) w) w (with_hand new) k j new refl refl refl (λ z. refl) taken_free h)
 resume_wakes (Transition.Commit k x r) w j m h =
     let new = Hand.Done x (Outcome.Ended (Ending.Replied r)) in
-    inl (resume_not (after (Transition.Commit k x r) w) w (with_hand new) k j new refl refl (λ z. refl) done_free h)
+    inl (resume_not (after (Transition.Commit k x r) w) w (with_hand new) k j new refl refl refl (λ z. refl) done_free h)
 resume_wakes (Transition.CommitBusy k x) w j m h =
     let new = Hand.Done x (Outcome.Ended Ending.Busy) in
-    inl (resume_not (after (Transition.CommitBusy k x) w) w (with_hand new) k j new refl refl (λ z. refl) done_free h)
+    inl (resume_not (after (Transition.CommitBusy k x) w) w (with_hand new) k j new refl refl refl (λ z. refl) done_free h)
 resume_wakes (Transition.CommitAborted k x why) w j m h =
     let new = Hand.Done x (Outcome.Ended (Ending.Aborted why)) in
-    inl (resume_not (after (Transition.CommitAborted k x why) w) w (with_hand new) k j new refl refl (λ z. refl) done_free h)
+    inl (resume_not (after (Transition.CommitAborted k x why) w) w (with_hand new) k j new refl refl refl (λ z. refl) done_free h)
 resume_wakes (Transition.CommitUnknown k x) w j m h = absurd m
 resume_wakes (Transition.Defer k x) w j m h =
-    elim (resume_was (after (Transition.Defer k x) w) w (with_hand Hand.Empty) k j refl refl h) [
+    elim (resume_was (after (Transition.Defer k x) w) w (with_hand Hand.Empty) k j refl refl refl h) [
       | inl p ↦ inr (inr (inr (inl (ap Event.Resume p.0))))
       | inr old ↦ inl old
     ]
@@ -1018,19 +1026,19 @@ resume_wakes Transition.Wake w j m h = inr tt
 resume_wakes (Transition.Resume k x) w j m h =
     elim (hand_was (with_hand (Hand.Taken x)) k w.seats j Hand.Empty h.free) [
       | inl p ↦ absurd (taken_free (sym p.3))
-      | inr old ↦ inl (record { free = old; job = x; rest = m.rest; first = m.first })
+      | inr old ↦ inl (record { worker = h.worker; free = old; job = x; rest = m.rest; first = m.first })
     ]
 resume_wakes (Transition.Answer k x o xs) w j m h =
     let new = Hand.Answered x.unit x.chain.ticket in
-    inl (resume_not (after (Transition.Answer k x o xs) w) w (with_hand new) k j new refl refl (λ z. refl) answered_free h)
+    inl (resume_not (after (Transition.Answer k x o xs) w) w (with_hand new) k j new refl refl refl (λ z. refl) answered_free h)
 resume_wakes (Transition.Leave k place t jobs) w j m h =
-    elim (resume_was (after (Transition.Leave k place t jobs) w) w (leaving jobs) k j refl refl h) [
+    elim (resume_was (after (Transition.Leave k place t jobs) w) w (leaving jobs) k j refl refl refl h) [
       | inl p ↦ inr (inr (inr (inl (ap Event.Resume p.0))))
       | inr old ↦ inl old
     ]
 resume_wakes (Transition.Mark t p how jobs) w j m h = inr (inl tt)
 resume_wakes (Transition.Hard p jobs) w j m h = inr (inl tt)
-resume_wakes d w j m h = inl (resume_same (after d w) w j refl refl h)
+resume_wakes d w j m h = inl (resume_same (after d w) w j refl refl refl h)
 
 -- Any event
 

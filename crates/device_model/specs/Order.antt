@@ -16,7 +16,7 @@ each f zero = []
 each f (suc n) = each f n ++ f n
 
 abbrev pub of_seat : ℕ → List Event
-of_seat k = Event.Leave k ∷ Event.Answer k ∷ Event.Commit k ∷ Event.Put k ∷ Event.Take k ∷ Event.Resume k ∷ []
+of_seat k = Event.Leave k ∷ Event.Answer k ∷ Event.Commit k ∷ Event.Put k ∷ Event.Resume k ∷ Event.Take k ∷ []
 
 -- own: the function, the event port, and what is ready to be answered; then each seat, what is nearest to its end
 -- first; then the requests that arrived; and new chains last

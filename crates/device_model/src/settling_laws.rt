@@ -76,9 +76,12 @@ pub fn what_applies_happens()
         IsOwn e → (IsFetch e → ⊥) → Applies w e → (d : Transition) × (event_of d ≡ e) × Happens d w }
 {}
 
-/// As long as a chain is outstanding, and isn't an event buffer that is held, an event of the device itself is next: no
-/// chain waits for something that never comes. A chain may wait for pages of its unit's disk, or be parked behind one that
-/// does; where nothing waits for pages, none is.
+/// As long as a chain is outstanding, an event of the device itself is next. The law leaves out event buffers that are
+/// held, and chains for which the host owes pages. A job that waits for pages of its disk goes on once the host wakes it,
+/// and so does what is parked behind it.
+///
+/// - `next`: no job of the device waits for pages. Then no chain is left out but the event buffers.
+/// - `waits`: the chain itself neither waits for pages nor is parked, whatever others do.
 pub fn nothing_is_stuck()
     ensures next { (old : PlainWorld) (trace : List Occurrence) (w : PlainWorld) (t : Ticket) → Reached old trace w →
         used_count (only t) w < accepted_count (only t) w → sum_by (of_chain (only t)) w.buffers ≡ 0 →

@@ -1,7 +1,7 @@
 //! Laws of jobs that wait for pages of their unit's disk, in every order of the device's steps. They say nothing of code:
 //! they hold of every program whose calls are transitions.
 
-ghost use Rattle.std.specs.Prelude.{ℕ, Bool, ◌≡◌, ◌+◌, ◌≤◌, ◌++◌, List, [], Some};
+ghost use Rattle.std.specs.Prelude.{ℕ, Bool, ◌≡◌, ◌+◌, ◌<◌, ◌≤◌, ◌++◌, List, [], Some};
 ghost use Rattle.std.specs.List.{sum_by};
 ghost use Rattle.ring_core.specs.declared.log.Ticket.{Ticket};
 ghost use Rattle.unit_model.specs.declared.reason.Reason.{Reason};
@@ -19,7 +19,7 @@ ghost use Rattle.device_model.specs.Happens.{Occurrence, Happens, May, Reached};
 ghost use Rattle.device_model.specs.Found.{UnitIs, HasHand};
 ghost use Rattle.device_model.specs.Places.{of_chain, of_job, only, accepted_count, used_count};
 ghost use Rattle.device_model.specs.Standing.{AreAside, NoneIsBacked};
-ghost use Rattle.device_model.specs.Order.{IsQuiet, IsAtRestOf};
+ghost use Rattle.device_model.specs.Order.{IsQuiet, IsAtRest, IsAtRestOf};
 ghost use Rattle.device_model.specs.Measure.{rouses};
 ghost use Rattle.device_model.specs.Settling.{SettlesOf, roused_by};
 ghost use Rattle.device_model.specs.Waiting.{deferred, resumed, LooksAlike};
@@ -45,11 +45,13 @@ pub fn waiting_changes_only_when()
 ///
 /// - `waits`: those that wait are those that did and those that are put aside, less those that are woken.
 /// - `again`: those that are to be tried again are those that were and those that are woken, less those that are taken.
+/// - `worker`: a worker takes each, and never the operator.
 pub fn each_wake_tries_again_once()
     ensures waits { (p : PlainJob → ℕ) (w : PlainWorld) (d : Transition) → May d w →
         sum_by p (after d w).aside + sum_by p (rouses w d) ≡ sum_by p w.aside + sum_by p (deferred d) }
     ensures again { (p : PlainJob → ℕ) (w : PlainWorld) (d : Transition) → May d w →
         sum_by p (after d w).woken + sum_by p (resumed d) ≡ sum_by p w.woken + sum_by p (rouses w d) }
+    ensures worker { (w : PlainWorld) (k : ℕ) (x : PlainJob) → Happens (Transition.Resume k x) w → k < w.workers }
     ensures wake { (w : PlainWorld) → rouses w Transition.Wake ≡ w.aside }
     ensures quiet { (old : PlainWorld) (trace : List Occurrence) (w : PlainWorld) → Reached old trace w → IsQuiet w →
         w.woken ≡ [] }
@@ -64,6 +66,18 @@ pub fn what_is_marked_waits_no_more()
     ensures ends { (w : PlainWorld) (k : ℕ) (x : PlainJob) (u : PlainUnit) (why : Reason) (d : Transition) →
         HasHand w k (Hand.Taken x) → UnitIs w x.unit u → mark_of x.entry.ticket u.steps ≡ Some why → Happens d w →
         event_of d ≡ Event.Commit k → d ≡ Transition.CommitAborted k x why }
+{}
+
+/// Where no job waits for pages, a device that is at rest has nothing left: each accepted chain was used but for the event
+/// buffers that are held. No run leads there, and disks may be of either kind.
+///
+/// - `rest`: nothing is left to do.
+/// - `portion`: nothing but chains of queues that aren't asked, which weren't accepted.
+pub fn nothing_is_left_where_none_waits()
+    ensures rest { (w : PlainWorld) → w.aside ≡ [] → IsAtRest w →
+        (p : Ticket → ℕ) → used_count p w + sum_by (of_chain p) w.buffers ≡ accepted_count p w }
+    ensures portion { (asked : ℕ → Bool) (w : PlainWorld) → w.aside ≡ [] → IsAtRestOf asked w →
+        (p : Ticket → ℕ) → used_count p w + sum_by (of_chain p) w.buffers ≡ accepted_count p w }
 {}
 
 /// Where no unit's disk is one whose pages come and go, no job ever waits. So where a device has nothing left to do, each

@@ -51,7 +51,8 @@ elsewhere a b w (Event.Hard place) is h = h
 elsewhere a b w (Event.Resize place blocks) is h = h
 elsewhere a b w Event.Raise is h = h
 elsewhere a b w Event.Wake is h = record { first = h.first; rest = h.rest; waits = h.waits }
-elsewhere a b w (Event.Resume k) is h = record { free = h.free; job = h.job; rest = h.rest; first = h.first }
+elsewhere a b w (Event.Resume k) is h =
+    record { worker = h.worker; free = h.free; job = h.job; rest = h.rest; first = h.first }
 
 pub none_elsewhere : (a b : List ℕ) (w : PlainWorld) (xs : List Event) → AllByRecursion IsApart xs → NoneApplies (with_memory a w) xs
     → NoneApplies (with_memory b w) xs
@@ -72,7 +73,7 @@ before_elsewhere a b w cursor.Start h = tt
 before_elsewhere a b w (cursor.Direct n) h = (start_elsewhere a b w h.0, h.1)
 before_elsewhere a b w cursor.Seats h = (start_elsewhere a b w h.0, h.1)
 before_elsewhere a b w (cursor.Enter n) h = (start_elsewhere a b w h.0, h.1, seats_elsewhere a b w h.2, h.3)
-before_elsewhere a b w cursor.Fetch h = (start_elsewhere a b w h.0, h.1, seats_elsewhere a b w h.2, h.3)
+before_elsewhere a b w (cursor.Fetch n) h = (start_elsewhere a b w h.0, h.1, seats_elsewhere a b w h.2, h.3)
 
 pub before_any : (shared : Bool) (a b : List ℕ) (d : PlainDevice) (c : Cursor) → NoneBefore c (standing shared a d)
     → NoneBefore c (standing shared b d)

@@ -222,14 +222,14 @@ first_put Q w w' there t =
     (λ a. inr (idle.leave, inr (idle.answer, inr (idle.commit, inl (a, refl))))) t
 
 first_take : (Q : Transition → Type 0) (w w' : PlainWorld)
-    → slice_get w.seats 0 ≡ Some (record { hand = Hand.Empty; out = [] }) → TurnsBy Q w (Event.Take 0) w'
-    → TurnsFirst Q (of_seat 0) w w'
-first_take Q w w' there t =
+    → slice_get w.seats 0 ≡ Some (record { hand = Hand.Empty; out = [] }) → (Applies w (Event.Resume 0) → ⊥)
+    → TurnsBy Q w (Event.Take 0) w' → TurnsFirst Q (of_seat 0) w w'
+first_take Q w w' there no_resume t =
     let idle = stages.free w 0 ([], there) in
     let no_put : Applies w (Event.Put 0) → ⊥ =
     λ (m : MayPut w 0). no_item (ap (λ (z : Seat). z.out) (same (sym there ∙ m.seat))) in
     taken Q (of_seat 0) (Event.Take 0) w w'
-    (λ a. inr (idle.leave, inr (idle.answer, inr (idle.commit, inr (no_put, inl (a, refl)))))) t
+    (λ a. inr (idle.leave, inr (idle.answer, inr (idle.commit, inr (no_put, inr (no_resume, inl (a, refl))))))) t
 
 -- a fetch alone is one event, whatever comes behind it
 pub fetches_only : (stored : List Write → Type 0) → stored [] → (asked : ℕ → Bool) (w : PlainWorld) (i : ℕ) (q q' : PlainQueue)
@@ -414,8 +414,14 @@ module _ (sound : AreSound) (asked : ℕ → Bool) (w : PlainWorld) (whole : IsW
             first = λ i jobs before there. absurd (none_before i before);
             after = refl;
           }) in
+          let there : slice_get w.seats 0 ≡ Some (record { hand = Hand.Empty; out = [] }) =
+          ap (λ (l : List Seat). slice_get l 0) are in
+          let seat : 0 < length w.seats = subst (λ (l : List Seat). 0 < length l) (sym are) (omega arith) in
+          let no_resume : Applies w3 (Event.Resume 0) → ⊥ =
+          λ (m : MayResume w3 0). (before.2 0 seat).1.1.1.1.0
+          (record { worker = m.worker; free = ([], there); job = m.job; rest = m.rest; first = m.first }) in
           seat_next asked (Follows seen) w3 w4 0 cursor.Seats next3.4.0 next3.4.1 (none_below w3) (omega arith)
-          (first_take (Follows seen) w3 w4 refl (by_quiet seen w3 (Event.Take 0) w4 tt take)) (inr (refl, may.closed))
+          (first_take (Follows seen) w3 w4 refl no_resume (by_quiet seen w3 (Event.Take 0) w4 tt take)) (inr (refl, may.closed))
 
       whole4 : IsWhole w4
       whole4 = whole_by_step asked (Follows seen) w3 cursor.Seats w4 whole3 next4
@@ -549,22 +555,23 @@ module _ (sound : AreSound) (asked : ℕ → Bool) (w : PlainWorld) (whole : IsW
                   (λ (m : MayPut (record last { seats = w.seats }) k).
                       h.1.1.1.0 (record { job = m.job; rest = m.rest; seat = m.seat })),
                   (
-                    (λ (m : MayTake (record last { seats = w.seats }) k).
+                    (λ (m : MayResume (record last { seats = w.seats }) k).
                         h.1.1.1.1.0 (record {
                           worker = m.worker;
-                          seat = m.seat;
-                          from = m.from;
+                          free = m.free;
                           job = m.job;
                           rest = m.rest;
-                          handed_off = m.handed_off;
+                          first = m.first;
                         })),
                     (
-                      (λ (m : MayResume (record last { seats = w.seats }) k).
+                      (λ (m : MayTake (record last { seats = w.seats }) k).
                           h.1.1.1.1.1.0 (record {
-                            free = m.free;
+                            worker = m.worker;
+                            seat = m.seat;
+                            from = m.from;
                             job = m.job;
                             rest = m.rest;
-                            first = m.first;
+                            handed_off = m.handed_off;
                           })),
                       tt,
                     ),
@@ -582,8 +589,8 @@ module _ (sound : AreSound) (asked : ℕ → Bool) (w : PlainWorld) (whole : IsW
           (with_slot Slot.Empty q') old (λ y is. empty_arrived y is) in
           all j a.1.0 a.1.1 a.0 a.1.2
 
-      pub before_fetch : out'.jobs ≡ [] → NoneBefore cursor.Fetch last
-      before_fetch empty =
+      pub before_fetch : out'.jobs ≡ [] → (k : ℕ) → NoneBefore (cursor.Fetch k) last
+      before_fetch empty k =
           (before_seats.0, before_seats.1, still_seat last.seats (seats_are empty), no_enter)
 
 -- the first seat has nothing in its hand and no jobs
@@ -612,10 +619,10 @@ abbrev pub later_of : Option Bool → ℕ
 later_of None = 1
 later_of (Some gone) = 6
 
-pub steps_are : (done : Option Bool) (n : ℕ) → (served_of done n).steps ≡ 1 + later_of done
-steps_are None n = refl
-steps_are (Some gone) zero = refl
-steps_are (Some gone) (suc n) = refl
+pub steps_are : (done : Option Bool) (n k : ℕ) → (served_of done n k).steps ≡ 1 + later_of done
+steps_are None n k = refl
+steps_are (Some gone) zero k = refl
+steps_are (Some gone) (suc n) k = refl
 
 pub some_steps : (done : Option Bool) → 1 ≤ 1 + later_of done
 some_steps None = omega arith
@@ -626,17 +633,17 @@ few_steps None most few = omega (arith, few)
 few_steps (Some gone) most few = omega (arith, few)
 
 -- where to look then
-looks_so : (v : PlainWorld) (n : ℕ) (gone : Bool) (jobs : List PlainJob) → n ≡ length jobs → NoneBefore cursor.Seats v
-    → (jobs ≡ [] → NoneBefore cursor.Fetch v) → NoneBefore (served_of (Some gone) n).next v
-looks_so v zero gone [] is seats fetch = fetch refl
-looks_so v zero gone (j ∷ jobs) is seats fetch = absurd (omega (arith, is))
-looks_so v (suc n) gone jobs is seats fetch = seats
+looks_so : (v : PlainWorld) (n k : ℕ) (gone : Bool) (jobs : List PlainJob) → n ≡ length jobs → NoneBefore cursor.Seats v
+    → (jobs ≡ [] → NoneBefore (cursor.Fetch k) v) → NoneBefore (served_of (Some gone) n k).next v
+looks_so v zero k gone [] is seats fetch = fetch refl
+looks_so v zero k gone (j ∷ jobs) is seats fetch = absurd (omega (arith, is))
+looks_so v (suc n) k gone jobs is seats fetch = seats
 
 -- what follows of a request that was taken: so many events, each the first that applies; and where to look then
 pub record ServedKept (asked : ℕ → Bool) (stored : List Write → Type 0) (seen : List ℕ) (w v : PlainWorld) (done : Option Bool)
     (n : ℕ) : Type 0 where
   pub follows : FollowsSeen asked stored seen w (later_of done) v
-  pub before : NoneBefore (served_of done n).next v
+  pub before : (k : ℕ) → NoneBefore (served_of done n k).next v
 
 pub serves_kept : (stored : List Write → Type 0) (sound : AreSound) (asked : ℕ → Bool) (w : PlainWorld) → IsWhole w → (i : ℕ) (q : PlainQueue) (limit : ℕ)
     (kept rest : List KeptSeat) → kept ≡ bare Hand.Empty limit ∷ rest → w.seats ≡ map seat_of kept
@@ -659,7 +666,7 @@ serves_kept stored a asked w b i q l kept rest ka are f g may at bf bl on x t ft
     ServedKept asked stored seen w1 (set_all w m' i (with_slot s' q') x.unit u' ks (seat_with Hand.Empty out')) None n) (sym ka)
     (record {
       follows = only_follows a asked w b i q l rest are' f limits' may at bf bl on x t ft stored u u' ut s' q' m' seen out' h;
-      before = tt;
+      before = λ k. tt;
     })
 serves_kept stored a asked w b i q l kept rest ka are f g may at bf bl on x t ft u u' ut s s' q' m' seen out' e (Some gone) h n is =
     let are' = are ∙ ap (λ (ks : List KeptSeat). map seat_of ks) ka in
@@ -670,12 +677,12 @@ serves_kept stored a asked w b i q l kept rest ka are f g may at bf bl on x t ft
     let v = set_all w m' i (with_slot Slot.Empty q') x.unit u' (bare Hand.Empty l ∷ rest) (seat_with Hand.Empty out') in
     let seats : NoneBefore cursor.Seats v =
     before_seats a asked w b i q l rest are' f limits' may at bf bl on x t ft stored u u' ut s' q' m' seen out' gone h.0 in
-    let fetch : out'.jobs ≡ [] → NoneBefore cursor.Fetch v =
+    let fetch : out'.jobs ≡ [] → (k : ℕ) → NoneBefore (cursor.Fetch k) v =
     before_fetch a asked w b i q l rest are' f limits' may at bf bl on x t ft stored u u' ut s' q' m' seen out' gone h.0 in
     let base : ServedKept asked stored seen w1 v (Some gone) n =
     record {
       follows = follows a asked w b i q l rest are' f limits' may at bf bl on x t ft stored u u' ut s' q' m' seen out' gone h.0;
-      before = looks_so v n gone out'.jobs is seats fetch;
+      before = λ k. looks_so v n k gone out'.jobs is seats (λ none. fetch none k);
     } in
     subst (λ (ks : List KeptSeat).
     ServedKept asked stored seen w1 (set_all w m' i (with_slot s' q') x.unit u' ks (seat_with Hand.Empty out')) (Some gone) n) (sym ka)

@@ -33,3 +33,4 @@ pub mod AtOnce
 pub mod AnyMemory
 pub mod EachTurn
 pub mod Looks
+pub mod OneQueue

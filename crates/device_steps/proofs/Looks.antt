@@ -296,7 +296,7 @@ idle_seat w k woken at never =
           i.commit,
           (
             (λ (m : MayPut w k). not_empty (ap (λ (s : Seat). s.out) (same (sym m.seat ∙ at)))),
-            (never, (stages.none_resumes w k woken, tt)),
+            (stages.none_resumes w k woken, (never, tt)),
           ),
         ),
       ),
@@ -309,7 +309,7 @@ bare : (w : PlainWorld) (k i : ℕ) → SeatIs w k Hand.Empty [] → k < w.worke
     → (jobs : List PlainJob) → slice_get w.handed_off i ≡ Some jobs → jobs ≡ []
 bare w k i at worker none [] there = refl
 bare w k i at worker none (x ∷ rest) there =
-    absurd (none.1.1.1.1.0 (record {
+    absurd (none.1.1.1.1.1.0 (record {
       worker = worker;
       seat = at;
       from = i;
@@ -327,7 +327,7 @@ takes w k false woken at worker h =
 -- All of them
 
 seats_quiet : (asked : ℕ → Bool) (w : PlainWorld) → AllQuiet asked w → NoSeat w
-seats_quiet asked w a k lt = let s = a.seats k lt in (s.leave, (s.answer, (s.commit, (s.put, (s.take, (s.resume, tt))))))
+seats_quiet asked w a k lt = let s = a.seats k lt in (s.leave, (s.answer, (s.commit, (s.put, (s.resume, (s.take, tt))))))
 
 pub function_quiet : (asked : ℕ → Bool) (w : PlainWorld) → IsQuietOf asked w → NoneApplies w of_function
 function_quiet asked w q = let a = all_quiet asked w q in (a.answer_tmf, (a.check, (a.mark, tt)))

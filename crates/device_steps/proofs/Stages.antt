@@ -37,7 +37,7 @@ absent w k none = (
       (λ a. nothing (sym none ∙ a.1.1)),
       (
         (λ m. nothing (sym none ∙ m.seat)),
-        ((λ m. nothing (sym none ∙ m.seat)), ((λ m. nothing (sym none ∙ m.free.1)), tt)),
+        ((λ m. nothing (sym none ∙ m.free.1)), ((λ m. nothing (sym none ∙ m.seat)), tt)),
       ),
     ),
   ),

@@ -249,8 +249,8 @@ after_fetch w d i y is m none lt closed arrived =
             (
               still w d x (Event.Put k) is m tt (λ h. absurd h) (seat k less).1.1.1.0,
               (
-                still w d x (Event.Take k) is m tt (λ h. absurd h) (seat k less).1.1.1.1.0,
-                (still w d x (Event.Resume k) is m tt (λ h. absurd h) (seat k less).1.1.1.1.1.0, tt),
+                still w d x (Event.Resume k) is m tt (λ h. absurd h) (seat k less).1.1.1.1.0,
+                (still w d x (Event.Take k) is m tt (λ h. absurd h) (seat k less).1.1.1.1.1.0, tt),
               ),
             ),
           ),
@@ -368,7 +368,7 @@ past_start w cursor.Start other before = absurd (other refl)
 past_start w (cursor.Direct n) other before = before.0
 past_start w cursor.Seats other before = before.0
 past_start w (cursor.Enter n) other before = before.0
-past_start w cursor.Fetch other before = before.0
+past_start w (cursor.Fetch n) other before = before.0
 
 -- nothing is below 0
 none_below : (P : ℕ → Type 0) (i : ℕ) → i < 0 → P i
@@ -379,21 +379,21 @@ directs_from w cursor.Start before = none_below (λ i. Never w (Event.Direct i))
 directs_from w (cursor.Direct n) before = before.1
 directs_from w cursor.Seats before = before.1
 directs_from w (cursor.Enter n) before = before.1
-directs_from w cursor.Fetch before = before.1
+directs_from w (cursor.Fetch n) before = before.1
 
 pub seats_from : (w : PlainWorld) (c : Cursor) → NoneBefore c w → NoSeatBelow (seat_from c (length w.seats)) w
 seats_from w cursor.Start before = none_below (λ k. NoneApplies w (of_seat k))
 seats_from w (cursor.Direct n) before = none_below (λ k. NoneApplies w (of_seat k))
 seats_from w cursor.Seats before = none_below (λ k. NoneApplies w (of_seat k))
 seats_from w (cursor.Enter n) before = before.2
-seats_from w cursor.Fetch before = before.2
+seats_from w (cursor.Fetch n) before = before.2
 
 pub enters_from : (w : PlainWorld) (c : Cursor) → NoneBefore c w → NoEnterBelow (enter_from c (length w.queues)) w
 enters_from w cursor.Start before = none_below (λ i. Never w (Event.Enter i))
 enters_from w (cursor.Direct n) before = none_below (λ i. Never w (Event.Enter i))
 enters_from w cursor.Seats before = none_below (λ i. Never w (Event.Enter i))
 enters_from w (cursor.Enter n) before = before.3
-enters_from w cursor.Fetch before = before.3
+enters_from w (cursor.Fetch n) before = before.3
 
 -- Past the last of a kind
 

@@ -34,6 +34,7 @@ opening_of inventory u =
       calm = u.calm;
       content = [];
       profile = u.profile;
+      identity = u.identity;
     }
 
 -- a unit of which no step was taken. It keeps no replies, since no receipt outlives a chain's service

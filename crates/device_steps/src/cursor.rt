@@ -1,7 +1,7 @@
 //! The place in the order of service from which to look next.
 
 ghost use Rattle.std.specs.Prelude.{◌≡◌, ◌↔◌, IsTrue};
-ghost use Rattle.device_steps.specs.Inner.Cursors.{served_of, direct_from, seat_from, enter_from};
+ghost use Rattle.device_steps.specs.Inner.Cursors.{IsFetchPlace, served_of, direct_from, seat_from, enter_from};
 
 /// A place in the order before which no event applies. A host that serves begins at `Start`, and goes on from where each
 /// turn says.
@@ -15,8 +15,8 @@ pub enum Cursor {
     Seats,
     /// The request that arrived on a queue.
     Enter(u16),
-    /// The first queue's next chain.
-    Fetch,
+    /// The first queue's next chain, behind the request of this queue that was served at once.
+    Fetch(u16),
 }
 
 /// The events that were served, and from where on to look then.
@@ -38,9 +38,10 @@ pub(crate) fn one(next: Cursor) -> Progress
     Progress { next, steps: 1 }
 }
 
-/// Returns the progress of a request that was served at once, where the first seat has so many jobs to hand off then.
-pub(crate) fn progress_of(done: Option<bool>, jobs: usize) -> Progress
-    ensures { result ≡ served_of done jobs }
+/// Returns the progress of a request of a queue that was served at once, where the first seat has so many jobs to hand off
+/// then.
+pub(crate) fn progress_of(done: Option<bool>, jobs: usize, queue: u16) -> Progress
+    ensures { result ≡ served_of done jobs queue }
 {
     if done.is_none() {
         return Progress {
@@ -49,7 +50,7 @@ pub(crate) fn progress_of(done: Option<bool>, jobs: usize) -> Progress
         };
     }
     let next = if jobs == 0 {
-        Cursor::Fetch
+        Cursor::Fetch(queue)
     } else {
         Cursor::Seats
     };
@@ -65,16 +66,16 @@ pub(crate) fn is_start(cursor: Cursor) -> bool
 {
     match cursor {
         Cursor::Start => true,
-        Cursor::Direct(_) | Cursor::Seats | Cursor::Enter(_) | Cursor::Fetch => false,
+        Cursor::Direct(_) | Cursor::Seats | Cursor::Enter(_) | Cursor::Fetch(_) => false,
     }
 }
 
 /// Returns true if it is the first queue's next chain.
-pub(crate) fn is_fetch(cursor: Cursor) -> bool
-    ensures { IsTrue result ↔ (cursor ≡ Cursor.Fetch) }
+pub fn is_fetch(cursor: Cursor) -> bool
+    ensures { IsTrue result ↔ IsFetchPlace cursor }
 {
     match cursor {
-        Cursor::Fetch => true,
+        Cursor::Fetch(_) => true,
         Cursor::Start | Cursor::Direct(_) | Cursor::Seats | Cursor::Enter(_) => false,
     }
 }
@@ -86,7 +87,7 @@ pub(crate) fn first_direct(cursor: Cursor, queues: usize) -> usize
     match cursor {
         Cursor::Start => 0,
         Cursor::Direct(number) => number as usize,
-        Cursor::Seats | Cursor::Enter(_) | Cursor::Fetch => queues,
+        Cursor::Seats | Cursor::Enter(_) | Cursor::Fetch(_) => queues,
     }
 }
 
@@ -96,7 +97,7 @@ pub(crate) fn first_seat(cursor: Cursor, seats: usize) -> usize
 {
     match cursor {
         Cursor::Start | Cursor::Direct(_) | Cursor::Seats => 0,
-        Cursor::Enter(_) | Cursor::Fetch => seats,
+        Cursor::Enter(_) | Cursor::Fetch(_) => seats,
     }
 }
 
@@ -107,6 +108,6 @@ pub(crate) fn first_enter(cursor: Cursor, queues: usize) -> usize
     match cursor {
         Cursor::Start | Cursor::Direct(_) | Cursor::Seats => 0,
         Cursor::Enter(number) => number as usize,
-        Cursor::Fetch => queues,
+        Cursor::Fetch(_) => queues,
     }
 }

@@ -9,7 +9,7 @@ ghost use Rattle.device_model.specs.Parts.{Hand};
 ghost use Rattle.device_model.specs.Found.{HasHand};
 ghost use Rattle.device_steps.specs.Inner.Cursors.{TurnsFirstIn, TurnsFirstAlone, of_function, TurnsNextIn, FetchesOn, MayServe, IsReadyIn};
 ghost use Rattle.device_steps.specs.Inner.Cursors.{AtEach, FindsIn, NoStart, NoDirect, NoSeat, NoneBefore, NoneBeforeFetch, NoFetchBelow};
-ghost use Rattle.device_steps.specs.Inner.Cursors.{EntersNext, FetchesNext, LeavesNext};
+ghost use Rattle.device_steps.specs.Inner.Cursors.{AsksOnly, EntersNext, FetchesNext, LeavesNext};
 ghost use Rattle.device_steps.specs.Settling.{asks};
 ghost use Rattle.device_steps.specs.Apart.{standing, FitsIn, Stored};
 ghost use Rattle.device_steps.specs.Inner.Sound.{IsSound};
@@ -29,7 +29,7 @@ use scsi_codec::{CONTROL_QUEUE, EVENT_QUEUE, FIRST_REQUEST_QUEUE};
 
 /// Returns true if the bit of a queue is set.
 #[inline(always)]
-pub(crate) fn is_asked(queues: u32, number: u16) -> bool
+pub fn is_asked(queues: u32, number: u16) -> bool
     requires { number < 32 }
     ensures { result ≡ asks queues number }
 {
@@ -429,6 +429,32 @@ impl Device {
         }
     }
 
+    /// Takes the next chain of one queue alone, and does at once what may be done of it. A host calls it in place of
+    /// [`turn`](Device::turn) where no event before the first queue's chain applies. `queues` has the bit of that queue alone.
+    #[inline(always)]
+    pub fn turn_on<M: WritableMemory>(
+        &mut self,
+        memory: &mut M,
+        number: u16,
+        queues: u32,
+        most: u64,
+    ) -> Result<Option<Progress>, NoMemory>
+        requires most { 1 ≤ most }
+        requires room { M.has_room memory.old 60 }
+        requires ready { IsReadyIn (M.is_open memory.old) M.shared (M.may_be memory.old) (M.extent memory.old) self.old }
+        requires before { AtEach M.shared (M.may_be memory.old) NoneBeforeFetch self.old }
+        requires alone { AsksOnly (asks queues) number }
+        ensures turns { TurnsNextIn M.shared M.may_be (Stored M.stored M.storing) (asks queues) most memory.old self.old
+            result memory.new self.new }
+        ensures reading { M.is_open memory.new }
+        ensures size { M.extent memory.new ≡ M.extent memory.old }
+    {
+        if number as usize >= self.bays.len() {
+            return Ok(None);
+        }
+        self.serve_next(memory, number, queues, most)
+    }
+
     /// Returns true if a request of a queue is served by the first seat and nothing stands between.
     #[inline(always)]
     fn serves_at_once(&self, number: u16) -> bool
@@ -490,8 +516,9 @@ impl Device {
                     arrival,
                     &mut self.seats[0].out,
                 );
+                let from = bay.queue.number();
                 let _bytes = memory.size();
-                Ok(Some(progress_of(done, self.seats[0].out.len())))
+                Ok(Some(progress_of(done, self.seats[0].out.len(), from)))
             }
         }
     }

@@ -5,7 +5,7 @@ use crate::moves::{Move, run, step, step_all};
 use crate::opening::{Numbers, start};
 use foundation::NoMemory;
 use std::alloc::Global;
-use world::{Profile, StartFault, StepKind, UnitSpec, World};
+use world::{Identity, Profile, StartFault, StepKind, UnitSpec, World};
 
 /// The unit 0:0 of 8 blocks, with nothing pending.
 pub const UNIT: UnitSpec = UnitSpec {
@@ -14,6 +14,7 @@ pub const UNIT: UnitSpec = UnitSpec {
     blocks: 8,
     calm: true,
     profile: Profile::Narrow,
+    identity: Identity::PLAIN,
 };
 
 /// An act of the driver or of the device, and what comes of it.

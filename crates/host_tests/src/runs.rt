@@ -4,7 +4,7 @@ ghost use Rattle.workers.specs.Ledgers.{Opens};
 ghost use Rattle.std.specs.Prelude.{◌≡◌};
 
 use crate::guest::{Asked, PAGES, are_answered, ask, layouts};
-use config::{Profile, UnitSpec, VERSION_1};
+use config::{Identity, Profile, UnitSpec, VERSION_1};
 use std::alloc::Global;
 use std::marker::Brand;
 use std::sync::Wait;
@@ -51,6 +51,7 @@ fn unit(lun: u16) -> UnitSpec {
         blocks: 8,
         calm: true,
         profile: Profile::Narrow,
+        identity: Identity::PLAIN,
     }
 }
 

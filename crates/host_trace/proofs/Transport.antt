@@ -271,6 +271,7 @@ happens_at Transition.Wake w v f all h =
     record { first = h.first; rest = h.rest; waits = sym (all Part.Aside (inl refl)).0 ∙ h.waits }
 happens_at (Transition.Resume k x) w v f all h =
     record {
+      worker = subst (λ (z : Fixed). k < z.workers) f h.worker;
       free = (h.free.0, sym (all (Part.SeatAt k) (inl refl)) ∙ h.free.1);
       rest = h.rest;
       first = sym (all Part.Aside (inr (inl refl))).1 ∙ h.first;

@@ -3,7 +3,7 @@ pub mod Calls
 pub mod Heard
 pub mod Kept
 pub mod Live
+pub mod LongRuns
 pub mod Room
 pub mod Scattered
-pub mod Used
 pub mod Inner

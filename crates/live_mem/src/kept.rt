@@ -8,9 +8,9 @@ ghost use Rattle.live_mem.specs.Inner.Kept.{Keeps};
 ghost use Rattle.std.specs.Vec.{vec_capacity};
 
 use crate::bus::Bus;
+use crate::long_runs::LongRuns;
 use crate::recorded::RecordedBus;
 use crate::span::{SHORT, Span};
-use crate::used::Used;
 use std::alloc::{AllocError, Global};
 
 /// The spans that a phase read, with their bytes. No span has an address below `low`, none from `high` on, and none from
@@ -18,7 +18,7 @@ use std::alloc::{AllocError, Global};
 #[derive(Drop)]
 pub(crate) struct Kept {
     spans: Vec<Span>,
-    long: Used,
+    long: LongRuns,
     low: u64,
     high: u64,
     free_from: u64,
@@ -28,6 +28,9 @@ pub(crate) struct Kept {
     ghost above: { IsFree spans.items long.bytes high (2 ^ 64) },
     ghost free: { IsFree spans.items long.bytes free_from free_to },
     ghost inside: { free_to ≤ high },
+    ghost ordered: { 0 < high → low ≤ high },
+    ghost unread: { high ≡ 0 → 0 < low → low + 1 ≡ 2 ^ 64 },
+    ghost on_one_side: { free_from < low → free_to ≤ low },
     ghost roomy: { 64 ≤ vec_capacity spans },
 }
 
@@ -142,7 +145,7 @@ impl Kept {
         let spans = Vec::with_capacity(alloc, LEAST_ROOM)?;
         Ok(Kept {
             spans,
-            long: Used::new(alloc),
+            long: LongRuns::new(alloc),
             low: u64::MAX,
             high: 0,
             free_from: 0,
@@ -212,14 +215,12 @@ impl Kept {
         }
         if end <= self.low {
             self.free_from = end;
-            self.free_to = self.low.min(self.high);
+            self.free_to = self.low;
             self.low = addr;
-            self.high = self.high.max(end);
             return true;
         }
         if self.free_from <= addr && end <= self.free_to {
-            self.free_from = self.free_from.max(end);
-            self.low = self.low.min(addr);
+            self.free_from = end;
             return true;
         }
         false

@@ -13,10 +13,10 @@ mod bus;
 mod kept;
 mod laws;
 mod live;
+mod long_runs;
 mod recorded;
 mod scattered;
 mod span;
-mod used;
 
 pub use bus::Bus;
 pub use laws::reads_what_the_bus_gave;

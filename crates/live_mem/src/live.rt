@@ -73,17 +73,21 @@ impl<B: Bus> LiveMem<B> {
         ensures size { self.new.size ≡ self.old.size }
         ensures room { (n : ℕ) → HasRoom self.old (n + 1) → HasRoom self.new n }
     {
+        if !self.scattered.is_bare() {
+            self.read_again(addr, out);
+            return;
+        }
         let free = self.kept.takes_free(addr, addr + out.len() as u64);
         if !free {
             self.read_again(addr, out);
             return;
         }
         self.bus.load(addr, out);
-        self.scattered.put_over(addr, out);
         self.kept.keep(addr, out);
     }
 
-    /// Does the same where a span may have some of the bytes, apart so that a read of what wasn't read passes it by.
+    /// Does the same where some of the bytes may be kept, apart so that a read of what wasn't read passes it by.
+    #[cold]
     #[inline(never)]
     fn read_again(&mut self, addr: u64, out: &mut [u8])
         requires inside { addr + length out.old ≤ self.old.size }

@@ -46,8 +46,8 @@ fn decided(inventory: &Inventory, fetched: Fetched, slot: &mut Slot) -> Taken
         }
         Decision::Enter(unit, request) => {
             chain.keep_room(bytes);
-            let address = inventory.as_slice()[unit];
-            Taken::Arrived(Arrival::new(unit, address, chain, request))
+            let number = inventory.number_at(unit);
+            Taken::Arrived(Arrival::new(unit, number, chain, request))
         }
     }
 }

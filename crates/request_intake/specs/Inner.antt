@@ -1,3 +1,4 @@
 -- No public clause of the device, of its hosts or of the library for C, and no law, rests on these.
 pub mod Direct
 pub mod Decision
+pub mod Numbers

@@ -1,10 +1,12 @@
 //! The inventory of logical units.
 
-ghost use Rattle.std.specs.Prelude.{◌≡◌, ◌<◌, ◌≤◌, true, map, length, slice_get, Some, IfSome, IfOk};
+ghost use Rattle.std.specs.Prelude.{◌≡◌, ◌<◌, ◌≤◌, ◌^◌, true, map, length, slice_get, Some, IfSome, IfOk};
+ghost use Rattle.scsi_codec.specs.Lun.{address_at, number_of};
 ghost use Rattle.request_intake.specs.Inventory.{address_of, stands_before, inventory_of, is_rising, has_target, place_of, luns_of};
 
 use arrayvec::ArrayVec;
 use cdb::Profile;
+use command_model::Identity;
 use scsi_codec::Address;
 use std::alloc::{AllocError, Global};
 use std::marker::Model;
@@ -25,6 +27,8 @@ pub struct UnitSpec {
     pub calm: bool,
     /// The profile of its commands: those that it knows.
     pub profile: Profile,
+    /// What it says of itself, if it is of the wide profile.
+    pub identity: Identity,
 }
 
 impl UnitSpec {
@@ -47,16 +51,19 @@ pub struct Inventory {
     profiles: ArrayVec<Known, MOST_UNITS>,
 }
 
-/// The commands that a unit knows. Free places of a list have the narrow ones.
+/// What a request is decided by once its unit is found: the commands that the unit knows, and the number of its address.
+/// Free places of a list have the narrow ones.
 #[derive(Clone, Copy)]
 struct Known {
     profile: Profile,
+    number: u32,
 }
 
 impl Default for Known {
     fn default() -> Known {
         Known {
             profile: Profile::Narrow,
+            number: 0,
         }
     }
 }
@@ -64,13 +71,15 @@ impl Default for Known {
 impl Model for Inventory {
     ghost use Rattle.std.specs.Prelude.{◌≡◌, true, length};
     ghost use Rattle.request_intake.specs.Inventory.{PlainInventory, is_rising, profiles_of};
+    ghost use Rattle.request_intake.specs.Inner.Numbers.{AreNumbersOf};
 
     ghost Value = { PlainInventory };
 
     ghost view = { λ i. record { addresses = i.addresses.items; profiles = profiles_of i.profiles.items } };
 
     ghost invariant = { λ i. (is_rising i.addresses.items ≡ true)
-        × (length i.profiles.items ≡ length i.addresses.items) };
+        × (length i.profiles.items ≡ length i.addresses.items)
+        × AreNumbersOf i.profiles.items i.addresses.items };
 }
 
 impl Inventory {
@@ -86,6 +95,7 @@ impl Inventory {
             addresses.push(unit.address());
             profiles.push(Known {
                 profile: unit.profile,
+                number: unit.address().number(),
             });
         }
         Inventory {
@@ -131,6 +141,19 @@ impl Inventory {
         ensures { slice_get self.now.profiles place ≡ Some result }
     {
         self.profiles.as_slice()[place].profile
+    }
+
+    /// Returns the number of the address of the unit at this place.
+    #[inline(always)]
+    #[tactic(auto, using(crate::proofs::Numbers::numbered))]
+    pub fn number_at(&self, place: usize) -> u32
+        requires place { place < length self.now.addresses }
+        ensures number { slice_get (map number_of self.now.addresses) place ≡ Some result }
+        ensures address { slice_get self.now.addresses place ≡ Some (address_at result) }
+        ensures range { result < 2 ^ 24 }
+    {
+        let _number = self.addresses.as_slice()[place].number();
+        self.profiles.as_slice()[place].number
     }
 
     /// Returns the LUNs of a target, rising, for a unit that opens. `AllocError` where their list was refused memory.

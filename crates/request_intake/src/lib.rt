@@ -17,6 +17,7 @@ mod unit_request;
 pub use answer::{ChainLengths, put_response_ok, response_ok};
 pub use attribute::TaskAttribute;
 pub use cdb::Profile;
+pub use command_model::Identity;
 pub use decision::{Decision, decide};
 pub use direct::{DirectAnswer, DirectBytes, MOST_DIRECT_BYTES};
 pub use inventory::{Inventory, MOST_UNITS, UnitSpec, are_rising};

@@ -165,6 +165,7 @@ fn unit_of(disk: Disk) -> UnitSpec {
         blocks: disk.blocks,
         calm: disk.calm,
         profile: disk.profile,
+        identity: disk.identity,
     }
 }
 

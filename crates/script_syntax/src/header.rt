@@ -3,9 +3,11 @@
 ghost use Rattle.std.specs.Prelude.{◌≡◌, ◌⊎◌, length, [], ◌∷◌, true, Ok, codes, IsOk, IfOk, IfErr, ◌↔◌};
 
 use crate::fault::LineFault;
+use crate::naming::read_names;
 use crate::ring_place::{RingPlace, ring_place};
 use crate::values::{number, unit};
 use cdb::Profile;
+use command_model::Identity;
 use ring_core::Form;
 use scsi_codec::Address;
 
@@ -50,6 +52,8 @@ pub struct Disk {
     pub calm: bool,
     /// The profile of its commands.
     pub profile: Profile,
+    /// What it says of itself.
+    pub identity: Identity,
 }
 
 /// The features that a header asks for, beside those that each device of its form has.
@@ -161,13 +165,19 @@ fn read_disk(values: &[&str]) -> Result<Disk, LineFault> {
     let [target, lun, blocks, words @ ..] = values else {
         return Err(LineFault::BadValue);
     };
-    let (calm, profile) = match words {
-        [] => (false, Profile::Narrow),
-        [calm] if *calm == "calm" => (true, Profile::Narrow),
-        [word, name] if *word == "profile" => (false, profile(name)?),
-        [calm, word, name] if *calm == "calm" && *word == "profile" => (true, profile(name)?),
+    let (calm, profile, names) = match words {
+        [] => (false, Profile::Narrow, words),
+        [calm] if *calm == "calm" => (true, Profile::Narrow, &words[1..]),
+        [word, name, names @ ..] if *word == "profile" => (false, profile(name)?, names),
+        [calm, word, name, names @ ..] if *calm == "calm" && *word == "profile" => {
+            (true, profile(name)?, names)
+        }
         _ => return Err(LineFault::BadValue),
     };
+    if profile == Profile::Narrow && !names.is_empty() {
+        return Err(LineFault::BadValue);
+    }
+    let identity = read_names(names)?;
     let unit = unit(target, lun)?;
     let blocks = number::<u64>(blocks)?;
     Ok(Disk {
@@ -175,6 +185,7 @@ fn read_disk(values: &[&str]) -> Result<Disk, LineFault> {
         blocks,
         calm,
         profile,
+        identity,
     })
 }
 

@@ -11,6 +11,7 @@ mod fault;
 mod guest_line;
 mod header;
 mod lines;
+mod naming;
 mod places;
 mod print_line;
 mod ring_place;

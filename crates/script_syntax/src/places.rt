@@ -6,8 +6,10 @@ use crate::command::notify;
 use crate::fault::Stop;
 use crate::guest_line::{attribute, command_block};
 use crate::header::{Features, LARGEST_SIZE, profile};
+use crate::naming::{is_naming, named};
 use crate::ring_place::ring_place;
 use crate::values::{Bytes, LAST_LUN, capacity, name, number, ordinal, unit_pair};
+use command_model::Identity;
 use std::alloc::{AllocError, Global};
 
 /// The kinds of words that a place behind the first word of a line may take.
@@ -55,6 +57,18 @@ enum Place {
     Profile,
     /// The name of a profile.
     ProfileName,
+    /// A word that names a disk, if any.
+    Naming,
+    /// A vendor.
+    Vendor,
+    /// A product.
+    Product,
+    /// A product's revision.
+    Revision,
+    /// A serial number.
+    Serial,
+    /// An NAA designator.
+    Naa,
     /// `live`, if anything.
     Live,
     /// `before`.
@@ -98,6 +112,12 @@ impl Place {
             Place::CalmOrProfile => word == "calm" || word == "profile",
             Place::Profile => word == "profile",
             Place::ProfileName => profile(word).is_ok(),
+            Place::Naming => is_naming(word),
+            Place::Vendor => named(Identity::PLAIN, "vendor", word).is_ok(),
+            Place::Product => named(Identity::PLAIN, "product", word).is_ok(),
+            Place::Revision => named(Identity::PLAIN, "revision", word).is_ok(),
+            Place::Serial => named(Identity::PLAIN, "serial", word).is_ok(),
+            Place::Naa => named(Identity::PLAIN, "naa", word).is_ok(),
             Place::Live => word == "live",
             Place::Before => word == "before",
             Place::OutOrIn => word == "out" || word == "in",
@@ -110,7 +130,7 @@ impl Place {
     fn may_lack(self) -> bool {
         match self {
             Place::MoreFeatures | Place::CalmOrProfile | Place::Profile => true,
-            Place::Live | Place::OutOrIn | Place::In => true,
+            Place::Live | Place::OutOrIn | Place::In | Place::Naming => true,
             Place::End => true,
             _ => false,
         }
@@ -159,6 +179,22 @@ fn unit_place(is_calm: bool, index: usize) -> Place {
         (true, 4) => Place::Profile,
         (false, 4) | (true, 5) => Place::ProfileName,
         _ => Place::End,
+    }
+}
+
+/// Returns what a place behind the profile of a unit takes, from 0 on, by the word before it.
+fn naming_place(before: &str, index: usize) -> Place {
+    if index % 2 == 0 {
+        return Place::Naming;
+    }
+    match before {
+        "vendor" => Place::Vendor,
+        "product" => Place::Product,
+        "revision" => Place::Revision,
+        "serial" => Place::Serial,
+        "naa" => Place::Naa,
+        "exponent" => Place::Number8,
+        _ => Place::Number16,
     }
 }
 
@@ -212,6 +248,9 @@ const REQUEST_WORDS: usize = 6;
 /// The number of words behind the first of a unit that no line may lack.
 const UNIT_WORDS: usize = 3;
 
+/// The number of words of a profile.
+const PROFILE_WORDS: usize = 2;
+
 /// Returns what a place behind the first word of a line takes, from 0 on.
 fn place_of(keyword: &str, values: &[&str], index: usize) -> Place {
     match keyword {
@@ -222,7 +261,16 @@ fn place_of(keyword: &str, values: &[&str], index: usize) -> Place {
                 Some(word) => *word == "calm",
                 None => false,
             };
-            unit_place(is_calm, index)
+            let names = UNIT_WORDS + usize::from(is_calm) + PROFILE_WORDS;
+            if index < names {
+                return unit_place(is_calm, index);
+            }
+            match (values.get(names - 1), values.get(index - 1)) {
+                (Some(profile), Some(before)) if *profile == "wide" => {
+                    naming_place(before, index - names)
+                }
+                _ => Place::End,
+            }
         }
         "send" if index >= REQUEST_WORDS => {
             let has_out = match values.get(REQUEST_WORDS) {

@@ -42,6 +42,13 @@ address_in bytes =
 abbrev pub written_address : Address → List ℕ
 written_address a = if nat_lt a.lun 256 then first_form a else second_form a
 
+-- own: an address as one number, the target above the LUN, and the address that a number is
+abbrev pub number_of : Address → ℕ
+number_of a = a.target * 65536 + a.lun
+
+abbrev pub address_at : ℕ → Address
+address_at number = record { target = number / 65536; lun = number % 65536 }
+
 -- which byte stands where in bytes that name a unit
 pub record HasReadableForm (bytes : List ℕ) : Type 0 where
   pub eight : length bytes ≡ 8

@@ -1,7 +1,7 @@
 //! The eight bytes that name a logical unit.
 
-ghost use Rattle.std.specs.Prelude.{◌≡◌, ◌<◌, length};
-ghost use Rattle.scsi_codec.specs.Lun.{ReadsAddress, address_in, written_address};
+ghost use Rattle.std.specs.Prelude.{◌≡◌, ◌<◌, ◌^◌, length};
+ghost use Rattle.scsi_codec.specs.Lun.{ReadsAddress, address_at, address_in, number_of, written_address};
 
 /// The address of a logical unit of the host (VIRTIO 1.2 §5.6.6.1).
 #[derive(Clone, Copy, Debug, Default, PartialEq, Eq)]
@@ -10,6 +10,29 @@ pub struct Address {
     pub target: u8,
     /// The logical unit number, 0 to 16,383.
     pub lun: u16,
+}
+
+impl Address {
+    /// Returns the address as one number, in which the target stands above the LUN. Two addresses are one exactly where
+    /// their numbers are.
+    pub fn number(&self) -> u32
+        ensures number { result ≡ number_of self.now }
+        ensures range { result < 2 ^ 24 }
+        ensures address { address_at result ≡ self.now }
+    {
+        u32::from(self.target) * 65_536 + u32::from(self.lun)
+    }
+
+    /// Returns the address of a number.
+    pub fn of_number(number: u32) -> Address
+        requires { number < 2 ^ 24 }
+        ensures { result ≡ address_at number }
+    {
+        Address {
+            target: (number / 65_536) as u8,
+            lun: (number % 65_536) as u16,
+        }
+    }
 }
 
 /// Reads the unit that the bytes name, by either addressing method of a single level LUN (SAM-5 §4.7), or `None` where

@@ -1,7 +1,7 @@
 //! The parts of a small device, and what its guest writes.
 
 use guest_mem::GuestMem;
-use request_intake::{Inventory, MOST_UNITS, Profile, UnitSpec, are_rising};
+use request_intake::{Identity, Inventory, MOST_UNITS, Profile, UnitSpec, are_rising};
 use ring_core::{Form, Layout};
 use std::alloc::Global;
 use unit_history::UnitState;
@@ -31,6 +31,7 @@ pub const UNITS: [UnitSpec; 2] = [
         blocks: 8,
         calm: true,
         profile: Profile::Narrow,
+        identity: Identity::PLAIN,
     },
     UnitSpec {
         target: 0,
@@ -38,6 +39,7 @@ pub const UNITS: [UnitSpec; 2] = [
         blocks: 8,
         calm: true,
         profile: Profile::Narrow,
+        identity: Identity::PLAIN,
     },
 ];
 

@@ -3,6 +3,7 @@
 ghost use Rattle.std.specs.Prelude.{◌≡◌, ◌<◌, [], ◌∷◌, ◌++◌, length, IfOk, drop, slice_get};
 ghost use Rattle.std.specs.Prelude.{◌+◌, ◌≤◌, ◌^◌};
 ghost use Rattle.cdb.specs.Need.{need_of};
+ghost use Rattle.scsi_codec.specs.Lun.{address_at};
 ghost use Rattle.ring_core.specs.Parts.{readable_total, writable_total};
 ghost use Rattle.unit_model.specs.Tasks.{entry_of};
 ghost use Rattle.unit_model.specs.Inner.Jobs.{HasRoom};
@@ -21,38 +22,48 @@ use std::marker::Model;
 #[derive(Drop)]
 pub struct Arrival {
     unit: usize,
-    address: Address,
+    // The number of the address that it names.
+    number: u32,
     chain: Chain,
     request: UnitRequest,
 }
 
 impl Model for Arrival {
+    ghost use Rattle.std.specs.Prelude.{◌<◌, ◌^◌};
+    ghost use Rattle.scsi_codec.specs.Lun.{address_at};
     ghost use Rattle.unit_model.specs.Tasks.{entry_of};
     ghost use Rattle.unit_model.specs.Jobs.{PlainJob};
     ghost use Rattle.unit_model.specs.Inner.Jobs.{HasRoom};
 
     ghost Value = { PlainJob };
 
-    ghost view = { λ a. record { unit = a.unit; address = a.address; chain = a.chain; entry = entry_of a.chain.ticket a.request } };
+    ghost view = { λ a. record {
+      unit = a.unit;
+      address = address_at a.number;
+      chain = a.chain;
+      entry = entry_of a.chain.ticket a.request;
+    } };
 
-    ghost invariant = { λ a. HasRoom a.chain a.request.command };
+    ghost invariant = { λ a. (HasRoom a.chain a.request.command) × (a.number < 2 ^ 24) };
 }
 
 impl Arrival {
-    /// Makes the request of a chain, for the unit at this index of the inventory, which has this address there. The
-    /// chain has room for its answer: the decision that the request goes to a unit tested that.
-    pub fn new(unit: usize, address: Address, chain: Chain, request: UnitRequest) -> Arrival
-        requires { HasRoom chain request.command }
+    /// Makes the request of a chain, for the unit at this index of the inventory, which has the address of this number
+    /// there. The chain has room for its answer: the decision that the request goes to a unit tested that.
+    #[inline(always)]
+    pub fn new(unit: usize, number: u32, chain: Chain, request: UnitRequest) -> Arrival
+        requires number { number < 2 ^ 24 }
+        requires room { HasRoom chain request.command }
         ensures { result ≡ record {
           unit = unit;
-          address = address;
+          address = address_at number;
           chain = chain;
           entry = entry_of chain.ticket request;
         } }
     {
         Arrival {
             unit,
-            address,
+            number,
             chain,
             request,
         }
@@ -65,12 +76,12 @@ impl Arrival {
         self.unit
     }
 
-    /// Returns the address of the unit that it names.
+    /// Returns the number of the address of the unit that it names.
     #[inline(always)]
-    pub fn address(&self) -> Address
-        ensures { result ≡ self.now.address }
+    pub fn number(&self) -> u32
+        ensures { address_at result ≡ self.now.address }
     {
-        self.address
+        self.number
     }
 
     /// Returns the ticket of its chain.
@@ -148,13 +159,13 @@ impl Arrival {
     {
         let Arrival {
             unit,
-            address,
+            number,
             chain,
             request,
         } = self;
         let job = Job {
             unit,
-            address,
+            address: Address::of_number(number),
             chain,
             id: request.id(),
             attribute: request.attribute(),

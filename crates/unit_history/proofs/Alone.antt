@@ -153,40 +153,40 @@ module _ (o : Opening) (past : List Step) (block_at : Blocks) (pending : List Co
         (keep_leave (kept_ran room2 less) j.entry.ticket (task_of_job (length past) j false true) room3
         (is_found (length past) j true) refl fewer)
 
-    enters : j.address ≡ unit_address o
-        → Enters (unit_with o past [] false) j (entered.Run j) (unit_with o (Step.Enter j.entry ∷ past) [] false)
-    enters named =
+    enters : (backed : Bool) → j.address ≡ unit_address o
+        → Enters (unit_with o past [] false backed) j (entered.Run j) (unit_with o (Step.Enter j.entry ∷ past) [] false backed)
+    enters backed named =
         let run : Some j ≡ run_at_once [] j = sym (ap (λ b. cond b None (Some j)) (unblocked j.entry)) in
-        subst (λ x. Enters (unit_with o past [] false) j (entered.Run j)
-        (unit_with o (Step.Enter j.entry ∷ past) (parked_of (x ∷ [])) false)) (enters_so (length past) j)
-        (enters_task k j (Some j) (length past) (Step.Enter j.entry ∷ past) false false named (omega arith) le run refl refl)
+        subst (λ x. Enters (unit_with o past [] false backed) j (entered.Run j)
+        (unit_with o (Step.Enter j.entry ∷ past) (parked_of (x ∷ [])) false backed)) (enters_so (length past) j)
+        (enters_task k j (Some j) (length past) (Step.Enter j.entry ∷ past) false false backed named (omega arith) le run refl refl)
 
-    leaves : Steps (unit_with o (step_for j.entry.ticket p ∷ Step.Enter j.entry ∷ past) [] false) (Step.Leave j.entry.ticket)
-        (unit_with o (Step.Leave j.entry.ticket ∷ step_for j.entry.ticket p ∷ Step.Enter j.entry ∷ past) [] false)
-    leaves =
-        steps_is o (Step.Leave j.entry.ticket) (step_for j.entry.ticket p ∷ Step.Enter j.entry ∷ past) _ [] [] false false
+    leaves : (backed : Bool) → Steps (unit_with o (step_for j.entry.ticket p ∷ Step.Enter j.entry ∷ past) [] false backed) (Step.Leave j.entry.ticket)
+        (unit_with o (Step.Leave j.entry.ticket ∷ step_for j.entry.ticket p ∷ Step.Enter j.entry ∷ past) [] false backed)
+    leaves backed =
+        steps_is o (Step.Leave j.entry.ticket) (step_for j.entry.ticket p ∷ Step.Enter j.entry ∷ past) _ [] [] false false backed backed
         (may_leave (kept_ran room1 (omega arith)) j.entry.ticket (task_of_job (length past) j false true)
-        (is_found (length past) j true) refl) refl refl refl
+        (is_found (length past) j true) refl) refl refl refl refl
 
     -- all of it
-    pub serves : (answers : Ending → Type 0) → j.address ≡ unit_address o
+    pub serves : (backed : Bool) (answers : Ending → Type 0) → j.address ≡ unit_address o
         → answers (ending_of (outcome_for (unit_address o) (length (Step.Enter j.entry ∷ past)) j.entry.ticket p))
         → j.chain.ticket ≡ j.entry.ticket
-        → ServesAlone answers (unit_with o past [] false) j
-        (unit_with o (Step.Leave j.entry.ticket ∷ step_for j.entry.ticket p ∷ Step.Enter j.entry ∷ past) [] false)
-    serves answers named answered own =
+        → ServesAlone answers (unit_with o past [] false backed) j
+        (unit_with o (Step.Leave j.entry.ticket ∷ step_for j.entry.ticket p ∷ Step.Enter j.entry ∷ past) [] false backed)
+    serves backed answers named answered own =
         record {
-          once_entered = unit_with o (Step.Enter j.entry ∷ past) [] false;
-          once_run = unit_with o (step_for j.entry.ticket p ∷ Step.Enter j.entry ∷ past) [] false;
+          once_entered = unit_with o (Step.Enter j.entry ∷ past) [] false backed;
+          once_run = unit_with o (step_for j.entry.ticket p ∷ Step.Enter j.entry ∷ past) [] false backed;
           outcome = outcome_for (unit_address o) (length (Step.Enter j.entry ∷ past)) j.entry.ticket p;
-          enters = enters named;
-          commits = commits_run (kept_entered room1 reserve) j j.entry false facts p block_at' pending'
+          enters = enters backed named;
+          commits = commits_run (kept_entered room1 reserve) j j.entry false backed backed facts p block_at' pending' refl
               (is_of (kept_entered room1 reserve) j (task_of_job (length past) j false false) (is_found (length past) j false) refl)
               ready as_told ran;
           answered = answered;
-          leaves = subst (λ t. Steps (unit_with o (step_for j.entry.ticket p ∷ Step.Enter j.entry ∷ past) [] false) (Step.Leave t)
-              (unit_with o (Step.Leave j.entry.ticket ∷ step_for j.entry.ticket p ∷ Step.Enter j.entry ∷ past) [] false))
-              (sym own) leaves;
+          leaves = subst (λ t. Steps (unit_with o (step_for j.entry.ticket p ∷ Step.Enter j.entry ∷ past) [] false backed) (Step.Leave t)
+              (unit_with o (Step.Leave j.entry.ticket ∷ step_for j.entry.ticket p ∷ Step.Enter j.entry ∷ past) [] false backed))
+              (sym own) (leaves backed);
           alone = refl;
         }
 
@@ -241,14 +241,15 @@ module _ (o : Opening) (past : List Step) (block_at : Blocks) (pending : List Co
       let ran' = recorded_run o t j.entry p (Step.Enter j.entry ∷ past) _ capacity c c' entered there notes size refl in
       recorded_on o (Step.Leave t) (step_for t p ∷ Step.Enter j.entry ∷ past) steps' c' ran' (λ b below out. (below, refl)) is
 
-  pub serves_alone : (answers : Ending → Type 0) (keeps keeps' : Bool) → j.address ≡ unit_address o → keeps ≡ false → keeps' ≡ false
+  pub serves_alone : (answers : Ending → Type 0) (keeps keeps' backed backed' : Bool) → backed' ≡ backed → j.address ≡ unit_address o → keeps ≡ false → keeps' ≡ false
       → answers (ending_of (outcome_for (unit_address o) (length (Step.Enter j.entry ∷ past)) j.entry.ticket p))
       → j.chain.ticket ≡ j.entry.ticket
-      → ServesAlone answers (unit_with o past (parked_of tasks) keeps) j (unit_with o steps' (parked_of tasks) keeps')
-  serves_alone answers keeps keeps' named a b answered own =
-      subst (λ x. ServesAlone answers (unit_with o past (parked_of tasks) x) j (unit_with o steps' (parked_of tasks) keeps')) (sym a)
-      (subst (λ x. ServesAlone answers (unit_with o past (parked_of tasks) false) j (unit_with o steps' (parked_of tasks) x)) (sym b)
-      (subst (λ ts. ServesAlone answers (unit_with o past (parked_of ts) false) j (unit_with o steps' (parked_of ts) false)) (sym none)
-      (subst (λ ss. ServesAlone answers (unit_with o past [] false) j (unit_with o ss [] false)) (sym is)
+      → ServesAlone answers (unit_with o past (parked_of tasks) keeps backed) j (unit_with o steps' (parked_of tasks) keeps' backed')
+  serves_alone answers keeps keeps' backed backed' kind named a b answered own =
+      subst (λ x. ServesAlone answers (unit_with o past (parked_of tasks) keeps backed) j (unit_with o steps' (parked_of tasks) keeps' x)) (sym kind)
+      (subst (λ x. ServesAlone answers (unit_with o past (parked_of tasks) x backed) j (unit_with o steps' (parked_of tasks) keeps' backed)) (sym a)
+      (subst (λ x. ServesAlone answers (unit_with o past (parked_of tasks) false backed) j (unit_with o steps' (parked_of tasks) x backed)) (sym b)
+      (subst (λ ts. ServesAlone answers (unit_with o past (parked_of ts) false backed) j (unit_with o steps' (parked_of ts) false backed)) (sym none)
+      (subst (λ ss. ServesAlone answers (unit_with o past [] false backed) j (unit_with o ss [] false backed)) (sym is)
       (serves o past block_at pending last_tickets room kept_none j last_tickets' le came room1 reserve facts p block_at' pending' as_told ran
-      answers named answered own))))
+      backed answers named answered own)))))

@@ -1,5 +1,5 @@
 -- What a unit answers to a job that is committed, and what its parts are then.
-use Rattle.std.proofs.Common.{◌≡◌, ℕ, ◌+◌, ◌≤◌, Bool, inl, inr, List, ◌∷◌, map, length, Option, Some, None, is_some, IsTrue, false, refl, sym, ◌∙◌, ap, subst}
+use Rattle.std.proofs.Common.{◌≡◌, ℕ, ◌+◌, ◌≤◌, Bool, inl, inr, List, ◌∷◌, map, length, Option, Some, None, is_some, IsTrue, true, false, refl, sym, ◌∙◌, ap, subst}
 use Rattle.ring_core.specs.declared.log.Ticket.{Ticket}
 use Rattle.block_store.specs.Blocks.{Blocks}
 use Rattle.unit_attention.specs.declared.code.Code.{Code}
@@ -19,7 +19,7 @@ use Rattle.unit_model.specs.Jobs.{PlainJob}
 use Rattle.task_set.specs.Tasks.{PlainTask, parked_of}
 use Rattle.task_set.specs.Inner.Tasks.{moved, task_at}
 use Rattle.unit_model.specs.Asking.{IsOf, asked_of, CannotCommit}
-use Rattle.unit_history.specs.Calls.{Commits}
+use Rattle.unit_history.specs.Calls.{Commits, Waits}
 use Rattle.unit_history.specs.Inner.Parts.{AreKept}
 use Rattle.command_model.specs.Memory.{may_run_short}
 use Rattle.unit_history.specs.Inner.Performing.{PlainPerformed, Performs, step_for}
@@ -27,7 +27,7 @@ use Rattle.unit_history.specs.Inner.Outcomes.{outcome_for}
 use Rattle.unit_history.specs.Inner.Turns.{Turns}
 use Rattle.unit_history.specs.declared.turn.Turn.TheVariants as turn
 use Rattle.unit_history.proofs.Entering.{same_unit}
-use Rattle.unit_history.proofs.Keeping.{task_at_alive, task_at_none, ticket_at, replies_after, may_commit, may_busy, keep_commit, keep_busy}
+use Rattle.unit_history.proofs.Keeping.{is_ready, task_at_alive, task_at_none, ticket_at, replies_after, may_commit, may_busy, keep_commit, keep_busy}
 use Rattle.unit_history.proofs.Handing.{parked_commit, parked_busy}
 
 -- a task that may do nothing, by what is kept of it
@@ -53,6 +53,20 @@ module _ {o : Opening} {past : List Step} {block_at : Blocks} {pending : List Co
   is_aborted t x reason at mark =
       ap (λ n. mark_of n past) (ticket_at k t x at) ∙ sym (ap (λ (s : Seen). s.mark) (task_at_alive k t x at).1) ∙ mark
 
+  -- its command may run, on a disk whose pages come and go: it waits
+  pub waits_for : (j : PlainJob) (x : PlainTask) (keeps backed backed' : Bool) → task_at j.entry.ticket tasks ≡ Some x → Turns x.seen j turn.Ready
+      → backed ≡ true → backed' ≡ backed
+      → Waits (record { opening = o; steps = past; parked = parked_of tasks; keeps_replies = keeps; backed = backed }) j
+      (record { opening = o; steps = past; parked = parked_of tasks; keeps_replies = keeps; backed = backed' })
+  waits_for j x keeps backed backed' at turns on kind =
+      record {
+        entry = x.seen.entry;
+        of = is_of j x at turns.0;
+        ready = is_ready k j.entry.ticket x at turns.1 turns.2 turns.3;
+        backed = on;
+        same = same_unit o past past _ _ keeps keeps backed backed' refl refl refl kind;
+      }
+
   ran_reply : (e : Entry) (facts : Facts) → facts ≡ facts_after o past → reply_of facts e.command e.data_out block_at ≡ reply_after o e past
   ran_reply e facts as_told = ap (λ f. reply_of f e.command e.data_out block_at) as_told ∙ replies_after k e
 
@@ -67,21 +81,21 @@ module _ {o : Opening} {past : List Step} {block_at : Blocks} {pending : List Co
       ran.pends reserve
 
   -- and what is answered
-  pub commits_run : (j : PlainJob) (e : Entry) (keeps : Bool) (facts : Facts) (p : Option PlainPerformed) (block_at' : Blocks) (pending' : List Code)
-      → IsOf j e past → IsReady j.entry.ticket e past → facts ≡ facts_after o past → Performs keeps facts e.command e.data_out p block_at block_at' pending pending'
-      → Commits (record { opening = o; steps = past; parked = parked_of tasks; keeps_replies = keeps; backed = false }) j
+  pub commits_run : (j : PlainJob) (e : Entry) (keeps backed backed' : Bool) (facts : Facts) (p : Option PlainPerformed) (block_at' : Blocks) (pending' : List Code)
+      → backed' ≡ backed → IsOf j e past → IsReady j.entry.ticket e past → facts ≡ facts_after o past → Performs keeps facts e.command e.data_out p block_at block_at' pending pending'
+      → Commits (record { opening = o; steps = past; parked = parked_of tasks; keeps_replies = keeps; backed = backed }) j
       (outcome_for (unit_address o) (length past) j.entry.ticket p)
-      (record { opening = o; steps = step_for j.entry.ticket p ∷ past; parked = parked_of (map (moved (finished j.entry.ticket)) tasks); keeps_replies = keeps; backed = false })
-  commits_run j e keeps facts None block_at' pending' of ready as_told short = (
+      (record { opening = o; steps = step_for j.entry.ticket p ∷ past; parked = parked_of (map (moved (finished j.entry.ticket)) tasks); keeps_replies = keeps; backed = backed' })
+  commits_run j e keeps backed backed' facts None block_at' pending' kind of ready as_told short = (
     e,
     of,
     subst (λ f. IsTrue (may_run_short keeps f e.command)) as_told short.want,
     record {
       may = may_busy k j.entry.ticket e ready;
-      is = same_unit o _ _ _ _ keeps keeps refl (parked_busy o past block_at pending tasks last_tickets room j.entry.ticket k) refl;
+      is = same_unit o _ _ _ _ keeps keeps backed backed' refl (parked_busy o past block_at pending tasks last_tickets room j.entry.ticket k) refl kind;
     },
   )
-  commits_run j e keeps facts (Some p) block_at' pending' of ready as_told ran =
+  commits_run j e keeps backed backed' facts (Some p) block_at' pending' kind of ready as_told ran =
       let r : p.reply ≡ reply_after o e past = ran.reply ∙ ran_reply e facts as_told in (
         e,
         of,
@@ -89,7 +103,7 @@ module _ {o : Opening} {past : List Step} {block_at : Blocks} {pending : List Co
         ap (λ w. receipt_of o past j.entry.ticket (Some w)) r,
         record {
           may = may_commit k j.entry.ticket e (reply_after o e past) ready refl;
-          is = same_unit o _ _ _ _ keeps keeps (ap (λ w. Step.Commit j.entry.ticket w ∷ past) r)
-              (parked_commit o past block_at pending tasks last_tickets room j.entry.ticket (reply_after o e past) k) refl;
+          is = same_unit o _ _ _ _ keeps keeps backed backed' (ap (λ w. Step.Commit j.entry.ticket w ∷ past) r)
+              (parked_commit o past block_at pending tasks last_tickets room j.entry.ticket (reply_after o e past) k) refl kind;
         },
       )

@@ -215,9 +215,9 @@ pub holds : (o : Opening) (past : List Step) (blocks : Blocks) (pending : List C
 holds o past blocks pending tasks last_tickets room k = jobs_wait tasks k.fit ∙ ap waiting k.set ∙ waiting_parked past (alive past)
 
 -- such parts are a unit
-pub is_unit : (o : Opening) (past : List Step) (blocks : Blocks) (pending : List Code) (tasks : List PlainTask) (last_tickets : List (Option ℕ)) (room : ℕ) (keeps : Bool)
-    → AreKept o past blocks pending tasks last_tickets room → IsUnit (record { opening = o; steps = past; parked = parked_of tasks; keeps_replies = keeps; backed = false })
-is_unit o past blocks pending tasks last_tickets room keeps k = record { lawful = k.lawful; holds = holds o past blocks pending tasks last_tickets room k }
+pub is_unit : (o : Opening) (past : List Step) (blocks : Blocks) (pending : List Code) (tasks : List PlainTask) (last_tickets : List (Option ℕ)) (room : ℕ) (keeps backed : Bool)
+    → AreKept o past blocks pending tasks last_tickets room → IsUnit (record { opening = o; steps = past; parked = parked_of tasks; keeps_replies = keeps; backed = backed })
+is_unit o past blocks pending tasks last_tickets room keeps backed k = record { lawful = k.lawful; holds = holds o past blocks pending tasks last_tickets room k }
 
 jobs_filter : (q : Entry → Bool) (jobs : List PlainJob) → tasks_of_jobs (filter (λ (j : PlainJob). q j.entry) jobs) ≡ filter q (tasks_of_jobs jobs)
 jobs_filter q [] = refl

@@ -9,6 +9,7 @@ use Rattle.unit_attention.specs.declared.code.Code.{Code}
 use Rattle.unit_attention.specs.Pending.{raised}
 use Rattle.cdb.specs.declared.commands.Command.{Command}
 use Rattle.cdb.specs.declared.profile.Profile.{Profile}
+use Rattle.command_model.specs.declared.identity.Identity.{Identity}
 use Rattle.command_model.specs.PlainReply.{PlainReply, replied}
 use Rattle.command_model.specs.Attention.{met}
 use Rattle.command_model.specs.Effects.{block_after}
@@ -60,10 +61,11 @@ after_same command bytes code f g b same =
     ap (λ (x : List ℕ). block_after command bytes code (λ n. x) b) same
 
 same_facts : (target target' lun lun' : ℕ) (luns luns' : List ℕ) (size size' : ℕ) (first first' : Option Sense)
-    (profile profile' : Profile) → target ≡ target' → lun ≡ lun' → luns ≡ luns' → size ≡ size' → first ≡ first' → profile ≡ profile'
-    → let f : Facts = record { target = target; lun = lun; luns = luns; capacity = size; pending = first; profile = profile } in
-    let g : Facts = record { target = target'; lun = lun'; luns = luns'; capacity = size'; pending = first'; profile = profile' } in f ≡ g
-same_facts target target' lun lun' luns luns' size size' first first' profile profile' a b c d e h = cc
+    (profile profile' : Profile) (identity identity' : Identity)
+    → target ≡ target' → lun ≡ lun' → luns ≡ luns' → size ≡ size' → first ≡ first' → profile ≡ profile' → identity ≡ identity'
+    → let f : Facts = record { target = target; lun = lun; luns = luns; capacity = size; pending = first; profile = profile; identity = identity } in
+    let g : Facts = record { target = target'; lun = lun'; luns = luns'; capacity = size'; pending = first'; profile = profile'; identity = identity' } in f ≡ g
+same_facts target target' lun lun' luns luns' size size' first first' profile profile' identity identity' a b c d e h i = cc
 
 -- Of a unit whose parts are what its history says:
 module _ {o : Opening} {past : List Step} {block_at : Blocks} {pending : List Code} {tasks : List PlainTask} {last_tickets : List (Option ℕ)} {room : ℕ}
@@ -132,12 +134,13 @@ module _ {o : Opening} {past : List Step} {block_at : Blocks} {pending : List Co
       (answer_of-agree (facts_after o past) e.command e.data_out block_at (blocks_of o past) (λ b below. k.stored b))
 
   -- what a command is told is what the history says of the unit
-  pub told_is : (facts : UnitFacts) (size : ℕ) → facts.target ≡ o.target → facts.lun ≡ o.lun → facts.luns.items ≡ o.luns → facts.profile ≡ o.profile
+  pub told_is : (facts : UnitFacts) (size : ℕ) → facts.address.target ≡ o.target → facts.address.lun ≡ o.lun → facts.luns.items ≡ o.luns → facts.profile ≡ o.profile
+      → facts.identity ≡ o.identity
       → size ≡ capacity_of o past
       → facts_of (told facts pending) size ≡ facts_after o past
-  told_is facts size target lun luns profile blocks =
-      same_facts facts.target o.target facts.lun o.lun facts.luns.items o.luns size (capacity_of o past) (oldest pending) (oldest (pending_of o past))
-      facts.profile o.profile target lun luns blocks (ap oldest k.pends) profile
+  told_is facts size target lun luns profile identity blocks =
+      same_facts facts.address.target o.target facts.address.lun o.lun facts.luns.items o.luns size (capacity_of o past) (oldest pending) (oldest (pending_of o past))
+      facts.profile o.profile facts.identity o.identity target lun luns blocks (ap oldest k.pends) profile identity
 
   -- parts that say the same, with no less room
   pub keep_same : (block_at' : Blocks) (pending' : List Code) (last_tickets' : List (Option ℕ)) (room' : ℕ)

@@ -16,20 +16,22 @@ use Rattle.unit_history.specs.Inner.Parts.{AreKept}
 use Rattle.unit_model.specs.Unit.{PlainUnit, Steps}
 use Rattle.unit_history.proofs.Keeping.{task_at_alive, task_at_none, is_done, is_marked}
 
-abbrev pub unit_with : Opening → List Step → List PlainJob → Bool → PlainUnit
-unit_with o steps jobs keeps = record { opening = o; steps = steps; parked = jobs; keeps_replies = keeps; backed = false }
+abbrev pub unit_with : Opening → List Step → List PlainJob → Bool → Bool → PlainUnit
+unit_with o steps jobs keeps backed = record { opening = o; steps = steps; parked = jobs; keeps_replies = keeps; backed = backed }
 
-same_unit : (o : Opening) (steps steps' : List Step) (jobs jobs' : List PlainJob) (keeps keeps' : Bool) → steps' ≡ steps → jobs' ≡ jobs → keeps' ≡ keeps
-    → unit_with o steps' jobs' keeps' ≡ unit_with o steps jobs keeps
-same_unit o steps steps' jobs jobs' keeps keeps' a b c =
-    ap (λ w. unit_with o w jobs' keeps') a ∙ ap (λ w. unit_with o steps w keeps') b ∙ ap (λ w. unit_with o steps jobs w) c
+same_unit : (o : Opening) (steps steps' : List Step) (jobs jobs' : List PlainJob) (keeps keeps' backed backed' : Bool)
+    → steps' ≡ steps → jobs' ≡ jobs → keeps' ≡ keeps → backed' ≡ backed
+    → unit_with o steps' jobs' keeps' backed' ≡ unit_with o steps jobs keeps backed
+same_unit o steps steps' jobs jobs' keeps keeps' backed backed' a b c d =
+    ap (λ w. unit_with o w jobs' keeps' backed') a ∙ ap (λ w. unit_with o steps w keeps' backed') b
+    ∙ ap (λ w. unit_with o steps jobs w backed') c ∙ ap (λ w. unit_with o steps jobs keeps w) d
 
 -- the unit goes on by a step that may come next
-pub steps_is : (o : Opening) (s : Step) (past steps' : List Step) (jobs jobs' : List PlainJob) (keeps keeps' : Bool)
-    → May o s past → steps' ≡ s ∷ past → jobs' ≡ but_tasks (released s past) jobs → keeps' ≡ keeps
-    → Steps (unit_with o past jobs keeps) s (unit_with o steps' jobs' keeps')
-steps_is o s past steps' jobs jobs' keeps keeps' may a b c =
-    record { may = may; is = same_unit o (s ∷ past) steps' (but_tasks (released s past) jobs) jobs' keeps keeps' a b c }
+pub steps_is : (o : Opening) (s : Step) (past steps' : List Step) (jobs jobs' : List PlainJob) (keeps keeps' backed backed' : Bool)
+    → May o s past → steps' ≡ s ∷ past → jobs' ≡ but_tasks (released s past) jobs → keeps' ≡ keeps → backed' ≡ backed
+    → Steps (unit_with o past jobs keeps backed) s (unit_with o steps' jobs' keeps' backed')
+steps_is o s past steps' jobs jobs' keeps keeps' backed backed' may a b c d =
+    record { may = may; is = same_unit o (s ∷ past) steps' (but_tasks (released s past) jobs) jobs' keeps keeps' backed backed' a b c d }
 
 -- what it hands out is behind what was there
 pub handed_is : (out out' : Jobs) (given released : List PlainJob) → out' ≡ record out { jobs = out.jobs ++ given } → given ≡ released

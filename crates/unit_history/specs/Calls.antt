@@ -50,6 +50,14 @@ Commits old j outcome.Busy new =
     × Steps old (Step.Busy j.entry.ticket) new
 Commits old j outcome.Unknown new = CannotCommit (task_of j.entry.ticket (alive old.steps)) j old.steps × (new ≡ old)
 
+-- the command runs later: its task may run, its unit's disk is one whose pages come and go, and nothing is changed
+pub record Waits (old : PlainUnit) (j : PlainJob) (new : PlainUnit) : Type 0 where
+  pub entry : Entry
+  pub of : IsOf j entry old.steps
+  pub ready : IsReady j.entry.ticket entry old.steps
+  pub backed : old.backed ≡ true
+  pub same : new ≡ old
+
 -- own: a capacity is refused where no unit may have it, and memory only for one that it may have
 abbrev pub ResizeRefused : ℕ → ResizeFault → Type 0
 ResizeRefused blocks resize_fault.BadCapacity = is_capacity blocks ≡ false

@@ -1,5 +1,6 @@
 -- What a unit keeps.
-use Rattle.std.specs.Prelude.{ℕ, false, List, [], ◌∷◌}
+use Rattle.std.specs.Prelude.{ℕ, not, List, [], ◌∷◌}
+use Rattle.backed_store.specs.Disks as disks
 use Rattle.block_store.specs.declared.paged.PagedStore.{PagedStore}
 use Rattle.unit_model.specs.Contents.{Opening}
 use Rattle.task_set.specs.Tasks.{parked_of}
@@ -15,16 +16,17 @@ content_of (disk ∷ more) = disk_bytes disk
 abbrev pub opening_of : Inside → Opening
 opening_of u =
     record {
-      target = u.facts.target;
-      lun = u.facts.lun;
+      target = u.facts.address.target;
+      lun = u.facts.address.lun;
       luns = u.facts.luns.items;
       blocks = u.opening_blocks;
       calm = u.calm;
       content = content_of u.opened.items;
       profile = u.facts.profile;
+      identity = u.facts.identity;
     }
 
--- no unit's disk is one whose pages come and go yet
+-- its disk is one whose pages come and go, if not all of them stay in memory
 abbrev pub plain_unit : Inside → PlainUnit
 plain_unit u =
     record {
@@ -32,5 +34,5 @@ plain_unit u =
       steps = u.log.steps;
       parked = parked_of u.tasks;
       keeps_replies = u.log.keeps;
-      backed = false;
+      backed = not (disks.is_whole u.store);
     }

@@ -1,6 +1,6 @@
 //! The run of a task's command on its unit.
 
-ghost use Rattle.std.specs.Prelude.{◌≡◌, ◌+◌, ◌<◌, ◌≤◌, ◌∷◌, ℕ, length, map, IfSome, IfNone, IsSome};
+ghost use Rattle.std.specs.Prelude.{◌≡◌, ◌+◌, ◌<◌, ◌≤◌, ◌∷◌, ℕ, false, length, map, IfSome, IfNone, IsSome};
 ghost use Rattle.std.specs.Option.{option_map};
 ghost use Rattle.cdb.specs.Need.{need_of};
 ghost use Rattle.unit_history.specs.Endings.{FitsNeed};
@@ -88,7 +88,7 @@ fn record_run(
 }
 
 impl UnitState {
-    ghost use Rattle.unit_history.specs.Calls.{Commits};
+    ghost use Rattle.unit_history.specs.Calls.{Commits, Waits};
 
     /// Runs the command of a job's task whole, in one hold of the unit's lock. Tested first to last: `Unknown`; the
     /// mark, which answers `Aborted`; `Busy`, where memory was refused to the command itself, or to the copy of its
@@ -145,6 +145,8 @@ impl UnitState {
         ensures step { Commits self.old job.now result self.new }
         ensures fits { FitsNeed (need_of job.now.entry.command).into result }
     {
+        // No unit's disk is backed yet.
+        let _ = &self.alloc;
         match self.commit_ready(job, prepared, spare) {
             Some(outcome) => outcome,
             None => unreachable!(),
@@ -152,8 +154,8 @@ impl UnitState {
     }
 
     /// Runs the command of a job's task as [`UnitState::commit_with`] does, if the pages that it needs of its disk are in
-    /// memory. Else the host is asked for each of them at once, and the command waits: `None`, with nothing changed. No
-    /// command waits yet, since a unit's disk isn't backed.
+    /// memory. Else the host is asked for each of them at once, and the command waits: `None`, with nothing changed. A task
+    /// that is marked, and one that may not run, never waits. Nor does a command on a disk that isn't backed.
     #[inline(always)]
     pub fn commit_ready(
         &mut self,
@@ -163,8 +165,8 @@ impl UnitState {
     ) -> Option<Outcome>
         ensures step { IfSome result (λ outcome. Commits self.old job.now outcome self.new) }
         ensures fits { IfSome result (λ outcome. FitsNeed (need_of job.now.entry.command).into outcome) }
-        ensures waits { IfNone result (self.new ≡ self.old) }
-        ensures whole { IsSome result }
+        ensures waits { IfNone result (Waits self.old job.now self.new) }
+        ensures whole { self.old.backed ≡ false → IsSome result }
     {
         let ticket = job.ticket();
         let Some(task) = self.tasks.task(ticket) else {
@@ -174,10 +176,7 @@ impl UnitState {
             Turn::Unknown => Some(Outcome::Unknown),
             Turn::Aborted(reason) => Some(Outcome::Aborted(reason)),
             Turn::Ready => {
-                let unit = Address {
-                    target: self.facts.target,
-                    lun: self.facts.lun,
-                };
+                let unit = self.facts.address;
                 let command = task.command();
                 let bytes = task.data();
                 let pages = pages_for(prepared, task);

@@ -290,6 +290,7 @@ pub fn perform_if_ready(
         (⟦<Disk as Store>⟧.block_at store.old) (⟦<Disk as Store>⟧.block_at store.new) attentions.old attentions.new) }
     ensures waits { OnErr result ((⟦<Disk as Store>⟧.block_at store.new ≡ ⟦<Disk as Store>⟧.block_at store.old)
         × (attentions.new ≡ attentions.old)) }
+    ensures backed { OnErr result (⟦<Disk as Store>⟧.is_whole store.old ≡ false) }
     ensures asked { IfErr result (λ why. why ≢ Full → met command.now (told facts.old attentions.old).pending ≡ None →
         IsReady (⟦<Disk as Store>⟧.is_coming store.new) (⟦<Disk as Store>⟧.has_room store.new) (⟦<Disk as Store>⟧.size store.new)
         command.now bytes.now) }

@@ -14,7 +14,7 @@ use crate::answering::Answering;
 use crate::execution::keep_larger;
 use crate::performing::{is_ready, run, tell_oldest};
 use crate::recorded::{RecordedReply, RecordedStep};
-use crate::unit::{UnitState, has_address, make_way, recorded_entry};
+use crate::unit::{UnitState, is_named, make_way, recorded_entry};
 use backed_store::Disk;
 use block_commands::{UnitFacts, read_in_place};
 use block_store::Store;
@@ -156,7 +156,7 @@ impl UnitState {
         if self.tasks.len() > 0 {
             return false;
         }
-        if !has_address(&self.facts, arrival.address()) {
+        if !is_named(&self.facts, arrival) {
             return false;
         }
         if self.log.keeps_replies() {

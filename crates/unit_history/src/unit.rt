@@ -20,7 +20,6 @@ use block_store::{PagedStore, Prepared, Store};
 use foundation::{NoMemory, Record};
 use request_intake::UnitSpec;
 use ring_core::Answered;
-use scsi_codec::Address;
 use std::alloc::{AllocError, Global};
 use std::marker::Model;
 use task_set::{Arrival, Full, JobList, TaskSet};
@@ -79,13 +78,14 @@ pub(crate) fn recorded_entry(arrival: &Arrival) -> RecordedEntry
     RecordedEntry::new(arrival.ticket(), arrival.request())
 }
 
-/// Returns true if a unit of which commands are told this has the address.
+/// Returns true if a unit of which commands are told this has the address that an arrival names.
 #[inline(always)]
-pub(crate) fn has_address(facts: &UnitFacts, address: Address) -> bool
-    ensures yes { IsTrue result → address ≡ record { target = facts.now.target; lun = facts.now.lun } }
-    ensures no { IsFalse result → address ≢ record { target = facts.now.target; lun = facts.now.lun } }
+pub(crate) fn is_named(facts: &UnitFacts, arrival: &Arrival) -> bool
+    ensures yes { IsTrue result → arrival.now.address ≡ facts.now.address }
+    ensures no { IsFalse result → arrival.now.address ≢ facts.now.address }
 {
-    address.target == facts.target && address.lun == facts.lun
+    let _unit = facts.address.number();
+    arrival.number() == facts.number
 }
 
 /// Returns true if a unit may have so many blocks: 1 to 2^40.
@@ -157,17 +157,19 @@ impl UnitState {
           calm = spec.now.calm;
           content = [];
           profile = spec.now.profile;
+          identity = spec.now.identity;
         }) keeps_replies) }
     {
         let luns = Vec::from_slice(alloc, luns)?;
         Ok(UnitState {
             alloc,
             facts: UnitFacts {
-                target: spec.target,
-                lun: spec.lun,
+                address: spec.address(),
+                number: spec.address().number(),
                 luns,
                 pending: None,
                 profile: spec.profile,
+                identity: spec.identity,
             },
             calm: spec.calm,
             attentions: attentions_at_start(spec.calm),
@@ -221,7 +223,7 @@ impl UnitState {
     pub fn enter(&mut self, arrival: Arrival) -> Entered
         ensures { Enters self.old arrival result self.new }
     {
-        if !has_address(&self.facts, arrival.address()) {
+        if !is_named(&self.facts, &arrival) {
             return Entered::Stale(arrival.into_job());
         }
         let ticket = arrival.ticket();

@@ -3,9 +3,10 @@
 use crate::changes::Changes;
 use crate::kind::StepKind;
 use crate::outcomes::Receipt;
-use crate::unit::{Place, UnitState, has_address};
+use crate::unit::{Place, UnitState};
 use block_store::Store;
 use cdb::Profile;
+use command_model::Identity;
 use foundation::NoMemory;
 use ring_core::Ticket;
 use scsi_codec::Address;
@@ -33,7 +34,7 @@ impl UnitState {
         ensures yes { IsTrue result → address ≡ unit_address self.now.opening }
         ensures no { IsFalse result → address ≢ unit_address self.now.opening }
     {
-        has_address(&self.facts, address)
+        address.target == self.facts.address.target && address.lun == self.facts.address.lun
     }
 
     /// Returns true if all tasks that were alive at the step of this place and met by it, done or not, have left. A
@@ -55,8 +56,8 @@ impl UnitState {
         ensures { IsTrue result ↔ IsConfirmed self.now.opening self.now.keeps_replies self.now.steps receipt.now }
     {
         let unit = receipt.unit();
-        unit.target == self.facts.target
-            && unit.lun == self.facts.lun
+        unit.target == self.facts.address.target
+            && unit.lun == self.facts.address.lun
             && self
                 .log
                 .has_commit(receipt.place(), receipt.ticket(), receipt.reply())
@@ -131,14 +132,14 @@ impl UnitState {
     pub fn target(&self) -> u8
         ensures { result ≡ self.now.opening.target }
     {
-        self.facts.target
+        self.facts.address.target
     }
 
     /// Returns its LUN, 0 to 16,383.
     pub fn lun(&self) -> u16
         ensures { result ≡ self.now.opening.lun }
     {
-        self.facts.lun
+        self.facts.address.lun
     }
 
     /// Returns the profile of its commands.
@@ -146,6 +147,13 @@ impl UnitState {
         ensures { result ≡ self.now.opening.profile }
     {
         self.facts.profile
+    }
+
+    /// Returns what its configuration says of it.
+    pub fn identity(&self) -> Identity
+        ensures { result ≡ self.now.opening.identity }
+    {
+        self.facts.identity
     }
 
     /// Returns how many blocks it opened with.

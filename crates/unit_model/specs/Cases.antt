@@ -4,6 +4,7 @@ use Rattle.cdb.specs.declared.commands.Command.TheVariants.{TestUnitReady, Read,
 use Rattle.cdb.specs.declared.profile.Profile.TheVariants.{Narrow}
 use Rattle.request_intake.specs.declared.attribute.TaskAttribute.{TaskAttribute}
 use Rattle.request_intake.specs.declared.attribute.TaskAttribute.TheVariants.{Simple, Ordered, HeadOfQueue}
+use Rattle.command_model.specs.Identity.{plain_identity}
 use Rattle.command_model.specs.PlainReply.{PlainReply, success}
 use Rattle.ring_core.specs.declared.log.Ticket.{Ticket}
 use Rattle.unit_model.specs.Tasks.{Entry}
@@ -12,7 +13,7 @@ use Rattle.unit_model.specs.Contents.{Opening}
 
 -- a calm unit of 1,000 blocks at address 0:0, of the narrow profile
 abbrev pub calm_unit : Opening
-calm_unit = record { target = 0; lun = 0; luns = 0 ∷ []; blocks = 1000; calm = true; content = []; profile = Narrow }
+calm_unit = record { target = 0; lun = 0; luns = 0 ∷ []; blocks = 1000; calm = true; content = []; profile = Narrow; identity = plain_identity }
 
 -- the chain of this number of queue 2
 abbrev pub nth : ℕ → Ticket

@@ -8,6 +8,7 @@ use Rattle.block_store.specs.Pages.{blocks_in}
 use Rattle.unit_attention.specs.declared.code.Code.{Code}
 use Rattle.unit_attention.specs.Code.{code}
 use Rattle.unit_attention.specs.Pending.{raised, without_first}
+use Rattle.command_model.specs.declared.identity.Identity.{Identity}
 use Rattle.command_model.specs.PlainReply.{PlainReply}
 use Rattle.command_model.specs.Attention.{takes}
 use Rattle.command_model.specs.Effects.{block_after}
@@ -17,7 +18,8 @@ use Rattle.unit_model.specs.Tasks.{Entry, task_of}
 use Rattle.unit_model.specs.Steps.{Step, alive}
 
 -- own: what a unit opens with: its address, the LUNs of its target by rising number, its capacity in blocks, whether
--- nothing is pending, the bytes of its blocks, end to end, and its profile; bytes that lack are zeros
+-- nothing is pending, the bytes of its blocks, end to end, its profile, and what its configuration says of it; bytes that
+-- lack are zeros
 pub record Opening : Type 0 where
   pub target : ℕ
   pub lun : ℕ
@@ -26,6 +28,7 @@ pub record Opening : Type 0 where
   pub calm : Bool
   pub content : List ℕ
   pub profile : Profile
+  pub identity : Identity
 
 -- own: how many blocks a unit may have
 abbrev pub is_capacity : ℕ → Bool
@@ -89,6 +92,7 @@ facts_after o h =
       capacity = capacity_of o h;
       pending = oldest (pending_of o h);
       profile = o.profile;
+      identity = o.identity;
     }
 
 -- the reply to a task whose command runs next (SBC-3 §5, SPC-4 §6)

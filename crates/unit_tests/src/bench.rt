@@ -6,7 +6,7 @@ use crate::calls::Came;
 use crate::hand::{Hand, MOST_JOBS, name_of};
 use crate::port::Ports;
 use foundation::NoMemory;
-use request_intake::{Profile, UnitSpec};
+use request_intake::{Identity, Profile, UnitSpec};
 use std::alloc::Global;
 use unit_history::{Place, UnitState};
 use unit_model::Rule;
@@ -18,6 +18,7 @@ pub(crate) const CALM: UnitSpec = UnitSpec {
     blocks: 1000,
     calm: true,
     profile: Profile::Narrow,
+    identity: Identity::PLAIN,
 };
 
 /// Another unit of its target.

@@ -161,9 +161,9 @@ fn arrival_of(inventory: &Inventory, sent: &Sent, fetched: Fetched) -> Option<Ar
     }
     match decide(inventory, &mut bytes, &lengths) {
         Decision::Enter(place, request) => {
-            let address = *inventory.as_slice().get(place)?;
             if place == sent.unit % 2 {
-                Some(Arrival::new(sent.unit, address, chain, request))
+                let number = inventory.number_at(place);
+                Some(Arrival::new(sent.unit, number, chain, request))
             } else {
                 None
             }

@@ -46,9 +46,9 @@
 extern "C" {
 #endif
 
-/* The version of this header: 1.5.0. VSCSI_VERSION is major * 65,536 + minor * 256 + patch. */
+/* The version of this header: 1.6.0. VSCSI_VERSION is major * 65,536 + minor * 256 + patch. */
 #define VSCSI_VERSION_MAJOR 1
-#define VSCSI_VERSION_MINOR 5
+#define VSCSI_VERSION_MINOR 6
 #define VSCSI_VERSION_PATCH 0
 #define VSCSI_VERSION ((uint32_t)VSCSI_VERSION_MAJOR << 16 | (uint32_t)VSCSI_VERSION_MINOR << 8 | (uint32_t)VSCSI_VERSION_PATCH)
 
@@ -132,6 +132,22 @@ struct vscsi_unit {
   uint8_t calm;
 };
 
+/* A rotation rate that is told as not reported (SBC-3, 6.6.3). Since 1.6. */
+#define VSCSI_RATE_NOT_REPORTED 0xffffu
+
+/* What a disk of the wide profile says of itself, by INQUIRY and READ CAPACITY (16). Zeros leave all as it is without it. Texts
+ * are printable ASCII, and end with a 0 where they are shorter than their field. Since 1.6. */
+struct vscsi_identity {
+  char vendor[8];            /* the T10 vendor identification; empty: VSCSI */
+  char product[16];          /* the product identification; empty: TASK SET DISK */
+  char revision[4];          /* the product revision level; empty: 0001 */
+  char serial[20];           /* the serial number; empty: made of target and LUN */
+  uint8_t naa[8];            /* an NAA designator of NAA 3h or 5h, which no other unit has; zeros: none */
+  uint16_t rotation_rate;    /* 0 and 1: doesn't rotate; 0401h to FFFEh: turns a minute; or VSCSI_RATE_NOT_REPORTED */
+  uint8_t physical_exponent; /* a physical block has 2 to this power blocks, 0 to 15 */
+  uint8_t reserved;          /* 0 */
+};
+
 /* The device that is wanted. Guest memory has 1 to 65,536 pages of 4,096 bytes. Queue 0 is the control queue, queue 1 the
  * event queue, and the others, 1 to 16, are request queues. There are 1 to 64 units in rising order of target and LUN, each
  * target with LUN 0. All of it, with the features that the driver agreed to, is known once the driver has set DRIVER_OK.
@@ -139,6 +155,8 @@ struct vscsi_unit {
  * `size` is sizeof (struct vscsi_config), by which the library knows the fields that the caller has.
  *
  * `profiles` is optional: for each unit the number of an `enum vscsi_profile`. Without it each unit is narrow. Since 1.5.
+ *
+ * `identities` is optional: what each unit says of itself. A narrow unit has zeros there. Since 1.6.
  *
  * Firmware that sets up queue 2 alone leaves queues 0 and 1 without areas. Give the device some pages more than the guest
  * has, and let those queues lie there: an area of zeros is an empty ring, and nothing ever changes it. */
@@ -151,10 +169,11 @@ struct vscsi_config {
   size_t unit_count;
   uint32_t pages;
   const uint8_t *profiles;
+  const struct vscsi_identity *identities;
 };
 
 /* Why a configuration isn't taken: the first of these, in this order, that is so; but queues are looked at one after the
- * other for 4 and 5, units for 9 and 10, and units for 14 before all else. Of a queue or a unit `place` says which, from 0.
+ * other for 4 and 5, units for 9, 10 and 15, and units for 14, and then for what C has of 15, before all else. Of a queue or a unit `place` says which, from 0.
  * No cause has number 6 or 7. */
 enum vscsi_cause {
   VSCSI_CAUSE_PAGES = 1,        /* no pages, or more than 65,536 */
@@ -168,7 +187,9 @@ enum vscsi_cause {
   VSCSI_CAUSE_UNIT_ORDER = 11,  /* a unit that doesn't stand above the one before it */
   VSCSI_CAUSE_NO_LUN_0 = 12,    /* a unit whose target has no LUN 0 */
   VSCSI_CAUSE_UNIT_DISK = 13,   /* of vscsi_create_with: a unit that is given no disk, or one of another capacity */
-  VSCSI_CAUSE_UNIT_PROFILE = 14 /* a unit whose profile isn't among `enum vscsi_profile`. Since 1.5 */
+  VSCSI_CAUSE_UNIT_PROFILE = 14, /* a unit whose profile isn't among `enum vscsi_profile`. Since 1.5 */
+  VSCSI_CAUSE_UNIT_IDENTITY = 15, /* a unit that says of itself what none may, or a narrow one that says anything. Since 1.6 */
+  VSCSI_CAUSE_UNIT_NAA = 16       /* a unit whose NAA designator another has. Since 1.6 */
 };
 
 /* Why a queue can't lie where the configuration says. */
@@ -270,7 +291,7 @@ struct vscsi_ring {
  * is left, and looks once more behind that (VIRTIO 1.2, 2.7.10 and 2.8.10). A host that waits for kicks then calls nothing else
  * before it sleeps. Where it is false the device writes nothing of its own: the host calls vscsi_live_ask, or polls. Since 1.4.
  *
- * A configuration that ends before `asks` has false there, and one that ends before `profiles` none. */
+ * A configuration that ends before `asks` has false there, and one that ends before `profiles` or `identities` none. */
 struct vscsi_live_config {
   size_t size;
   uint64_t features;
@@ -280,6 +301,7 @@ struct vscsi_live_config {
   size_t unit_count;
   bool asks;
   const uint8_t *profiles;
+  const struct vscsi_identity *identities;
 };
 
 /* Makes the device of a configuration, with zeros for guest memory, of which nothing has happened yet. A guest that had

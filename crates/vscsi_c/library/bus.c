@@ -18,22 +18,27 @@
 #include <stdlib.h>
 #include <string.h>
 
-/* The operations of host_bus: of a read LONG and SHORT, of a write the others. */
-enum { PLACE = 1 << 30, BYTES = PLACE + 1, LONG = PLACE + 2, PUT = PLACE + 3, SHORT = PLACE + 16 };
+/* The operations of host_bus: of a read LONG and SHORT, of a write the others. SHORT and PUT stand with a count of bytes. */
+enum { PLACE = 1 << 30, BYTES = PLACE + 1, LONG = PLACE + 2, SHORT = PLACE + 16, PUT = PLACE + 64 };
+
+/* The most bytes of a short access. */
+enum { FEW = 16 };
 
 enum { PAGE = 4096 };
 
-/* A region: the guest's addresses of it, and what is to be added to one of them for the host's. */
+/* A region: the guest's addresses of it, and the host's of its first byte. */
 struct span {
 	uint64_t from;
-	uint64_t to;
-	uintptr_t shift;
+	uint64_t size;
+	uint64_t starts; /* at so many of its first bytes a short access begins that lies in it */
+	unsigned char *host;
 };
 
 struct bus_map {
 	size_t count;
 	struct span *spans; /* by rising address, no two of which overlap */
-	const struct span *last; /* one of these, in which an access lay, or `none` */
+	const struct span *loaded; /* one of these, in which a load lay, or `none` */
+	const struct span *stored; /* one in which a store lay, or `none`: always where there is a log */
 	uint8_t *log; /* NULL: none */
 	size_t log_bytes;
 };
@@ -46,7 +51,8 @@ struct place {
 	uint64_t addr;
 };
 
-static _Thread_local struct place said; /* by PLACE, for the BYTES that come next on this thread */
+/* By PLACE, for the BYTES that come next on this thread. It is few bytes, of which a loader keeps more than enough. */
+static _Thread_local __attribute__((tls_model("initial-exec"))) struct place said;
 
 static int by_address(const void *one, const void *other)
 {
@@ -70,18 +76,30 @@ static void put_spans(struct span *spans, const struct bus_region *regions, size
 	for (size_t i = 0; i < count; i++) {
 		const struct bus_region *it = &regions[i];
 
-		spans[i] = (struct span){ it->guest, it->guest + it->size, (uintptr_t)it->host - (uintptr_t)it->guest };
+		spans[i] = (struct span){ it->guest, it->size, it->size < FEW ? 0 : it->size - FEW + 1, it->host };
 	}
 	qsort(spans, count, sizeof *spans, by_address);
+}
+
+static inline uint64_t end_of(const struct span *it)
+{
+	return it->from + it->size;
 }
 
 /* Whether spans by rising address lie one behind the other. */
 static bool lie_apart(const struct span *spans, size_t count)
 {
 	for (size_t i = 1; i < count; i++)
-		if (spans[i].from < spans[i - 1].to)
+		if (spans[i].from < end_of(&spans[i - 1]))
 			return false;
 	return true;
+}
+
+/* Forgets in which regions accesses lay. */
+static void forget(struct bus_map *map)
+{
+	map->loaded = &none;
+	map->stored = &none;
 }
 
 struct bus_map *bus_map(void)
@@ -89,7 +107,7 @@ struct bus_map *bus_map(void)
 	struct bus_map *map = calloc(1, sizeof *map);
 
 	if (map)
-		map->last = &none;
+		forget(map);
 	return map;
 }
 
@@ -111,13 +129,14 @@ enum bus_answer bus_remap(struct bus_map *map, const struct bus_region *regions,
 	}
 	free(map->spans);
 	map->spans = own;
-	map->last = &none;
+	forget(map);
 	map->count = count;
 	return BUS_DONE;
 }
 
 void bus_log(struct bus_map *map, uint8_t *log, size_t bytes)
 {
+	forget(map);
 	map->log = log;
 	map->log_bytes = bytes;
 }
@@ -134,21 +153,19 @@ static inline struct bus_map *map_of(struct place at)
 	return (struct bus_map *)(uintptr_t)at.map;
 }
 
-static inline unsigned char *host(const struct span *it, uint64_t addr)
+/*
+ * How many of len bytes from an address on lie in one region, or in one hole, and where they stand: NULL for a hole. A region is
+ * remembered as the one that was found.
+ */
+static unsigned char *run(struct place at, size_t len, size_t *here, const struct span **found)
 {
-	return (unsigned char *)(it->shift + (uintptr_t)addr);
-}
-
-/* How many of len bytes from an address on lie in one region, or in one hole, and where they stand: NULL for a hole. */
-static unsigned char *run(struct place at, size_t len, size_t *here)
-{
-	struct bus_map *map = map_of(at);
+	const struct bus_map *map = map_of(at);
 	size_t low = 0, high = map->count; /* the first region that ends above the address is one of these, or there is none */
 
 	while (low < high) {
 		size_t middle = low + (high - low) / 2;
 
-		if (map->spans[middle].to > at.addr)
+		if (end_of(&map->spans[middle]) > at.addr)
 			high = middle;
 		else
 			low = middle + 1;
@@ -159,22 +176,41 @@ static unsigned char *run(struct place at, size_t len, size_t *here)
 	}
 	const struct span *it = &map->spans[low];
 	bool hole = it->from > at.addr;
-	uint64_t left = (hole ? it->from : it->to) - at.addr;
+	uint64_t left = (hole ? it->from : end_of(it)) - at.addr;
 
 	*here = left < len ? (size_t)left : len;
 	if (hole)
 		return NULL;
-	__atomic_store_n(&map->last, it, __ATOMIC_RELAXED);
-	return host(it, at.addr);
+	if (found)
+		__atomic_store_n(found, it, __ATOMIC_RELAXED);
+	return it->host + (at.addr - it->from);
 }
 
-/* Whether len bytes from an address on lie in the region that was found last, and where they stand then. */
-static inline bool is_whole(struct place at, size_t len, unsigned char **bytes)
+/*
+ * Whether bytes from an address on, FEW at the most, lie in the region that was found, and where they stand then. It says no to
+ * some of those at the end of the region.
+ */
+static inline bool is_short(const struct span *const *found, uint64_t addr, unsigned char **bytes)
 {
-	const struct span *it = __atomic_load_n(&map_of(at)->last, __ATOMIC_RELAXED);
+	const struct span *it = __atomic_load_n(found, __ATOMIC_RELAXED);
+	uint64_t skip = addr - it->from;
 
-	*bytes = host(it, at.addr);
-	return at.addr >= it->from && at.addr + len <= it->to;
+	if (skip >= it->starts)
+		return false;
+	*bytes = it->host + skip;
+	return true;
+}
+
+/* Whether len bytes from an address on lie in that region, and where they stand then. */
+static inline bool is_whole(const struct span *const *found, uint64_t addr, size_t len, unsigned char **bytes)
+{
+	const struct span *it = __atomic_load_n(found, __ATOMIC_RELAXED);
+	uint64_t skip = addr - it->from;
+
+	if (skip >= it->size || len > it->size - skip)
+		return false;
+	*bytes = it->host + skip;
+	return true;
 }
 
 /* Whether so many bytes may be accessed at once. */
@@ -183,23 +219,33 @@ static inline bool is_aligned(const unsigned char *bytes, size_t each)
 	return __builtin_expect((uintptr_t)bytes % each == 0, 1);
 }
 
+/* Loads an index or flags. */
+static inline void load_2(const unsigned char *bytes, unsigned char *out)
+{
+	uint16_t all = __atomic_load_n((const uint16_t *)bytes, __ATOMIC_ACQUIRE);
+
+	memcpy(out, &all, 2);
+}
+
+/* Loads a descriptor: its second half has the flags, so that what the first has is as new as they are. */
+static inline void load_16(const unsigned char *bytes, unsigned char *out)
+{
+	uint64_t second = __atomic_load_n((const uint64_t *)(bytes + 8), __ATOMIC_ACQUIRE);
+	uint64_t first = __atomic_load_n((const uint64_t *)bytes, __ATOMIC_RELAXED);
+
+	memcpy(out, &first, 8);
+	memcpy(out + 8, &second, 8);
+}
+
 /* Loads bytes of one region. */
 static inline void load_from(const unsigned char *bytes, unsigned char *out, size_t len)
 {
-	if (len == 2 && is_aligned(bytes, 2)) {
-		uint16_t all = __atomic_load_n((const uint16_t *)bytes, __ATOMIC_ACQUIRE);
-
-		memcpy(out, &all, 2);
-	} else if (len == 16 && is_aligned(bytes, 8)) {
-		/* The second half has the flags: what the first has is then as new as they are. */
-		uint64_t second = __atomic_load_n((const uint64_t *)(bytes + 8), __ATOMIC_ACQUIRE);
-		uint64_t first = __atomic_load_n((const uint64_t *)bytes, __ATOMIC_RELAXED);
-
-		memcpy(out, &first, 8);
-		memcpy(out + 8, &second, 8);
-	} else {
+	if (len == 2 && is_aligned(bytes, 2))
+		load_2(bytes, out);
+	else if (len == 16 && is_aligned(bytes, 8))
+		load_16(bytes, out);
+	else
 		memcpy(out, bytes, len);
-	}
 }
 
 /* Loads bytes that may lie in several regions and holes. */
@@ -207,7 +253,7 @@ static __attribute__((noinline)) ssize_t load_runs(struct place at, unsigned cha
 {
 	while (len) {
 		size_t here;
-		const unsigned char *bytes = run(at, len, &here);
+		const unsigned char *bytes = run(at, len, &here, &map_of(at)->loaded);
 
 		if (bytes)
 			load_from(bytes, out, here);
@@ -220,19 +266,37 @@ static __attribute__((noinline)) ssize_t load_runs(struct place at, unsigned cha
 	return 0;
 }
 
-static inline ssize_t load(struct place at, unsigned char *out, size_t len)
+static inline struct place place_in(const void *bytes)
 {
-	unsigned char *bytes;
+	struct place at;
 
-	if (!is_whole(at, len, &bytes))
-		return load_runs(at, out, len);
-	load_from(bytes, out, len);
-	return 0;
+	memcpy(&at, bytes, sizeof at);
+	return at;
 }
 
-static __attribute__((noinline)) ssize_t load_many(struct place at, unsigned char *out, size_t len)
+/* How many bytes a read is for, in room for so many. */
+static inline size_t wanted(int what, size_t size)
 {
-	return load(at, out, len);
+	return what == LONG ? size : (size_t)(what - SHORT);
+}
+
+/* Loads bytes from the place that stands in the room for them. */
+static __attribute__((noinline)) ssize_t load_apart(int what, void *room, size_t size)
+{
+	return load_runs(place_in(room), room, wanted(what, size));
+}
+
+/* The same for bytes other than an index, flags or a descriptor. */
+static __attribute__((noinline)) ssize_t load_many(int what, void *room, size_t size)
+{
+	size_t len = wanted(what, size);
+	struct place at = place_in(room);
+	unsigned char *bytes;
+
+	if (!is_whole(&map_of(at)->loaded, at.addr, len, &bytes))
+		return load_apart(what, room, size);
+	memcpy(room, bytes, len);
+	return 0;
 }
 
 /* Sets the bit of each page in which bytes were stored, at least one of them. */
@@ -252,31 +316,36 @@ static inline void store_2(unsigned char *bytes, const unsigned char *in, int or
 	__atomic_store_n((uint16_t *)bytes, all, order);
 }
 
+/* Stores a used entry: the last two bytes are the flags of a packed one. */
+static inline void store_8(unsigned char *bytes, const unsigned char *in)
+{
+	uint32_t first;
+
+	memcpy(&first, in, 4);
+	__atomic_store_n((uint32_t *)bytes, first, __ATOMIC_RELAXED);
+	store_2(bytes + 4, in + 4, __ATOMIC_RELAXED);
+	store_2(bytes + 6, in + 6, __ATOMIC_RELEASE);
+}
+
 /* Stores bytes into one region, in which they stand there. */
 static inline void store_into(unsigned char *bytes, const unsigned char *in, size_t len)
 {
-	if (len == 2 && is_aligned(bytes, 2)) {
+	if (len == 2 && is_aligned(bytes, 2))
 		store_2(bytes, in, __ATOMIC_RELEASE);
-	} else if (len == 8 && is_aligned(bytes, 4)) {
-		uint32_t first;
-
-		memcpy(&first, in, 4);
-		__atomic_store_n((uint32_t *)bytes, first, __ATOMIC_RELAXED);
-		store_2(bytes + 4, in + 4, __ATOMIC_RELAXED);
-		store_2(bytes + 6, in + 6, __ATOMIC_RELEASE);
-	} else {
+	else if (len == 8 && is_aligned(bytes, 4))
+		store_8(bytes, in);
+	else
 		memcpy(bytes, in, len);
-	}
 }
 
 /* Stores bytes that may lie in several regions and holes, and logs them. */
 static __attribute__((noinline)) ssize_t store_runs(struct place at, const unsigned char *in, size_t len)
 {
-	const struct bus_map *map = map_of(at);
+	struct bus_map *map = map_of(at);
 
 	while (len) {
 		size_t here;
-		unsigned char *bytes = run(at, len, &here);
+		unsigned char *bytes = run(at, len, &here, map->log ? NULL : &map->stored);
 
 		if (bytes) {
 			store_into(bytes, in, here);
@@ -290,78 +359,99 @@ static __attribute__((noinline)) ssize_t store_runs(struct place at, const unsig
 	return 0;
 }
 
-/* Whether bytes lie in the region that was found last, and no store is logged; and where they stand then. */
-static inline bool is_plain(struct place at, size_t len, unsigned char **bytes)
+/* The bytes that stand behind their place. */
+static inline const unsigned char *behind(const void *room)
 {
-	return !map_of(at)->log && is_whole(at, len, bytes);
+	return (const unsigned char *)room + sizeof said;
 }
 
-static inline ssize_t store(struct place at, const unsigned char *in, size_t len)
+/* Stores these, and what is loaded next isn't older. */
+static __attribute__((noinline)) ssize_t publish_apart(int what, const void *room)
 {
-	unsigned char *bytes;
-
-	if (!is_plain(at, len, &bytes))
-		return store_runs(at, in, len);
-	store_into(bytes, in, len);
-	return 0;
-}
-
-/* The same, and what is loaded next isn't older. */
-static __attribute__((noinline)) ssize_t publish_runs(struct place at, const unsigned char *in, size_t len)
-{
-	store_runs(at, in, len);
+	store_runs(place_in(room), behind(room), (size_t)(what - PUT));
 	__atomic_thread_fence(__ATOMIC_SEQ_CST);
 	return 0;
 }
 
-/* Stores an index or a used descriptor: what is loaded next isn't older. */
-static inline ssize_t publish(struct place at, const unsigned char *in, size_t len)
+/* Remembers the place of the bytes that come next, or stores these there: bytes other than an index or a used entry. */
+static __attribute__((noinline)) ssize_t say_or_store(int what, const void *bytes, size_t len)
 {
+	if (what == PLACE) {
+		said = place_in(bytes);
+		return 0;
+	}
+	struct place at = said;
+	unsigned char *there;
+
+	if (!is_whole(&map_of(at)->stored, at.addr, len, &there))
+		return store_runs(at, bytes, len);
+	memcpy(there, bytes, len);
+	return 0;
+}
+
+/* Loads an index or flags. */
+static inline ssize_t load_index(int what, void *room, size_t size)
+{
+	struct place at = place_in(room);
 	unsigned char *bytes;
 
-	if (!is_plain(at, len, &bytes))
-		return publish_runs(at, in, len);
-	store_into(bytes, in, len);
+	if (!is_short(&map_of(at)->loaded, at.addr, &bytes) || !is_aligned(bytes, 2))
+		return load_apart(what, room, size);
+	load_2(bytes, room);
+	return 0;
+}
+
+/* Loads a descriptor. */
+static inline ssize_t load_descriptor(int what, void *room, size_t size)
+{
+	struct place at = place_in(room);
+	unsigned char *bytes;
+
+	if (!is_short(&map_of(at)->loaded, at.addr, &bytes) || !is_aligned(bytes, 8))
+		return load_apart(what, room, size);
+	load_16(bytes, room);
+	return 0;
+}
+
+/* Stores an index behind its place: what is loaded next isn't older. */
+static inline ssize_t publish_index(int what, const void *room)
+{
+	struct place at = place_in(room);
+	unsigned char *bytes;
+
+	if (!is_short(&map_of(at)->stored, at.addr, &bytes) || !is_aligned(bytes, 2))
+		return publish_apart(what, room);
+	store_2(bytes, behind(room), __ATOMIC_RELEASE);
 	__atomic_thread_fence(__ATOMIC_SEQ_CST);
 	return 0;
 }
 
-static inline struct place place_in(const void *bytes)
+/* Stores a used entry: what is loaded next isn't older. */
+static inline ssize_t publish_entry(int what, const void *room)
 {
-	struct place at;
+	struct place at = place_in(room);
+	unsigned char *bytes;
 
-	memcpy(&at, bytes, sizeof at);
-	return at;
-}
-
-/* Remembers the place of the bytes that come next. */
-static __attribute__((noinline)) ssize_t say(const void *bytes)
-{
-	said = place_in(bytes);
+	if (!is_short(&map_of(at)->stored, at.addr, &bytes) || !is_aligned(bytes, 4))
+		return publish_apart(what, room);
+	store_8(bytes, behind(room));
+	__atomic_thread_fence(__ATOMIC_SEQ_CST);
 	return 0;
-}
-
-/* Stores bytes at the place that was said. */
-static __attribute__((noinline)) ssize_t store_said(const void *bytes, size_t len)
-{
-	return store(said, bytes, len);
 }
 
 /* Both answer 0, which ends their caller's loop at once: nothing is left to be done, and nobody looks at the answer. */
 ssize_t vscsi_bus_read(int what, void *room, size_t len)
 {
 	if (what == SHORT + 2)
-		return load(place_in(room), room, 2);
-	if (what != LONG)
-		return load_many(place_in(room), room, (size_t)(what - SHORT));
-	return len == 16 ? load(place_in(room), room, 16) : load_many(place_in(room), room, len);
+		return load_index(what, room, len);
+	if (what == SHORT + 16)
+		return load_descriptor(what, room, len);
+	return load_many(what, room, len);
 }
 
 ssize_t vscsi_bus_write(int what, const void *bytes, size_t len)
 {
-	const unsigned char *behind = (const unsigned char *)bytes + sizeof said;
-
-	if (what == PUT)
-		return len == sizeof said + 2 ? publish(place_in(bytes), behind, 2) : publish(place_in(bytes), behind, 8);
-	return what == BYTES ? store_said(bytes, len) : say(bytes);
+	if (what < PUT)
+		return say_or_store(what, bytes, len);
+	return what == PUT + 8 ? publish_entry(what, bytes) : publish_index(what, bytes);
 }

@@ -2,6 +2,8 @@
  * rest to an export of the device. The exports' names are hidden in the finished library. */
 #include "vscsi.h"
 
+#include <string.h>
+
 #include "bus.h"
 
 /* What `src/ranges.rt` tells of changes. */
@@ -18,6 +20,12 @@ struct wanted_unit {
   uint8_t target;
   uint8_t calm;
   uint8_t profile;
+  uint8_t physical_exponent;
+  uint16_t rotation_rate;
+  uint8_t vendor[8], product[16], revision[4], serial[20];
+  uint8_t serial_len;
+  uint8_t has_naa;
+  uint8_t naa[8];
 };
 
 /* What the device exports (`src/exports.rt`). */
@@ -88,10 +96,44 @@ struct wanted_units {
   struct wanted_unit items[UNITS_READ];
 };
 
-/* Reads the units that are wanted, and their profiles, where there are any. Returns false where the device doesn't know the profile of
- * one, and tells of the first of these. */
+/* A unit that says nothing of itself (`Identity::PLAIN`, command_model). */
+static const struct wanted_unit plain = {.rotation_rate = 1, .vendor = "VSCSI   ", .product = "TASK SET DISK   ", .revision = "0001"};
+
+/* Returns how long a text is that ends with a 0 or with its field. */
+static size_t length_of(const char *text, size_t size) {
+  const char *end = memchr(text, 0, size);
+  return end ? (size_t)(end - text) : size;
+}
+
+/* Fills a field of a unit with a text, if there is one, and with spaces behind it. */
+static void fill(uint8_t *field, size_t size, const char *text) {
+  size_t length = length_of(text, size);
+  if (!length) return;
+  memset(field, ' ', size);
+  memcpy(field, text, length);
+}
+
+/* Takes what a unit says of itself. Returns false where no unit may have the last byte, or a narrow one has any. */
+static bool name(struct wanted_unit *unit, const struct vscsi_identity *said) {
+  static const struct vscsi_identity nothing = {.reserved = 0};
+  if (!memcmp(said, &nothing, sizeof nothing)) return true;
+  if (said->reserved || unit->profile == VSCSI_PROFILE_NARROW) return false;
+  fill(unit->vendor, sizeof unit->vendor, said->vendor);
+  fill(unit->product, sizeof unit->product, said->product);
+  fill(unit->revision, sizeof unit->revision, said->revision);
+  unit->serial_len = (uint8_t)length_of(said->serial, sizeof said->serial);
+  memcpy(unit->serial, said->serial, unit->serial_len);
+  unit->has_naa = memcmp(said->naa, nothing.naa, sizeof said->naa) != 0;
+  memcpy(unit->naa, said->naa, sizeof unit->naa);
+  unit->physical_exponent = said->physical_exponent;
+  if (said->rotation_rate) unit->rotation_rate = said->rotation_rate == VSCSI_RATE_NOT_REPORTED ? 0 : said->rotation_rate;
+  return true;
+}
+
+/* Reads the units that are wanted, with their profiles and what they say of themselves, where there is any. Returns false where the
+ * device doesn't know the profile of one, or C alone can tell that one says what it may not, and tells of the first of these. */
 static bool read_units(struct wanted_units *wanted, const struct vscsi_unit *units, size_t count, const uint8_t *profiles,
-                       struct vscsi_fault *fault) {
+                       const struct vscsi_identity *identities, struct vscsi_fault *fault) {
   wanted->count = count < UNITS_READ ? count : UNITS_READ;
   for (size_t place = 0; place < wanted->count; place++) {
     const struct vscsi_unit *unit = &units[place];
@@ -100,18 +142,31 @@ static bool read_units(struct wanted_units *wanted, const struct vscsi_unit *uni
       *fault = (struct vscsi_fault){.place = place, .cause = VSCSI_CAUSE_UNIT_PROFILE, .detail = 0};
       return false;
     }
-    wanted->items[place] =
-        (struct wanted_unit){.blocks = unit->blocks, .lun = unit->lun, .target = unit->target, .calm = unit->calm, .profile = profile};
+    struct wanted_unit *item = &wanted->items[place];
+    *item = plain;
+    item->blocks = unit->blocks;
+    item->lun = unit->lun;
+    item->target = unit->target;
+    item->calm = unit->calm;
+    item->profile = profile;
+  }
+  for (size_t place = 0; identities && place < wanted->count; place++) {
+    if (name(&wanted->items[place], &identities[place])) continue;
+    *fault = (struct vscsi_fault){.place = place, .cause = VSCSI_CAUSE_UNIT_IDENTITY, .detail = 0};
+    return false;
   }
   return true;
 }
 
-/* The sizes of configurations in older headers: without `profiles`, and without `asks`. */
+/* The sizes of configurations in older headers: without `identities`, without `profiles`, and without `asks`. */
+static const size_t size_without_identities = offsetof(struct vscsi_config, identities);
+static const size_t live_size_without_identities = offsetof(struct vscsi_live_config, identities);
 static const size_t size_without_profiles = offsetof(struct vscsi_config, profiles);
 static const size_t live_size_without_profiles = offsetof(struct vscsi_live_config, profiles);
 static const size_t live_size_without_asks = offsetof(struct vscsi_live_config, asks);
 /* A configuration of an older header isn't taken for one of this header. */
 _Static_assert(sizeof(struct vscsi_config) > offsetof(struct vscsi_config, profiles), "room behind the older fields");
+_Static_assert(sizeof(struct vscsi_identity) == 60, "no padding, which any bytes may fill");
 _Static_assert(offsetof(struct vscsi_config, profiles) >= offsetof(struct vscsi_config, pages) + sizeof(uint64_t),
                "no field in older padding");
 _Static_assert(offsetof(struct vscsi_live_config, profiles) >= offsetof(struct vscsi_live_config, asks) + sizeof(void *),
@@ -122,13 +177,22 @@ static const uint8_t *profiles_of(const struct vscsi_config *config) {
 }
 
 static const uint8_t *live_profiles_of(const struct vscsi_live_config *config) {
-  return config->size == sizeof *config ? config->profiles : NULL;
+  return config->size >= live_size_without_identities ? config->profiles : NULL;
+}
+
+static const struct vscsi_identity *identities_of(const struct vscsi_config *config) {
+  return config->size == sizeof *config ? config->identities : NULL;
+}
+
+static const struct vscsi_identity *live_identities_of(const struct vscsi_live_config *config) {
+  return config->size == sizeof *config ? config->identities : NULL;
 }
 
 /* Returns why a configuration can't be handed on, or VSCSI_DONE. */
 static enum vscsi_answer unreadable(const struct vscsi_config *config) {
   if (!config) return VSCSI_NULL;
-  if (config->size != sizeof *config && config->size != size_without_profiles) return VSCSI_BAD_LENGTH;
+  if (config->size != sizeof *config && config->size != size_without_identities && config->size != size_without_profiles)
+    return VSCSI_BAD_LENGTH;
   if ((!config->queues && config->queue_count) || (!config->units && config->unit_count)) return VSCSI_NULL;
   if (is_long(config->queue_count, sizeof no_queue) || is_long(config->unit_count, sizeof *config->units)) return VSCSI_BAD_LENGTH;
   return VSCSI_DONE;
@@ -141,7 +205,7 @@ enum vscsi_answer vscsi_create(struct vscsi *device, const struct vscsi_config *
   if (answer != VSCSI_DONE) return answer;
   if (device->live) return VSCSI_IN_USE;
   if (!fault) fault = &unread;
-  if (!read_units(&units, config->units, config->unit_count, profiles_of(config), fault)) return VSCSI_BAD_CONFIG;
+  if (!read_units(&units, config->units, config->unit_count, profiles_of(config), identities_of(config), fault)) return VSCSI_BAD_CONFIG;
   return (enum vscsi_answer)vscsi_raw_create(device, config->pages, config->features, config->queues ? config->queues : &no_queue,
                                              config->queue_count, units.items, units.count, fault);
 }
@@ -157,7 +221,7 @@ enum vscsi_answer vscsi_create_with(struct vscsi *device, const struct vscsi_con
   if (is_long(config->unit_count, sizeof nothing)) return VSCSI_BAD_LENGTH;
   if (device->live) return VSCSI_IN_USE;
   if (!fault) fault = &unread;
-  if (!read_units(&units, config->units, config->unit_count, profiles_of(config), fault)) return VSCSI_BAD_CONFIG;
+  if (!read_units(&units, config->units, config->unit_count, profiles_of(config), identities_of(config), fault)) return VSCSI_BAD_CONFIG;
   return (enum vscsi_answer)vscsi_raw_create_with(device, config->pages, config->features, config->queues ? config->queues : &no_queue,
                                                   config->queue_count, units.items, units.count, disks ? disks : &nothing, units.count,
                                                   fault);
@@ -267,7 +331,8 @@ static const struct vscsi_region no_region = {0, 0, NULL};
 /* Returns why a configuration of live memory can't be handed on, or VSCSI_DONE. */
 static enum vscsi_answer live_unreadable(const struct vscsi_live_config *config) {
   if (!config) return VSCSI_NULL;
-  if (config->size != sizeof *config && config->size != live_size_without_profiles && config->size != live_size_without_asks)
+  if (config->size != sizeof *config && config->size != live_size_without_identities && config->size != live_size_without_profiles &&
+      config->size != live_size_without_asks)
     return VSCSI_BAD_LENGTH;
   if ((!config->rings && config->ring_count) || (!config->units && config->unit_count)) return VSCSI_NULL;
   if (is_long(config->ring_count, sizeof no_ring) || is_long(config->unit_count, sizeof(struct vscsi_disk))) return VSCSI_BAD_LENGTH;
@@ -294,7 +359,7 @@ enum vscsi_answer vscsi_live_create(struct vscsi_live *device, const struct vscs
   if (answer != VSCSI_DONE) return answer;
   if (vscsi_raw_live_is_there(device)) return VSCSI_IN_USE;
   if (!fault) fault = &unread;
-  if (!read_units(&units, config->units, config->unit_count, live_profiles_of(config), fault)) return VSCSI_BAD_CONFIG;
+  if (!read_units(&units, config->units, config->unit_count, live_profiles_of(config), live_identities_of(config), fault)) return VSCSI_BAD_CONFIG;
   struct bus_map *map = bus_map();
   if (!map) return VSCSI_NO_MEMORY;
   answer = create_over(device, map, config, &units, disks, fault);

@@ -205,6 +205,8 @@ cause_of (config.UnitLun k) = record { cause = 9; place = k; detail = 0 }
 cause_of (config.UnitBlocks k) = record { cause = 10; place = k; detail = 0 }
 cause_of (config.UnitOrder k) = record { cause = 11; place = k; detail = 0 }
 cause_of (config.NoLun0 k) = record { cause = 12; place = k; detail = 0 }
+cause_of (config.UnitIdentity k) = record { cause = 15; place = k; detail = 0 }
+cause_of (config.UnitNaa k) = record { cause = 16; place = k; detail = 0 }
 
 abbrev pub plain_cause : Fault → Cause
 plain_cause f = record { cause = f.cause; place = f.place; detail = f.detail }

@@ -1,7 +1,8 @@
 -- The configuration that C asks for.
-use Rattle.std.specs.Prelude.{ℕ, ◌≡◌, ◌==◌, not, List, map, if◌then◌else◌}
+use Rattle.std.specs.Prelude.{ℕ, ◌≡◌, ◌==◌, not, List, map, Some, None, if◌then◌else◌}
 use Rattle.cdb.specs.declared.profile.Profile.{Profile}
 use Rattle.cdb.specs.declared.profile.Profile.TheVariants.{Narrow, Wide}
+use Rattle.command_model.specs.declared.identity.Identity.{Identity}
 use Rattle.ring_core.specs.declared.layout.Layout.{Layout}
 use Rattle.ring_core.specs.State.{fresh_layout}
 use Rattle.request_intake.specs.declared.inventory.UnitSpec.{UnitSpec}
@@ -15,6 +16,19 @@ layout_of q = fresh_layout q.size q.desc q.driver q.device
 abbrev pub profile_of : ℕ → Profile
 profile_of number = if number == 0 then Narrow else Wide
 
+abbrev pub identity_of : WantedUnit → Identity
+identity_of u =
+    record {
+      vendor = u.vendor;
+      product = u.product;
+      revision = u.revision;
+      serial = u.serial;
+      serial_len = u.serial_len;
+      naa = if u.has_naa == 0 then None else Some u.naa;
+      physical_exponent = u.physical_exponent;
+      rotation_rate = u.rotation_rate;
+    }
+
 abbrev pub spec_of : WantedUnit → UnitSpec
 spec_of u =
     record {
@@ -23,6 +37,7 @@ spec_of u =
       blocks = u.blocks;
       calm = not (u.calm == 0);
       profile = profile_of u.profile;
+      identity = identity_of u;
     }
 
 -- one worker, with room for 64 jobs

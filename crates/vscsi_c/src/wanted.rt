@@ -1,9 +1,10 @@
 //! The device that C wants.
 
 ghost use Rattle.std.specs.Prelude.{◌≡◌, map, IfOk};
-ghost use Rattle.vscsi_c.specs.Wanted.{layout_of, profile_of, spec_of, Asks};
+ghost use Rattle.vscsi_c.specs.Wanted.{layout_of, profile_of, identity_of, spec_of, Asks};
 ghost use Rattle.vscsi_c.specs.Calls.{layout_number as number_of_layout, cause_of, plain_cause};
 
+use command_model::{Identity, SERIAL_BYTES};
 use request_intake::{Profile, UnitSpec};
 use std::alloc::{AllocError, Global};
 use world::{Config, ConfigFault, Layout, LayoutFault};
@@ -33,7 +34,7 @@ impl WantedQueue {
     }
 }
 
-/// A unit that is wanted: the header's `struct vscsi_unit`.
+/// A unit that is wanted: the header's `struct vscsi_unit`, with its profile and its names, as `library/calls.c` hands it on.
 #[repr(C)]
 #[derive(Clone, Copy)]
 pub struct WantedUnit {
@@ -44,6 +45,16 @@ pub struct WantedUnit {
     pub calm: u8,
     /// 0: the narrow profile; else the wide one.
     pub profile: u8,
+    pub physical_exponent: u8,
+    pub rotation_rate: u16,
+    pub vendor: [u8; 8],
+    pub product: [u8; 16],
+    pub revision: [u8; 4],
+    pub serial: [u8; SERIAL_BYTES],
+    pub serial_len: u8,
+    /// 0: there is no NAA designator.
+    pub has_naa: u8,
+    pub naa: [u8; 8],
 }
 
 /// Returns the profile of this number.
@@ -58,6 +69,27 @@ fn profile(number: u8) -> Profile
 }
 
 impl WantedUnit {
+    /// Returns what it says of itself.
+    fn identity(&self) -> Identity
+        ensures { result ≡ identity_of self.now }
+    {
+        let naa = if self.has_naa == 0 {
+            None
+        } else {
+            Some(self.naa)
+        };
+        Identity {
+            vendor: self.vendor,
+            product: self.product,
+            revision: self.revision,
+            serial: self.serial,
+            serial_len: self.serial_len,
+            naa,
+            physical_exponent: self.physical_exponent,
+            rotation_rate: self.rotation_rate,
+        }
+    }
+
     /// Returns it as a specification.
     fn spec(&self) -> UnitSpec
         ensures { result ≡ spec_of self.now }
@@ -68,6 +100,7 @@ impl WantedUnit {
             blocks: self.blocks,
             calm: self.calm != 0,
             profile: profile(self.profile),
+            identity: self.identity(),
         }
     }
 }
@@ -122,6 +155,8 @@ pub(crate) fn fault_of(fault: ConfigFault) -> Fault
         ConfigFault::UnitBlocks(place) => cause(10, place, 0),
         ConfigFault::UnitOrder(place) => cause(11, place, 0),
         ConfigFault::NoLun0(place) => cause(12, place, 0),
+        ConfigFault::UnitIdentity(place) => cause(15, place, 0),
+        ConfigFault::UnitNaa(place) => cause(16, place, 0),
     }
 }
 

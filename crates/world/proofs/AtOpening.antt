@@ -23,7 +23,8 @@ use Rattle.device_model.proofs.Lists.{nothing, same}
 use Rattle.virtqueue.specs.Queue.{opening_ring, opening_queue, placement_of}
 use Rattle.phases.specs.Queue.{with_slot}
 use Rattle.config.specs.declared.config.Config.{Config}
-use Rattle.config.specs.Config.{is_config, is_config_for, has_pages, is_queue, is_unit, has_lun_0, are_queues, are_units, form_of, size_of}
+use Rattle.command_model.specs.Identity.{is_identity}
+use Rattle.config.specs.Config.{is_config, is_config_for, has_pages, is_queue, is_unit, has_lun_0, has_own_naa, are_queues, are_units, form_of, size_of}
 use Rattle.block_store.specs.declared.paged.PagedStore.{PagedStore}
 use Rattle.unit_history.specs.Disks.{opening_over}
 use Rattle.device_steps.specs.Opening.{AreOpening, AreFresh, IsOpeningFor, over_disks, opening_unit}
@@ -208,15 +209,20 @@ sizes_open form memory features layouts queues is small =
 units_named : (units : List UnitSpec) → are_units units ≡ true
     → (length units ≤ 64) × ((k : ℕ) (u : UnitSpec) → slice_get units k ≡ Some u → u.lun ≤ 16383)
 units_named units h =
+    let own = (and_parts (nat_le 1 (length units) && nat_le (length units) 64 && list_all is_unit units
+    && is_rising (map address_of units) && list_all (λ u. has_lun_0 units u.target) units)
+    (list_all (has_own_naa units) units) h).0 in
     let a = (and_parts (nat_le 1 (length units) && nat_le (length units) 64 && list_all is_unit units
-    && is_rising (map address_of units)) (list_all (λ u. has_lun_0 units u.target) units) h).0 in
+    && is_rising (map address_of units)) (list_all (λ u. has_lun_0 units u.target) units) own).0 in
     let b = (and_parts (nat_le 1 (length units) && nat_le (length units) 64 && list_all is_unit units)
     (is_rising (map address_of units)) a).0 in
     let c = and_parts (nat_le 1 (length units) && nat_le (length units) 64) (list_all is_unit units) b in (
       below (length units) 64 (and_parts (nat_le 1 (length units)) (nat_le (length units) 64) c.0).1,
       λ k u at.
           let one = each_passes is_unit units c.1 k u at in
-          let two = (and_parts (nat_le u.lun 16383 && nat_le 1 u.blocks) (nat_le u.blocks (2 ^ 40)) one).0 in
+          let sized = (and_parts (nat_le u.lun 16383 && nat_le 1 u.blocks && nat_le u.blocks (2 ^ 40))
+          (is_identity u.identity) one).0 in
+          let two = (and_parts (nat_le u.lun 16383 && nat_le 1 u.blocks) (nat_le u.blocks (2 ^ 40)) sized).0 in
           below u.lun 16383 (and_parts (nat_le u.lun 16383) (nat_le 1 u.blocks) two).0,
     )
 

@@ -1,7 +1,11 @@
 -- A device that is served round by round, each in a phase of its own.
-use Rattle.std.proofs.Common.{◌≡◌, ℕ, suc, ◌+◌, Bool, true, false, List, [], ◌∷◌, ◌++◌, append_assoc, append-nil, length, map, Option, Some, None, Result, Ok, Err, refl, sym, ap, ◌∙◌, subst, inl, inr, arith}
+use Rattle.std.proofs.Common.{◌≡◌, ℕ, suc, ◌+◌, Bool, true, false, List, [], ◌∷◌, ◌++◌, append_assoc, append-nil, length, map, Option, Some, None, Result, Ok, Err, refl, sym, ap, ◌∙◌, subst, inl, inr, ◌≤◌, ◌<◌, ◌==◌, ◌*◌, ◌^◌, ◌%◌, true≢false, arith}
 use Rattle.std.specs.List.{sum_by}
+use Rattle.std.specs.Int.{bit_at}
+use Rattle.std.proofs.lemmas.Bool.Decides.{nat_tests}
 use Rattle.std.proofs.lemmas.List.Sums.{sum_by-cons}
+use Rattle.std.proofs.lemmas.Nat.{one_shl}
+use Rattle.std.proofs.lemmas.Nat.Bits.{bit_at-pow_same, bit_at-pow_other}
 use Rattle.foundation.specs.declared.NoMemory.{NoMemory}
 use Rattle.guest_mem.specs.Stores.{Store}
 use Rattle.ring_core.specs.Writes.{Write}
@@ -10,19 +14,20 @@ use Rattle.device_model.specs.Transitions.{Transition, event_of, action_of}
 use Rattle.device_model.specs.After.{after}
 use Rattle.device_model.specs.Happens.{Happens, Occurrence, Reached, world_of}
 use Rattle.device_model.specs.Turns.{count_changes}
+use Rattle.device_model.specs.Events.{Event}
 use Rattle.device_model.specs.Order.{IsNextOf, IsQuietOf, IsAtRestOf}
 use Rattle.device_model.specs.Settling.{SettlesOf}
-use Rattle.device_model.specs.Live.{Turn, with_memory, live_world, occurrence_at, LiveRuns, LiveSettlesOf, IsShortLive}
+use Rattle.device_model.specs.Live.{Turn, with_memory, live_world, occurrence_at, IsNextLive, LiveRuns, LiveSettlesOf, IsShortLive}
 use Rattle.device_model.proofs.Choosing.{next_or_quiet_of}
 use Rattle.device_model.proofs.Runs.{settles_of_to_rest}
-use Rattle.device_steps.specs.Settling.{order_for, ServesBy, MayWantFirst}
+use Rattle.device_steps.specs.Settling.{asks, order_for, ServesBy, MayWantFirst}
 use Rattle.device_steps.specs.Apart.{PlainDevice, standing, Stored}
 use Rattle.device_steps.specs.Sound.{IsReached, IsSteady}
 use Rattle.world.specs.LiveWorld.{PlainLive, IsSteadyIn, writes_along}
 use Rattle.device_steps.specs.Serving.{ServesInPhase, writes_by}
-use Rattle.world.specs.LiveServing.{ServesLiveBy, HasNone, HasNext, Looks, event_at, GoesOnServedLive, StoresServed}
-use Rattle.device_steps.specs.Inner.Cursors.{Denies, NoneBefore, TurnsNextIn}
-use Rattle.world.specs.Inner.Rounds.{TurnsRound, LeavesBy, SettledLive, SettlesNext}
+use Rattle.world.specs.LiveServing.{LiveRound, AsksWithin, narrow_rounds, RoundServes, ServesLiveBy, HasNone, HasNext, Looks, event_at, GoesOnServedLive, StoresServed}
+use Rattle.device_steps.specs.Inner.Cursors.{AsksOnly, Denies, NoneBefore, TurnsNextIn}
+use Rattle.world.specs.Inner.Rounds.{TurnsRound, LeavesBy, SettledLive, SettlesNext, RoundOn, RowServes, RowSettles, RowBehind}
 use Rattle.device_steps.specs.declared.cursor.Cursor.{Cursor}
 use Rattle.device_steps.specs.declared.cursor.Progress.{Progress}
 use Rattle.world.proofs.AnyChain.{next_live}
@@ -110,11 +115,17 @@ record SettledAt (asked : ℕ → Bool) (w : PlainWorld) (count : ℕ) (ws : Lis
 one_more : (n k : ℕ) → n ≡ k → suc n ≡ k + 1
 one_more n k e = omega (arith, e)
 
-settle_one : (asked : ℕ → Bool) (w : PlainWorld) (n : ℕ) (ws : List Write) (x : PlainWorld) (found : List ℕ) (t : Transition)
-    → SettledAt asked w n ws x → length found ≡ length x.memory → Happens t (with_memory found x)
+-- what is next of fewer queues is next of more
+widen_next : (asked wide : ℕ → Bool) (w : PlainWorld) (e : Event) → ((q : ℕ) → asked q ≡ true → wide q ≡ true)
+    → IsNextLive asked w e → IsNextLive wide w e
+widen_next asked wide w e within (inl h) = inl h
+widen_next asked wide w e within (inr h) = let (quiet, chain) = h in let (q, on, is) = chain in inr (quiet, (q, within q on, is))
+
+settle_one : (asked wide : ℕ → Bool) → ((q : ℕ) → asked q ≡ true → wide q ≡ true) → (w : PlainWorld) (n : ℕ) (ws : List Write) (x : PlainWorld) (found : List ℕ) (t : Transition)
+    → SettledAt wide w n ws x → length found ≡ length x.memory → Happens t (with_memory found x)
     → IsNextOf asked (with_memory found x) (event_of t)
-    → SettledAt asked w (n + 1) (ws ++ (action_of t).writes) (after t (with_memory found x))
-settle_one asked w n ws x found t s long happens next =
+    → SettledAt wide w (n + 1) (ws ++ (action_of t).writes) (after t (with_memory found x))
+settle_one asked wide within w n ws x found t s long happens next =
     let back = sym s.is in
     record {
       turns = record { found = found; transition = t } ∷ s.turns;
@@ -122,8 +133,9 @@ settle_one asked w n ws x found t s long happens next =
         s.settles,
         subst (λ (z : PlainWorld). length found ≡ length z.memory) back long,
         subst (λ (z : PlainWorld). Happens t (with_memory found z)) back happens,
-        next_live asked found (live_world w s.turns) (event_of t)
-            (subst (λ (z : PlainWorld). IsNextOf asked (with_memory found z) (event_of t)) back next),
+        widen_next asked wide (live_world w s.turns) (event_of t) within
+            (next_live asked found (live_world w s.turns) (event_of t)
+            (subst (λ (z : PlainWorld). IsNextOf asked (with_memory found z) (event_of t)) back next)),
       );
       is = ap (λ (z : PlainWorld). after t (with_memory found z)) s.is;
       counted = one_more (length s.turns) n s.counted;
@@ -134,25 +146,25 @@ add_one : (n k : ℕ) → (n + suc k) + 1 ≡ n + suc (suc k)
 add_one n k = omega arith
 
 -- the events that were done on what was found
-settle_all : (asked : ℕ → Bool) (w : PlainWorld) (n : ℕ) (ws : List Write) (x : PlainWorld) (found : List ℕ) (t : Transition)
-    (past : List Transition) → SettledAt asked w n ws x → length found ≡ length x.memory
+settle_all : (asked wide : ℕ → Bool) → ((q : ℕ) → asked q ≡ true → wide q ≡ true) → (w : PlainWorld) (n : ℕ) (ws : List Write) (x : PlainWorld) (found : List ℕ) (t : Transition)
+    (past : List Transition) → SettledAt wide w n ws x → length found ≡ length x.memory
     → SettlesOf asked (with_memory found x) (t ∷ past)
-    → SettledAt asked w (n + suc (length past)) (ws ++ writes_by (t ∷ past)) (world_of (with_memory found x) (t ∷ past))
-settle_all asked w n ws x found t [] s long h = settle_one asked w n ws x found t s long h.1 h.2
-settle_all asked w n ws x found t (p ∷ past) s long h =
+    → SettledAt wide w (n + suc (length past)) (ws ++ writes_by (t ∷ past)) (world_of (with_memory found x) (t ∷ past))
+settle_all asked wide within w n ws x found t [] s long h = settle_one asked wide within w n ws x found t s long h.1 h.2
+settle_all asked wide within w n ws x found t (p ∷ past) s long h =
     let y = world_of (with_memory found x) (p ∷ past) in
     let us = writes_by (p ∷ past) in
-    let before = settle_all asked w n ws x found p past s long h.0 in
-    subst (λ vs. SettledAt asked w (n + suc (suc (length past))) vs (after t y)) (append_assoc ws us (action_of t).writes)
-    (subst (λ k. SettledAt asked w k ((ws ++ us) ++ (action_of t).writes) (after t y)) (add_one n (length past))
-    (settle_one asked w (n + suc (length past)) (ws ++ us) y y.memory t before refl h.1 h.2))
+    let before = settle_all asked wide within w n ws x found p past s long h.0 in
+    subst (λ vs. SettledAt wide w (n + suc (suc (length past))) vs (after t y)) (append_assoc ws us (action_of t).writes)
+    (subst (λ k. SettledAt wide w k ((ws ++ us) ++ (action_of t).writes) (after t y)) (add_one n (length past))
+    (settle_one asked wide within w (n + suc (length past)) (ws ++ us) y y.memory t before refl h.1 h.2))
 
-settle_by : (P Q R : List Write → Type 0) (both : (us ws : List Write) → P us → Q ws → R (us ++ ws)) (asked : ℕ → Bool)
-    (shared : Bool) (size : ℕ) (w : PlainWorld) (n k : ℕ) (found left : List ℕ) (v u : PlainDevice)
-    → length found ≡ size → length left ≡ size → SettledLive asked P shared size w n v → (ts : List Transition)
+settle_by : (P Q R : List Write → Type 0) (both : (us ws : List Write) → P us → Q ws → R (us ++ ws)) (asked wide : ℕ → Bool)
+    → ((q : ℕ) → asked q ≡ true → wide q ≡ true) → (shared : Bool) (size : ℕ) (w : PlainWorld) (n k : ℕ) (found left : List ℕ) (v u : PlainDevice)
+    → length found ≡ size → length left ≡ size → SettledLive wide P shared size w n v → (ts : List Transition)
     → SettlesOf asked (standing shared found v) ts → standing shared left u ≡ world_of (standing shared found v) ts
-    → length ts ≡ k → Q (writes_by ts) → SettledLive asked R shared size w (n + k) u
-settle_by P Q R both asked shared size w n k found left v u lf ll s [] h is many made =
+    → length ts ≡ k → Q (writes_by ts) → SettledLive wide R shared size w (n + k) u
+settle_by P Q R both asked wide within shared size w n k found left v u lf ll s [] h is many made =
     let same : u ≡ v = ap device_of is in
     let none : n ≡ n + k = omega (arith, many) in
     let us = writes_along (map occurrence_at s.turns) in
@@ -165,11 +177,11 @@ settle_by P Q R both asked shared size w n k found left v u lf ll s [] h is many
       counted = s.counted ∙ none;
       stores = subst R (append-nil us) (both us [] s.stores made);
     }
-settle_by P Q R both asked shared size w n k found left v u lf ll s (t ∷ past) h is many made =
+settle_by P Q R both asked wide within shared size w n k found left v u lf ll s (t ∷ past) h is many made =
     let us = writes_along (map occurrence_at s.turns) in
-    let at : SettledAt asked w n us (standing shared s.stood v) =
+    let at : SettledAt wide w n us (standing shared s.stood v) =
     record { turns = s.turns; settles = s.settles; is = s.is; counted = s.counted; wrote = refl } in
-    let all = settle_all asked w n us (standing shared s.stood v) found t past at (lf ∙ sym s.long) h in
+    let all = settle_all asked wide within w n us (standing shared s.stood v) found t past at (lf ∙ sym s.long) h in
     record {
       turns = all.turns;
       settles = all.settles;
@@ -182,18 +194,18 @@ settle_by P Q R both asked shared size w n k found left v u lf ll s (t ∷ past)
 
 -- a phase goes on
 pub settle_phase : {X S : Type 0} (known : X → S) (storing : S → List Store → S)
-    (both : (s : S) (a b : List Store) → storing (storing s a) b ≡ storing s (a ++ b)) (asked : ℕ → Bool) (shared : Bool)
-    (size : ℕ) (may_be : X → List ℕ → Type 0) (first x : X) (d : PlainDevice) (count : ℕ) (y : X) (d' : PlainDevice)
+    (both : (s : S) (a b : List Store) → storing (storing s a) b ≡ storing s (a ++ b)) (asked wide : ℕ → Bool)
+    → ((q : ℕ) → asked q ≡ true → wide q ≡ true) → (shared : Bool) (size : ℕ) (may_be : X → List ℕ → Type 0) (first x : X) (d : PlainDevice) (count : ℕ) (y : X) (d' : PlainDevice)
     → ((m : List ℕ) → may_be x m → length m ≡ size) → ((m : List ℕ) → may_be y m → length m ≡ size)
     → ((m : List ℕ) × may_be y m) → ServesInPhase shared may_be (Stored known storing) asked x d count y d'
-    → (w : PlainWorld) (n : ℕ) → SettledLive asked (Stored known storing first x) shared size w n d
-    → SettledLive asked (Stored known storing first y) shared size w (n + count) d'
-settle_phase known storing both asked shared size may_be first x d count y d' sized sized' some served w n s =
+    → (w : PlainWorld) (n : ℕ) → SettledLive wide (Stored known storing first x) shared size w n d
+    → SettledLive wide (Stored known storing first y) shared size w (n + count) d'
+settle_phase known storing both asked wide within shared size may_be first x d count y d' sized sized' some served w n s =
     phase_keeps asked shared size (Stored known storing)
-    (λ j k v. SettledLive asked (Stored known storing first j) shared size w k v)
+    (λ j k v. SettledLive wide (Stored known storing first j) shared size w k v)
     (λ j l i k found left v u lf ll h serves made.
     settle_by (Stored known storing first j) (Stored known storing j l) (Stored known storing first l)
-    (λ us ws p q. both_known known storing both first j l us ws p q) asked shared size w i k found left v u lf ll h
+    (λ us ws p q. both_known known storing both first j l us ws p q) asked wide within shared size w i k found left v u lf ll h
     serves.transitions serves.settles serves.is serves.counted made) may_be x d count y d' sized sized' some served n s
 
 -- nothing was done yet
@@ -228,24 +240,139 @@ settled_look known storing none asked shared size w n d d' x z y same still s =
 
 -- Rounds
 
-pub rounds_none : {X : Type 0} (shared : Bool) (begins : X → X → Type 0) (may_be : X → List ℕ → Type 0)
-    (stored : X → X → List Write → Type 0) (asked : ℕ → Bool) (x : PlainLive X) → ServesLiveBy shared begins may_be stored asked x 0 x
-rounds_none shared begins may_be stored asked x = record { counts = []; rounds = refl; counted = refl }
+steps_more : (n : ℕ) (r : LiveRound) (past : List LiveRound) → sum_by (λ (j : LiveRound). j.steps) past ≡ n
+    → sum_by (λ (j : LiveRound). j.steps) (r ∷ past) ≡ n + r.steps
+steps_more n r past e = omega (arith, sum_by-cons (λ (j : LiveRound). j.steps) r past, e)
 
-counts_more : (k n : ℕ) (counts : List ℕ) → sum_by (λ (j : ℕ). j) counts ≡ n
-    → sum_by (λ (j : ℕ). j) (k ∷ counts) ≡ n + k
-counts_more k n counts e = omega (arith, sum_by-cons (λ (j : ℕ). j) k counts, e)
+none_more : (n : ℕ) → n ≡ n + 0
+none_more n = omega arith
 
-pub rounds_next : {X : Type 0} (shared : Bool) (begins : X → X → Type 0) (may_be : X → List ℕ → Type 0)
-    (stored : X → X → List Write → Type 0) (asked : ℕ → Bool) (x z : PlainLive X) (n k : ℕ) (begun : X) (y : PlainLive X) → ServesLiveBy shared begins may_be stored asked x n z
-    → begins z.memory begun → stored z.memory begun [] → ServesInPhase shared may_be stored asked begun z.device k y.memory y.device
-    → ServesLiveBy shared begins may_be stored asked x (n + k) y
-rounds_next shared begins may_be stored asked x z n k begun y h b none served =
-    record {
-      counts = k ∷ h.counts;
-      rounds = (z, begun, h.rounds, b, none, served);
-      counted = counts_more k n h.counts h.counted;
-    }
+sum_again : (n j k : ℕ) → (n + j) + k ≡ n + (j + k)
+sum_again n j k = omega arith
+
+few_none : 0 ≤ 15
+few_none = omega arith
+
+module _ {X : Type 0} (shared : Bool) (begins : X → X → Type 0) (may_be : X → List ℕ → Type 0)
+    (stored : X → X → List Write → Type 0) where
+  pub rounds_none : (asked : ℕ → Bool) (x : PlainLive X) → ServesLiveBy shared begins may_be stored asked x 0 x
+  rounds_none asked x = record { rounds = []; serves = refl; counted = refl }
+
+  -- so many events, and so many rounds in a row that may have left out a queue
+  abbrev pub RoundsTo : (ℕ → Bool) → PlainLive X → ℕ → ℕ → PlainLive X → Type 0
+  RoundsTo asked first n j y =
+      (t : ServesLiveBy shared begins may_be stored asked first n y) × (narrow_rounds t.rounds ≡ j)
+
+  -- one round more, which asked all queues of the call
+  pub rounds_all : (asked : ℕ → Bool) (first x y : PlainLive X) (n k : ℕ) → ServesLiveBy shared begins may_be stored asked first n x
+      → RoundServes shared begins may_be stored asked x k y → RoundsTo asked first (n + k) 0 y
+  rounds_all asked first x y n k h did =
+      let r : LiveRound = record { steps = k; asks = asked; all = true } in
+      let within : AsksWithin asked r = record { within = λ q on. on; all = λ on q. refl } in (
+        record {
+          rounds = r ∷ h.rounds;
+          serves = (x, h.serves, within, few_none, did);
+          counted = steps_more n r h.rounds h.counted;
+        },
+        refl,
+      )
+
+  -- one that asked a queue of it alone
+  pub rounds_one : (asked : ℕ → Bool) (first x y : PlainLive X) (number n k j : ℕ) → asked number ≡ true → j + 1 ≤ 15
+      → RoundsTo asked first n j x → RoundOn shared begins may_be stored number x k y → RoundsTo asked first (n + k) (j + 1) y
+  rounds_one asked first x y number n k j on few (h, row) (asks, only, did) =
+      let r : LiveRound = record { steps = k; asks = asks; all = false } in
+      let within : AsksWithin asked r =
+      record {
+        within = λ q is. subst (λ (i : ℕ). asked i ≡ true) (sym (only q is)) on;
+        all = λ all. absurd (true≢false (sym all));
+      } in (
+        record {
+          rounds = r ∷ h.rounds;
+          serves = (x, h.serves, within, subst (λ (i : ℕ). i + 1 ≤ 15) (sym row) few, did);
+          counted = steps_more n r h.rounds h.counted;
+        },
+        ap (λ (i : ℕ). i + 1) row,
+      )
+
+  -- a row of so many rounds of one queue
+  abbrev pub RowSoFar : ℕ → PlainLive X → ℕ → ℕ → PlainLive X → Type 0
+  RowSoFar number x count j y =
+      (asked : ℕ → Bool) → asked number ≡ true → (first : PlainLive X) (n : ℕ) → RoundsTo asked first n 0 x
+      → RoundsTo asked first (n + count) j y
+
+  pub row_none : (number : ℕ) (x : PlainLive X) → RowSoFar number x 0 0 x
+  row_none number x = λ asked on first n h. subst (λ (i : ℕ). RoundsTo asked first i 0 x) (none_more n) h
+
+  pub row_next : (number : ℕ) (x z y : PlainLive X) (count k j : ℕ) → j + 1 ≤ 15 → RowSoFar number x count j z
+      → RoundOn shared begins may_be stored number z k y → RowSoFar number x (count + k) (j + 1) y
+  row_next number x z y count k j few h did =
+      λ asked on first n none.
+      subst (λ (i : ℕ). RoundsTo asked first i (j + 1) y) (sum_again n count k)
+      (rounds_one asked first z y number (n + count) k j on few (h asked on first n none) did)
+
+  pub row_serves : (number : ℕ) (x y : PlainLive X) (count j : ℕ) → RowSoFar number x count j y
+      → RowServes shared begins may_be stored number x count y
+  row_serves number x y count j h = λ asked on first n t none. (h asked on first n (t, none)).0
+
+  -- a round that asked all queues, with no row behind it
+  pub behind_none : (asked : ℕ → Bool) (size : ℕ) (x : PlainLive X) (one : ℕ)
+      → RowBehind shared begins may_be stored asked size x one one x
+  behind_none asked size x one = record { serves = λ first n h none. h; settles = λ first w n h. h }
+
+  -- with a row
+  pub behind_row : (asked : ℕ → Bool) (size number : ℕ) (x y : PlainLive X) (one count : ℕ) → asked number ≡ true
+      → RowServes shared begins may_be stored number x count y → RowSettles stored number shared size x count y
+      → RowBehind shared begins may_be stored asked size x one (one + count) y
+  behind_row asked size number x y one count on serves settles =
+      record {
+        serves = λ first n h none.
+            subst (λ (i : ℕ). ServesLiveBy shared begins may_be stored asked first i y) (sum_again n one count)
+            (serves asked on first (n + one) h none);
+        settles = λ first w n h.
+            subst (λ (i : ℕ). SettledLive asked (stored first y.memory) shared size w i y.device) (sum_again n one count)
+            (settles asked on first w (n + one) h);
+      }
+
+  -- and the round before it
+  pub turn_row : (asked : ℕ → Bool) (size : ℕ) (x z y : PlainLive X) (one all : ℕ)
+      → RoundServes shared begins may_be stored asked x one z → RowBehind shared begins may_be stored asked size z one all y
+      → (first : PlainLive X) (n : ℕ) → ServesLiveBy shared begins may_be stored asked first n x
+      → ServesLiveBy shared begins may_be stored asked first (n + all) y
+  turn_row asked size x z y one all did row first n h =
+      let (t, none) = rounds_all asked first x z n one h did in row.serves first n t none
+
+-- Settling of a row
+
+pub row_settles_none : {X : Type 0} (stored : X → X → List Write → Type 0) (number : ℕ) (shared : Bool) (size : ℕ) (x : PlainLive X)
+    → RowSettles stored number shared size x 0 x
+row_settles_none stored number shared size x =
+    λ asked on first w n h.
+    subst (λ (i : ℕ). SettledLive asked (stored first x.memory) shared size w i x.device) (none_more n) h
+
+pub row_settles_next : {X : Type 0} (stored : X → X → List Write → Type 0) (number : ℕ) (shared : Bool) (size : ℕ) (x z y : PlainLive X)
+    (count k : ℕ) → RowSettles stored number shared size x count z → RowSettles stored number shared size z k y
+    → RowSettles stored number shared size x (count + k) y
+row_settles_next stored number shared size x z y count k h one =
+    λ asked on first w n s.
+    subst (λ (i : ℕ). SettledLive asked (stored first y.memory) shared size w i y.device) (sum_again n count k)
+    (one asked on first w (n + count) (h asked on first w n s))
+
+pub row_settles_look : {X S : Type 0} (known : X → S) (storing : S → List Store → S) (none : (s : S) → storing s [] ≡ s)
+    (number : ℕ) (shared : Bool) (size : ℕ) (x y : PlainLive X) → y.device ≡ x.device → Stored known storing x.memory y.memory []
+    → RowSettles (Stored known storing) number shared size x 0 y
+row_settles_look known storing none number shared size x y same still =
+    λ asked on first w n h.
+    subst (λ (i : ℕ). SettledLive asked (Stored known storing first y.memory) shared size w i y.device) (none_more n)
+    (settled_look known storing none asked shared size w n x.device y.device first x.memory y.memory same still h)
+
+-- a round of one queue goes on
+pub row_settles_one : {X : Type 0} (stored : X → X → List Write → Type 0) (asks : ℕ → Bool) (number : ℕ) (shared : Bool) (size : ℕ)
+    (x : PlainLive X) (s : Progress) (y : PlainLive X) → ((q : ℕ) → asks q ≡ true → q ≡ number)
+    → SettlesNext stored asks shared size x (Ok (Some s)) y → RowSettles stored number shared size x s.steps y
+row_settles_one stored asks number shared size x s y only next =
+    λ asked on first w n h.
+    next asked (λ q is. subst (λ (i : ℕ). asked i ≡ true) (sym (only q is)) on) first w n h
 
 -- Where nothing is left, and where something is
 
@@ -308,9 +435,9 @@ pub settle_round : {X S : Type 0} (known : X → S) (storing : S → List Store 
     → SettlesNext (Stored known storing) asked shared size (record { memory = x; device = d }) r
     (record { memory = y; device = d' })
 settle_round known storing both asked shared size may_be most x d begun (Ok (Some s)) y d' same sized sized' some t =
-    λ first w n h.
-    settle_phase known storing both asked shared size may_be first begun d s.steps y d' sized sized' some t.serves w n
-    (settled_maps asked (Stored known storing first x) (Stored known storing first begun) shared size w n d d refl
+    λ wide within first w n h.
+    settle_phase known storing both asked wide within shared size may_be first begun d s.steps y d' sized sized' some t.serves w n
+    (settled_maps wide (Stored known storing first x) (Stored known storing first begun) shared size w n d d refl
     (λ ws made. same ∙ made) h)
 settle_round known storing both asked shared size may_be most x d begun (Ok None) y d' same sized sized' some t = tt
 settle_round known storing both asked shared size may_be most x d begun (Err e) y d' same sized sized' some t = tt
@@ -424,3 +551,17 @@ pub goes_on_served : AllArePromised → AllGoOn → AllLiveRuns → AllLiveServe
 goes_on_served promised go live served change short stored asked shared size d n d' reached settled =
     λ a b la lb.
     (stores_served promised go live served change short stored asked shared size d n d' reached settled a b la lb).0
+
+-- One bit
+
+only_pow : (k q : ℕ) (b : Bool) → (q == k) ≡ b → (bit_at (2 ^ k) q == 1) ≡ true → q ≡ k
+only_pow k q true e is = grind (arith, nat_tests, e)
+only_pow k q false e is =
+    let other : bit_at (2 ^ k) q ≡ 0 = bit_at-pow_other k q (grind (arith, nat_tests, e)) in
+    absurd (true≢false (sym is ∙ ap (λ (n : ℕ). n == 1) other))
+
+-- a bit asks its queue alone
+pub one_bit : (k : ℕ) → k < 32 → AsksOnly (asks (1 * 2 ^ k % 2 ^ 32)) k
+one_bit k few =
+    subst (λ (n : ℕ). AsksOnly (asks n) k) (sym (one_shl k 32 few))
+    (record { on = ap (λ (n : ℕ). n == 1) (bit_at-pow_same k); only = λ q is. only_pow k q (q == k) refl is })

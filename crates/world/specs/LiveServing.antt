@@ -1,5 +1,6 @@
--- Serving a device on a memory that its guest writes at any time: in rounds, each in a phase of its own.
-use Rattle.std.specs.Prelude.{ℕ, ◌≡◌, ◌≤◌, ◌<◌, ◌+◌, ◌⊎◌, ◌^◌, Bool, true, false, List, [], ◌∷◌, length, map, Result, Ok, Err}
+-- Serving a device on a memory that its guest writes at any time: in rounds, each in a phase of its own, and of queues of its
+-- own.
+use Rattle.std.specs.Prelude.{ℕ, ◌≡◌, ◌≤◌, ◌<◌, ◌+◌, ◌⊎◌, ◌^◌, Bool, true, false, if◌then◌else◌, List, [], ◌∷◌, length, map, Result, Ok, Err}
 use Rattle.std.specs.List.{sum_by}
 use Rattle.foundation.specs.declared.NoMemory.{NoMemory}
 use Rattle.ring_core.specs.Writes.{Write}
@@ -14,22 +15,7 @@ use Rattle.device_steps.specs.Serving.{ServesInPhase}
 use Rattle.world.specs.LiveWorld.{PlainLive, GoesOnFrom, writes_along}
 use Rattle.world.specs.declared.served.Served.{Served}
 
--- Phase by phase
-
--- so many events in each round, the newest first; each round in a phase that began with it, before which nothing was stored
-abbrev pub ServesRounds : {X : Type 0} → Bool → (X → X → Type 0) → (X → List ℕ → Type 0) → (X → X → List Write → Type 0)
-    → (ℕ → Bool) → PlainLive X → List ℕ → PlainLive X → Type 0
-ServesRounds {X} shared begins may_be stored asked x [] y = y ≡ x
-ServesRounds {X} shared begins may_be stored asked x (count ∷ past) y =
-    (z : PlainLive X) × (begun : X) × ServesRounds shared begins may_be stored asked x past z × begins z.memory begun
-    × stored z.memory begun [] × ServesInPhase shared may_be stored asked begun z.device count y.memory y.device
-
--- so many events in all
-pub record ServesLiveBy {X : Type 0} (shared : Bool) (begins : X → X → Type 0) (may_be : X → List ℕ → Type 0)
-    (stored : X → X → List Write → Type 0) (asked : ℕ → Bool) (x : PlainLive X) (count : ℕ) (y : PlainLive X) : Type 0 where
-  pub counts : List ℕ
-  pub rounds : ServesRounds shared begins may_be stored asked x counts y
-  pub counted : sum_by (λ (n : ℕ). n) counts ≡ count
+-- What a phase finds
 
 -- nothing was changed or stored in a phase of its own, by which this holds whichever bytes may stand in memory
 pub record Looks {X : Type 0} (shared : Bool) (begins : X → X → Type 0) (may_be : X → List ℕ → Type 0)
@@ -52,6 +38,49 @@ HasNone asked w = IsQuietOf asked w × IsAtRestOf asked w
 -- memory may be refused for what is first
 abbrev pub WantsFirst : (ℕ → Bool) → PlainWorld → Type 0
 WantsFirst asked w = MayWantFirst w (order_for asked w)
+
+-- Round by round
+
+-- a round: so many events, the queues that it asked for new chains, and whether these were all that the call asks
+pub record LiveRound : Type 0 where
+  pub steps : ℕ
+  pub asks : ℕ → Bool
+  pub all : Bool
+
+-- it asked queues of the call alone, and all of them where it says so
+pub record AsksWithin (asked : ℕ → Bool) (r : LiveRound) : Type 0 where
+  pub within : (q : ℕ) → r.asks q ≡ true → asked q ≡ true
+  pub all : r.all ≡ true → (q : ℕ) → r.asks q ≡ asked q
+
+-- how many rounds in a row, up to the newest, which stands first, may have left out a queue of the call
+abbrev pub narrow_rounds : List LiveRound → ℕ
+narrow_rounds [] = 0
+narrow_rounds (r ∷ past) = if r.all then 0 else narrow_rounds past + 1
+
+-- so many events in a phase that began with the round, before which nothing was stored; or none, where a phase found nothing
+-- left, or may be refused memory for what is first
+abbrev pub RoundServes : {X : Type 0} → Bool → (X → X → Type 0) → (X → List ℕ → Type 0) → (X → X → List Write → Type 0)
+    → (ℕ → Bool) → PlainLive X → ℕ → PlainLive X → Type 0
+RoundServes {X} shared begins may_be stored asks x count y =
+    ((begun : X) × begins x.memory begun × stored x.memory begun []
+    × ServesInPhase shared may_be stored asks begun x.device count y.memory y.device)
+    ⊎ ((count ≡ 0) × (Looks shared begins may_be stored (HasNone asks) x y
+    ⊎ Looks shared begins may_be stored (WantsFirst asks) x y))
+
+-- these rounds, the newest first; of 16 in a row one at least asked all queues of the call
+abbrev pub ServesRounds : {X : Type 0} → Bool → (X → X → Type 0) → (X → List ℕ → Type 0) → (X → X → List Write → Type 0)
+    → (ℕ → Bool) → PlainLive X → List LiveRound → PlainLive X → Type 0
+ServesRounds {X} shared begins may_be stored asked x [] y = y ≡ x
+ServesRounds {X} shared begins may_be stored asked x (r ∷ past) y =
+    (z : PlainLive X) × ServesRounds shared begins may_be stored asked x past z × AsksWithin asked r
+    × (narrow_rounds (r ∷ past) ≤ 15) × RoundServes shared begins may_be stored r.asks z r.steps y
+
+-- so many events in all
+pub record ServesLiveBy {X : Type 0} (shared : Bool) (begins : X → X → Type 0) (may_be : X → List ℕ → Type 0)
+    (stored : X → X → List Write → Type 0) (asked : ℕ → Bool) (x : PlainLive X) (count : ℕ) (y : PlainLive X) : Type 0 where
+  pub rounds : List LiveRound
+  pub serves : ServesRounds shared begins may_be stored asked x rounds y
+  pub counted : sum_by (λ (r : LiveRound). r.steps) rounds ≡ count
 
 -- served so far, at most so many events: either all were taken and an event is next, or nothing is left
 pub record ServesLive {X : Type 0} (shared : Bool) (begins : X → X → Type 0) (may_be : X → List ℕ → Type 0)

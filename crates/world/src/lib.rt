@@ -17,8 +17,8 @@ mod views;
 mod world;
 
 pub use config::{
-    ACCEPTED_FEATURES, CHANGE, Config, ConfigFault, EVENT_IDX, FEATURES, INDIRECT_DESC, Layout,
-    LayoutFault, Profile, RING_PACKED, StartFault, UnitSpec, VERSION_1, form,
+    ACCEPTED_FEATURES, CHANGE, Config, ConfigFault, EVENT_IDX, FEATURES, INDIRECT_DESC, Identity,
+    Layout, LayoutFault, Profile, RING_PACKED, StartFault, UnitSpec, VERSION_1, form,
 };
 pub use device_model::Event;
 pub use live_world::LiveWorld;

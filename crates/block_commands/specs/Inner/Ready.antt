@@ -1,8 +1,10 @@
 -- Which blocks a command needs in memory, and which need room.
-use Rattle.std.specs.Prelude.{◌≡◌, ℕ, Bool, true, false, ◌&&◌, List, Ok, Err, IsTrue}
+use Rattle.std.specs.Prelude.{ℕ, Bool, true, false, ◌&&◌, List, Ok, Err, IsTrue}
 use Rattle.std.specs.List.{list_any}
 use Rattle.cdb.specs.declared.commands.Command.{Command}
-use Rattle.cdb.specs.declared.commands.Command.TheVariants.{Read, Write, WriteSame, Unmap, CompareAndWrite}
+use Rattle.cdb.specs.declared.commands.Command.TheVariants.{Read, Write, WriteSame, Unmap, CompareAndWrite, Wide}
+use Rattle.cdb.specs.declared.wide_commands.WideCommand.{WideCommand}
+use Rattle.cdb.specs.declared.wide_commands.WideCommand.TheVariants.{Verify}
 use Rattle.block_store.specs.Blocks.{is_within}
 use Rattle.block_store.specs.Inner.Pages.{is_beside}
 use Rattle.command_model.specs.Data.{Answer}
@@ -25,10 +27,16 @@ is_near_to blocks lba count b = is_in_range blocks lba count && is_beside lba co
 abbrev pub is_near_any : List (ℕ × ℕ) → ℕ → Bool
 is_near_any taken b = list_any (λ d. is_beside d.0 d.1 b) taken
 
--- whether a command reads block b of a unit of so many blocks
+-- whether a command of the wide profile alone reads block b of a unit of so many blocks
+abbrev pub is_read_wide : ℕ → WideCommand → ℕ → Bool
+is_read_wide blocks (Verify sent count lba) b = is_inside blocks lba count b
+is_read_wide blocks _ b = false
+
+-- whether a command does
 abbrev pub is_read : ℕ → Command → ℕ → Bool
 is_read blocks (Read lba count) b = is_inside blocks lba count b
 is_read blocks (CompareAndWrite lba count) b = is_inside blocks lba count b
+is_read blocks (Wide command) b = is_read_wide blocks command b
 is_read blocks _ b = false
 
 -- whether a command with this data may write over it

@@ -3,10 +3,9 @@ use Rattle.std.specs.Prelude.{ℕ, ◌≡◌, Bool, List, Result, Ok, Err, IsTru
 use Rattle.sense.specs.declared.Sense.{Sense}
 use Rattle.foundation.specs.declared.NoMemory.{NoMemory}
 use Rattle.cdb.specs.declared.commands.Command.{Command}
-use Rattle.command_model.specs.Data.{Answer}
+use Rattle.command_model.specs.Data.{Answer, done}
 use Rattle.command_model.specs.PlainReply.{plain_of, success, refusal}
 use Rattle.command_model.specs.declared.reply.Reply.{Reply}
-use Rattle.command_model.specs.Replies.{done}
 use Rattle.block_commands.specs.declared.failure.Failure.{Failure}
 use Rattle.block_commands.specs.declared.failure.Failure.TheVariants.{Refused, WantOfMemory}
 

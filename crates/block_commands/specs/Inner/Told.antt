@@ -7,10 +7,11 @@ use Rattle.block_commands.specs.declared.facts.UnitFacts.{UnitFacts}
 abbrev pub facts_of : UnitFacts → ℕ → Facts
 facts_of u blocks =
     record {
-      target = u.target;
-      lun = u.lun;
+      target = u.address.target;
+      lun = u.address.lun;
       luns = u.luns.items;
       capacity = blocks;
       pending = u.pending;
       profile = u.profile;
+      identity = u.identity;
     }

@@ -1,5 +1,5 @@
 -- A job waits for pages of its unit's disk, is woken, and is taken again.
-use Rattle.std.specs.Prelude.{ℕ, ◌≡◌, ◌++◌, true, List, [], ◌∷◌, drop}
+use Rattle.std.specs.Prelude.{ℕ, ◌≡◌, ◌<◌, ◌++◌, true, List, [], ◌∷◌, drop}
 use Rattle.unit_model.specs.Tasks.{Entry}
 use Rattle.unit_model.specs.Lawful as history
 use Rattle.unit_model.specs.Jobs.{PlainJob}
@@ -33,8 +33,9 @@ waking w = w.woken ++ w.aside
 abbrev pub after_wake : PlainWorld → PlainWorld
 after_wake w = record w { aside = []; woken = waking w }
 
--- the first job that is to be tried again, and a seat whose hand is free
+-- the first job that is to be tried again, and a worker's seat whose hand is free
 pub record Resumes (w : PlainWorld) (k : ℕ) (x : PlainJob) : Type 0 where
+  pub worker : k < w.workers
   pub free : HasHand w k Hand.Empty
   pub rest : List PlainJob
   pub first : w.woken ≡ x ∷ rest
@@ -44,8 +45,9 @@ abbrev pub after_resume : ℕ → PlainJob → PlainWorld → PlainWorld
 after_resume k x w =
     record w { seats = change (with_hand (Hand.Taken x)) k w.seats; woken = drop 1 w.woken }
 
--- a job is to be tried again
+-- a job is to be tried again, and a worker's hand is free
 pub record MayResume (w : PlainWorld) (k : ℕ) : Type 0 where
+  pub worker : k < w.workers
   pub free : HasHand w k Hand.Empty
   pub job : PlainJob
   pub rest : List PlainJob

@@ -67,13 +67,22 @@ NoFetchBelow asked n w = (i : ℕ) → i < n → asked i ≡ true → Applies w 
 abbrev pub NoFetch : (ℕ → Bool) → PlainWorld → Type 0
 NoFetch asked w = NoFetchBelow asked (length w.queues) w
 
+-- this queue alone is asked
+pub record AsksOnly (asked : ℕ → Bool) (n : ℕ) : Type 0 where
+  pub on : asked n ≡ true
+  pub only : (q : ℕ) → asked q ≡ true → q ≡ n
+
 -- no event before the place in the order applies
 abbrev pub NoneBefore : Cursor → PlainWorld → Type 0
 NoneBefore cursor.Start w = ⊤
 NoneBefore (cursor.Direct n) w = NoStart w × NoDirectBelow n w
 NoneBefore cursor.Seats w = NoStart w × NoDirect w
 NoneBefore (cursor.Enter n) w = NoStart w × NoDirect w × NoSeat w × NoEnterBelow n w
-NoneBefore cursor.Fetch w = NoStart w × NoDirect w × NoSeat w × NoEnter w
+NoneBefore (cursor.Fetch n) w = NoStart w × NoDirect w × NoSeat w × NoEnter w
+
+-- the place is the first queue's next chain
+abbrev pub IsFetchPlace : Cursor → Type 0
+IsFetchPlace c = (n : ℕ) × (c ≡ cursor.Fetch n)
 
 -- the first of so many queues whose answer may be ready, where none before the cursor applies; of so many seats, the
 -- first that may have a step; and the first queue on which a request may have arrived
@@ -82,21 +91,21 @@ direct_from cursor.Start queues = 0
 direct_from (cursor.Direct n) queues = n
 direct_from cursor.Seats queues = queues
 direct_from (cursor.Enter n) queues = queues
-direct_from cursor.Fetch queues = queues
+direct_from (cursor.Fetch n) queues = queues
 
 abbrev pub seat_from : Cursor → ℕ → ℕ
 seat_from cursor.Start seats = 0
 seat_from (cursor.Direct n) seats = 0
 seat_from cursor.Seats seats = 0
 seat_from (cursor.Enter n) seats = seats
-seat_from cursor.Fetch seats = seats
+seat_from (cursor.Fetch n) seats = seats
 
 abbrev pub enter_from : Cursor → ℕ → ℕ
 enter_from cursor.Start queues = 0
 enter_from (cursor.Direct n) queues = 0
 enter_from cursor.Seats queues = 0
 enter_from (cursor.Enter n) queues = n
-enter_from cursor.Fetch queues = queues
+enter_from (cursor.Fetch n) queues = queues
 
 -- nor one before the first fetch
 abbrev pub NoneBeforeFetch : PlainWorld → Type 0
@@ -149,11 +158,11 @@ pub record MayServe (i : ℕ) (w : PlainWorld) : Type 0 where
   pub handed_off : OffIs w 0 []
   pub room : 0 < w.limit
 
--- what was done of a request at once, and where to look then: it only entered, or was served to its end
-abbrev pub served_of : Option Bool → ℕ → Progress
-served_of None jobs = record { next = cursor.Start; steps = 2 }
-served_of (Some left) zero = record { next = cursor.Fetch; steps = 7 }
-served_of (Some left) (suc jobs) = record { next = cursor.Seats; steps = 7 }
+-- what was done at once of a request of this queue, and where to look then: it only entered, or was served to its end
+abbrev pub served_of : Option Bool → ℕ → ℕ → Progress
+served_of None jobs queue = record { next = cursor.Start; steps = 2 }
+served_of (Some left) zero queue = record { next = cursor.Fetch queue; steps = 7 }
+served_of (Some left) (suc jobs) queue = record { next = cursor.Seats; steps = 7 }
 
 -- In a memory that others may write too
 

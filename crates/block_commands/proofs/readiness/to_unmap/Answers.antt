@@ -1,4 +1,4 @@
-use Rattle.std.proofs.Common.{◌≡◌, true, false, length, refl, sym, ◌∙◌, arith}
+use Rattle.std.proofs.Common.{◌≡◌, true, false, length, sym, ◌∙◌, arith}
 use Rattle.std.proofs.lemmas.Bool.Decides.{nat_tests}
 use Rattle.block_commands.proofs.Unmapping.{second, descriptors-none, unmap_answer-too_much}
 use Rattle.block_commands.proofs.readiness.to_unmap.Goals as goal

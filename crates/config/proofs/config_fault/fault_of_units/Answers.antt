@@ -1,5 +1,5 @@
 use Rattle.std.proofs.Common.{sym, rules}
-use Rattle.config.specs.Config.{is_unit, has_lun_0}
+use Rattle.config.specs.Config.{is_unit, has_lun_0, has_own_naa}
 use Rattle.config.proofs.Faults.{fails, within, all, of_unit, not_all}
 use Rattle.config.proofs.config_fault.fault_of_units.Goals as goal
 
@@ -14,10 +14,6 @@ pub returns-in-Some-first_lacking-clause-none : goal.returns-in-Some-first_lacki
 returns-in-Some-first_lacking-clause-none c =
     let units = c.args.units.now in rw (not_all (λ u. has_lun_0 units u.target) units _ (sym c.in-Some-first_lacking.ensures)) (search rules)
 
-pub returns-in-None-clause-none : goal.returns-in-None-clause-none
-returns-in-None-clause-none c =
-    let units = c.args.units.now in rw (all (λ u. has_lun_0 units u.target) units (sym c.in-None.ensures)) (rw (all is_unit units (sym c.in_default.ensures)) (search rules))
-
 pub returns-in-Some-first_fall-clause-cause : goal.returns-in-Some-first_fall-clause-cause
 returns-in-Some-first_fall-clause-cause c =
     let units = c.args.units.now in ((search rules, all is_unit units (sym c.in_default.ensures)), search rules)
@@ -25,3 +21,18 @@ returns-in-Some-first_fall-clause-cause c =
 pub returns-in-Some-first_lacking-clause-cause : goal.returns-in-Some-first_lacking-clause-cause
 returns-in-Some-first_lacking-clause-cause c =
     let units = c.args.units.now in ((search rules, all is_unit units (sym c.in_default.ensures)), search rules, search rules)
+
+pub returns-in-Some-first_sharing-clause-none : goal.returns-in-Some-first_sharing-clause-none
+returns-in-Some-first_sharing-clause-none c =
+    let units = c.args.units.now in rw (not_all (has_own_naa units) units _ (sym c.in-Some-first_sharing.ensures)) (search rules)
+
+pub returns-in-Some-first_sharing-clause-cause : goal.returns-in-Some-first_sharing-clause-cause
+returns-in-Some-first_sharing-clause-cause c =
+    let units = c.args.units.now in
+    ((search rules, all is_unit units (sym c.in_default.ensures)), search rules, all (λ u. has_lun_0 units u.target) units (sym c.in_default-first_lacking.ensures), search rules)
+
+pub returns-in-None-clause-none : goal.returns-in-None-clause-none
+returns-in-None-clause-none c =
+    let units = c.args.units.now in
+    rw (all (has_own_naa units) units (sym c.in-None.ensures))
+    (rw (all (λ u. has_lun_0 units u.target) units (sym c.in_default-first_lacking.ensures)) (rw (all is_unit units (sym c.in_default.ensures)) (search rules)))

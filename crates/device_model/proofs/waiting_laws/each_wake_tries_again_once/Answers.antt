@@ -8,6 +8,9 @@ returns-clause-waits c = aside_moves
 pub returns-clause-again : goal.returns-clause-again
 returns-clause-again c = woken_moves
 
+pub returns-clause-worker : goal.returns-clause-worker
+returns-clause-worker c = λ w k x h. h.worker
+
 pub returns-clause-wake : goal.returns-clause-wake
 returns-clause-wake c = λ w. refl
 

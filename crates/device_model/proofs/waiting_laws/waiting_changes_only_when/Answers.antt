@@ -10,7 +10,9 @@ returns-clause-aside c =
       units = refl;
       function = refl;
       buffers = refl;
+      missed = refl;
       waiting = refl;
+      tells = refl;
     }
 
 pub returns-clause-woken : goal.returns-clause-woken
@@ -22,7 +24,9 @@ returns-clause-woken c =
       units = refl;
       function = refl;
       buffers = refl;
+      missed = refl;
       waiting = refl;
+      tells = refl;
     }
 
 pub returns-clause-taken : goal.returns-clause-taken
@@ -34,5 +38,7 @@ returns-clause-taken c =
       units = refl;
       function = refl;
       buffers = refl;
+      missed = refl;
       waiting = refl;
+      tells = refl;
     }

@@ -354,8 +354,8 @@ returns-else-place-len-clause-turns g c =
     let each = done.ensures.serves behind.0 behind.1 in
     let left = each.2 in
     let last_kept = kept_at each.0 left.0 behind.0 each.1 left.2 in
-    let next = (served_of done.result n).next in
-    let steps = steps_are done.result n in
+    let next = (served_of done.result n c.number-from.result).next in
+    let steps = steps_are done.result n c.number-from.result in
     rw (← c.self.view_is)
     (subst (λ (r : Progress). ServesNextIn shared may_be stored asked c.args.most x0 v r y v') (sym c.progress_of.ensures)
     (record {
@@ -378,7 +378,7 @@ returns-else-place-len-clause-turns g c =
             FollowsSeen asked later seen (standing shared found v1) (later_of done.result) (standing shared left v'))
             (λ found left seen was h. (kept_at found left seen was h).follows) done.ensures.serves;
       }));
-      before = λ m. before_any shared left.0 m v' next last_kept.before;
+      before = λ m. before_any shared left.0 m v' next (last_kept.before c.number-from.result);
     }))
 
 pub returns-in-Err-clause-room : goal.returns-in-Err-clause-room

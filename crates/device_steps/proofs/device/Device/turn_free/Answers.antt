@@ -37,7 +37,8 @@ returns c =
     alone_by (of_seat k) (Event.Take k) d u c.take.result c.take.new.self same tt
     (λ shared m sound.
     let none = stages.free (standing shared m d) k c.requires.free in
-    let p = (alone_idle shared m d d (Event.Put k) c.put.result u c.if-put.false refl sound c.put.ensures).1 in (
-      (λ a. inr (none.leave, inr (none.answer, inr (none.commit, inr (p, inl (a, refl)))))),
-      (λ never. (none.leave, (none.answer, (none.commit, (p, (never, (stages.none_resumes (standing shared m d) k refl, tt))))))),
+    let p = (alone_idle shared m d d (Event.Put k) c.put.result u c.if-put.false refl sound c.put.ensures).1 in
+    let q = stages.none_resumes (standing shared m d) k refl in (
+      (λ a. inr (none.leave, inr (none.answer, inr (none.commit, inr (p, inr (q, inl (a, refl))))))),
+      (λ never. (none.leave, (none.answer, (none.commit, (p, (q, (never, tt))))))),
     )) c.take.ensures

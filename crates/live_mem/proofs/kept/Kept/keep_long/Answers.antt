@@ -30,5 +30,8 @@ invariant_of-self c =
       above = free_stays t.spans.items ss t.long.bytes kept addr out t.all k t.high (2 ^ 64) t.high (2 ^ 64) t.above (omega arith) (omega arith) (λ p l h. behind addr n p (omega (arith, l, e.above)));
       free = free_stays t.spans.items ss t.long.bytes kept addr out t.all k t.free_from t.free_to t.free_from t.free_to t.free (omega arith) (omega arith) (λ p l h. e.apart p l h);
       inside = t.inside;
+      ordered = t.ordered;
+      unread = t.unread;
+      on_one_side = t.on_one_side;
       roomy = omega (arith, t.roomy, c.push_reserved.ensures.capacity);
     }

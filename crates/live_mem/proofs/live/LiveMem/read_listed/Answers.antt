@@ -10,20 +10,19 @@ use Rattle.live_mem.proofs.live.LiveMem.read_listed.Goals as goal
 pub returns-then-not-free-clause-room : goal.returns-then-not-free-clause-room
 returns-then-not-free-clause-room g c = λ n h.
     let f = c.takes_free-free in
-    c.read_again.ensures.room n (same_room c.args.self.now.kept f.new.self (n + 1) f.ensures.spans h)
+    c.read_again-then-not-free.ensures.room n (same_room c.args.self.now.kept f.new.self (n + 1) f.ensures.spans h)
 
 pub invariant_of-self-2-clause-faithful : goal.invariant_of-self-2-clause-faithful
 invariant_of-self-2-clause-faithful g c =
     let s = c.args.self.now in
     let f = c.takes_free-free.ensures in
-    let out = c.put_over.new.out in
+    let out = c.load.new.out in
     let k = rw (f.spans, f.bytes) at c.keep.ensures.kept in
     λ p d. rw c.load.ensures.heard
     (kept_loaded s.kept.spans.items c.keep.new.self.spans.items s.kept.long.bytes c.keep.new.self.long.bytes c.args.addr out s.kept.all k (scattered_at s.scattered) (heard s.bus) c.load.new.out
-    (sym c.put_over.ensures.len)
+    refl
     (λ i lt.
-    c.put_over.ensures.over i (omega (arith, lt, c.put_over.ensures.len))
-    ∙ sym (c.if-not-free.ensures.free refl (c.args.addr + i) (scattered_at s.scattered (c.args.addr + i) (get_or c.load.new.out i 0)) (omega arith) (omega (arith, lt, c.put_over.ensures.len))))
+    sym (c.if-not-free.ensures.free refl (c.args.addr + i) (scattered_at s.scattered (c.args.addr + i) (get_or c.load.new.out i 0)) (omega arith) (omega (arith, lt)) ∙ c.if-not-is_bare.ensures refl (c.args.addr + i) (get_or c.load.new.out i 0)))
     s.faithful p d)
 
 pub invariant_of-self-2-clause-bytes_loaded : goal.invariant_of-self-2-clause-bytes_loaded
@@ -46,10 +45,9 @@ returns-clause-loads g c =
     let s = c.args.self.now in
     inl (record {
       fresh = c.load.new.out;
-      long = sym c.put_over.ensures.len;
+      long = refl;
       asked = c.load.ensures.heard;
       are = λ i lt.
-          c.put_over.ensures.over i (omega (arith, lt, c.put_over.ensures.len))
-          ∙ sym (c.if-not-free.ensures.free refl (c.args.addr + i) (scattered_at s.scattered (c.args.addr + i) (get_or c.load.new.out i 0)) (omega arith) (omega (arith, lt, c.put_over.ensures.len)))
+          sym (c.if-not-free.ensures.free refl (c.args.addr + i) (scattered_at s.scattered (c.args.addr + i) (get_or c.load.new.out i 0)) (omega arith) (omega (arith, lt)) ∙ c.if-not-is_bare.ensures refl (c.args.addr + i) (get_or c.load.new.out i 0))
           ∙ s.faithful (c.args.addr + i) (get_or c.load.new.out i 0);
     })

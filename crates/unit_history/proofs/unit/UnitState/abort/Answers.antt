@@ -38,9 +38,9 @@ invariant_of-self-2 c =
 pub returns-clause-step : goal.returns-clause-step
 returns-clause-step c =
     rw (← c.self.view_is)
-    (steps_is _ (Step.Abort c.args.rule) _ _ _ _ _ _ (may_abort c.self.invariant.kept c.args.rule)
+    (steps_is _ (Step.Abort c.args.rule) _ _ _ _ _ _ _ _ (may_abort c.self.invariant.kept c.args.rule)
     (c.push.ensures.steps ∙ ap (λ w. Step.Abort c.args.rule ∷ w) c.make_way.ensures.steps)
-    (ap parked_of c.mark.ensures.tasks ∙ parked_abort _ _ _ _ _ _ _ c.args.rule c.self.invariant.kept) (c.push.ensures.keeps ∙ c.make_way.ensures.keeps))
+    (ap parked_of c.mark.ensures.tasks ∙ parked_abort _ _ _ _ _ _ _ c.args.rule c.self.invariant.kept) (c.push.ensures.keeps ∙ c.make_way.ensures.keeps) refl)
 
 pub returns-clause-out : goal.returns-clause-out
 returns-clause-out c =

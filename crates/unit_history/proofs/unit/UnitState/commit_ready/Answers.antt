@@ -1,4 +1,4 @@
-use Rattle.std.proofs.Common.{◌≡◌, ap, sym, subst, ◌∙◌, refl}
+use Rattle.std.proofs.Common.{◌≡◌, not, ap, sym, subst, ◌∙◌, refl}
 use Rattle.unit_model.specs.Seen.{finished}
 use Rattle.unit_history.specs.Inner.Parts.{AreBehind}
 use Rattle.unit_history.proofs.Basing.{based_on, behind_moved, ran_folds, ran_sized}
@@ -9,7 +9,7 @@ use Rattle.unit_history.specs.Fields.{opening_of}
 use Rattle.unit_history.specs.Inner.Performing.{performed_of, told, step_for}
 use Rattle.task_set.specs.Inner.Tasks.{task_at, seen_of}
 use Rattle.unit_history.proofs.Keeping.{has_room, is_ready, told_is, task_at_alive}
-use Rattle.unit_history.proofs.Committing.{cannot_none, cannot_turn, is_of, is_aborted, keep_run, commits_run}
+use Rattle.unit_history.proofs.Committing.{cannot_none, cannot_turn, is_of, is_aborted, keep_run, commits_run, waits_for}
 use Rattle.unit_history.proofs.Noting.{recorded_run}
 use Rattle.unit_history.proofs.unit.UnitState.commit_ready.Goals as goal
 
@@ -56,7 +56,7 @@ invariant_of-self-in-Ready c =
           (keep_run c.self.invariant.kept c.ticket-ticket.result c.in-Some.task.now.seen.entry c.keeps_replies-keeps.result
           (facts_of (told c.self.inside.facts c.self.inside.attentions) (disks.size_of c.self.inside.store)) (option_map performed_of c.in-Ok.performed) _ _ _
           (is_ready c.self.invariant.kept c.ticket-ticket.result c.in-Some.task.now at turns.1 turns.2 turns.3)
-          (told_is c.self.invariant.kept c.self.inside.facts (disks.size_of c.self.inside.store) refl refl refl refl c.self.invariant.sized)
+          (told_is c.self.invariant.kept c.self.inside.facts (disks.size_of c.self.inside.store) refl refl refl refl refl c.self.invariant.sized)
           (rw (c.command-command.ensures, c.data-bytes.ensures.data) at c.in-Ok.ensures.performed) c.record_run.ensures.room);
       based =
           based_on _ _ n _ (step_for c.ticket-ticket.result _) c.self.inside.log.steps _ (seen_of c.self.inside.tasks) _ c.self.invariant.based (ran_folds c.ticket-ticket.result _)
@@ -102,10 +102,17 @@ returns-in-Ok-clause-step c =
       c.perform_if_ready.ensures.facts,
       c.ticket-ticket.ensures.entry,
     )
-    (commits_run c.self.invariant.kept c.args.job.now c.in-Some.task.now.seen.entry c.self.inside.log.keeps
+    (commits_run c.self.invariant.kept c.args.job.now c.in-Some.task.now.seen.entry c.self.inside.log.keeps _ _
     (facts_of (told c.self.inside.facts c.self.inside.attentions) (disks.size_of c.self.inside.store)) (option_map performed_of c.in-Ok.performed)
-    (disks.blocks_of c.perform_if_ready.new.store) c.perform_if_ready.new.attentions
+    (disks.blocks_of c.perform_if_ready.new.store) c.perform_if_ready.new.attentions (ap not c.perform_if_ready.ensures.kind)
     (is_of c.self.invariant.kept c.args.job.now c.in-Some.task.now at turns.0)
     (is_ready c.self.invariant.kept c.args.job.now.entry.ticket c.in-Some.task.now at turns.1 turns.2 turns.3)
-    (told_is c.self.invariant.kept c.self.inside.facts (disks.size_of c.self.inside.store) refl refl refl refl c.self.invariant.sized)
+    (told_is c.self.invariant.kept c.self.inside.facts (disks.size_of c.self.inside.store) refl refl refl refl refl c.self.invariant.sized)
     (rw keeps (rw (c.command-command.ensures, c.data-bytes.ensures.data) at c.in-Ok.ensures.performed)))
+
+pub returns-in_default-perform_if_ready-clause-waits : goal.returns-in_default-perform_if_ready-clause-waits
+returns-in_default-perform_if_ready-clause-waits c =
+    let at = ap (λ t. task_at t c.self.inside.tasks) (sym c.ticket-ticket.ensures.entry) ∙ sym c.task.ensures ∙ ap option_copied c.in-Some.is in
+    rw (← c.self.view_is, c.perform_if_ready.ensures.facts)
+    (waits_for c.self.invariant.kept c.args.job.now c.in-Some.task.now _ _ _ at c.in-Ready.ensures
+    (ap not c.in_default-perform_if_ready.ensures.backed) (ap not c.perform_if_ready.ensures.kind))

@@ -77,7 +77,7 @@ returns-in-Err c =
     let steps : c.push.new.self.steps ≡ Step.Full c.args.arrival.entry.ticket ∷ c.self.inside.log.steps =
     c.push.ensures.steps ∙ ap (λ n. Step.Full n ∷ c.make_way.new.log.steps) t ∙ ap (λ w. Step.Full c.args.arrival.entry.ticket ∷ w) c.in-Ok-make_way.ensures.steps in
     rw (← c.self.view_is, c.in-Err.ensures.full, full.1)
-    (enters_full c.self.invariant.kept c.args.arrival _ _ _ (sym c.address.ensures ∙ c.if-not-has_address.ensures.yes refl) full.0 (subst (λ (n : Ticket). next_number n.queue c.self.inside.log.steps ≤ n.number) t le) steps
+    (enters_full c.self.invariant.kept c.args.arrival _ _ _ _ (c.if-not-is_named.ensures.yes refl) full.0 (subst (λ (n : Ticket). next_number n.queue c.self.inside.log.steps ≤ n.number) t le) steps
     (c.push.ensures.keeps ∙ c.in-Ok-make_way.ensures.keeps))
 
 pub returns-in-Ok-enter : goal.returns-in-Ok-enter
@@ -89,7 +89,7 @@ returns-in-Ok-enter c =
     c.push-in-Ok-enter.ensures.steps ∙ ap (λ e. Step.Enter e ∷ c.make_way.new.log.steps) c.recorded_entry-entered.ensures
     ∙ ap (λ w. Step.Enter c.args.arrival.entry ∷ w) c.in-Ok-make_way.ensures.steps in
     rw (c.of.ensures, ← c.self.view_is, entered.1)
-    (enters_task c.self.invariant.kept c.args.arrival c.in-Ok-enter.job c.len-place.result _ _ _
-    (sym c.address.ensures ∙ c.if-not-has_address.ensures.yes refl) entered.0
+    (enters_task c.self.invariant.kept c.args.arrival c.in-Ok-enter.job c.len-place.result _ _ _ _
+    (c.if-not-is_named.ensures.yes refl) entered.0
     (subst (λ (n : Ticket). next_number n.queue c.self.inside.log.steps ≤ n.number) t le) c.in-Ok-enter.ensures.job steps
     (c.push-in-Ok-enter.ensures.keeps ∙ c.in-Ok-make_way.ensures.keeps))

@@ -52,8 +52,8 @@ returns-clause-step c =
     let t = c.ticket-ticket.result in
     let may = may_leave c.self.invariant.kept t c.in-Some.task.now (sym c.task.ensures ∙ ap (λ w. option_copied w) c.in-Some.is) (sym c.is_ended.ensures ∙ c.if-not-is_ended.false) in
     rw (← c.self.view_is, ← c.ticket-ticket.ensures)
-    (steps_is _ _ _ _ _ _ _ _ may c.push.ensures.steps
-    (ap parked_of c.leave.ensures.tasks ∙ parked_leave _ _ _ _ _ _ _ t c.self.invariant.kept may) c.push.ensures.keeps)
+    (steps_is _ _ _ _ _ _ _ _ _ _ may c.push.ensures.steps
+    (ap parked_of c.leave.ensures.tasks ∙ parked_leave _ _ _ _ _ _ _ t c.self.invariant.kept may) c.push.ensures.keeps refl)
 
 pub returns-clause-out : goal.returns-clause-out
 returns-clause-out c =

@@ -39,9 +39,9 @@ invariant_of-self-2 c =
 pub returns-clause-step : goal.returns-clause-step
 returns-clause-step c =
     rw (← c.self.view_is)
-    (steps_is _ (Step.Reset c.args.code) _ _ _ _ _ _ (may_reset c.self.invariant.kept c.args.code)
+    (steps_is _ (Step.Reset c.args.code) _ _ _ _ _ _ _ _ (may_reset c.self.invariant.kept c.args.code)
     (c.push.ensures.steps ∙ ap (λ w. Step.Reset c.args.code ∷ w) c.make_way.ensures.steps)
-    (ap parked_of c.mark.ensures.tasks ∙ parked_reset _ _ _ _ _ _ _ c.args.code c.self.invariant.kept) (c.push.ensures.keeps ∙ c.make_way.ensures.keeps))
+    (ap parked_of c.mark.ensures.tasks ∙ parked_reset _ _ _ _ _ _ _ c.args.code c.self.invariant.kept) (c.push.ensures.keeps ∙ c.make_way.ensures.keeps) refl)
 
 pub returns-clause-out : goal.returns-clause-out
 returns-clause-out c =

@@ -1,4 +1,4 @@
-use Rattle.std.proofs.Common.{◌≡◌, ◌≤◌, ◌∷◌, true, refl, sym, ap, ◌∙◌, arith, cond, nat_lt, min}
+use Rattle.std.proofs.Common.{◌≡◌, ◌≤◌, ◌∷◌, true, not, refl, sym, ap, ◌∙◌, arith, cond, nat_lt, min}
 use Rattle.block_store.specs.Blocks.{zero_block}
 use Rattle.backed_store.specs.Disks as disks
 use Rattle.unit_model.specs.Contents.{is_capacity}
@@ -42,6 +42,6 @@ pub returns-clause-step : goal.returns-clause-step
 returns-clause-step c =
     let is : is_capacity c.args.blocks ≡ true = sym c.is_capacity.ensures ∙ c.if-not-is_capacity.false in
     rw (← c.self.view_is)
-    (steps_is _ (Step.Resize c.args.blocks) _ _ _ _ _ _ (may_resize c.self.invariant.kept c.args.blocks is)
+    (steps_is _ (Step.Resize c.args.blocks) _ _ _ _ _ _ _ _ (may_resize c.self.invariant.kept c.args.blocks is)
     (c.push.ensures.steps ∙ ap (λ w. Step.Resize c.args.blocks ∷ w) c.make_way.ensures.steps)
-    (parked_resize c.self.inside.log.steps c.self.inside.tasks c.args.blocks) (c.push.ensures.keeps ∙ c.make_way.ensures.keeps))
+    (parked_resize c.self.inside.log.steps c.self.inside.tasks c.args.blocks) (c.push.ensures.keeps ∙ c.make_way.ensures.keeps) (ap not c.resize.ensures.kind))

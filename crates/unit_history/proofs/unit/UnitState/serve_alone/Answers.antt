@@ -1,4 +1,4 @@
-use Rattle.std.proofs.Common.{◌≡◌, ◌≤◌, ◌+◌, ◌∷◌, false, ap, sym, ◌∙◌, arith, subst, refl}
+use Rattle.std.proofs.Common.{◌≡◌, ◌≤◌, ◌+◌, ◌∷◌, false, not, ap, sym, ◌∙◌, arith, subst, refl}
 use Rattle.block_commands.specs.Inner.Told.{facts_of}
 use Rattle.backed_store.specs.Disks as disks
 use Rattle.ring_core.specs.declared.log.Ticket.{Ticket}
@@ -44,7 +44,7 @@ invariant_of-self-2 g c =
           c.self.invariant.kept (no_tasks u.tasks (omega (arith, c.len.ensures.value, c.if-len-gt0.false))) c.args.arrival.now
           c.came.new.self le came (left + 2) (omega (arith, room, less))
           (facts_of (told u.facts u.attentions) (disks.size_of u.store)) (unkept c.run_and_answer-ran.result) (disks.blocks_of c.run_and_answer-ran.new.store)
-          c.run_and_answer-ran.new.attentions (told_is c.self.invariant.kept u.facts (disks.size_of u.store) refl refl refl refl c.self.invariant.sized)
+          c.run_and_answer-ran.new.attentions (told_is c.self.invariant.kept u.facts (disks.size_of u.store) refl refl refl refl refl c.self.invariant.sized)
           performed c.push_three.new.self.steps steps
           (left + 1) left (omega (arith)) (omega (arith)));
       based =
@@ -61,7 +61,7 @@ invariant_of-self-2 g c =
           c.self.invariant.kept (no_tasks u.tasks (omega (arith, c.len.ensures.value, c.if-len-gt0.false))) c.args.arrival.now
           c.came.new.self le came (left + 2) (omega (arith, room, less))
           (facts_of (told u.facts u.attentions) (disks.size_of u.store)) (unkept c.run_and_answer-ran.result) (disks.blocks_of c.run_and_answer-ran.new.store)
-          c.run_and_answer-ran.new.attentions (told_is c.self.invariant.kept u.facts (disks.size_of u.store) refl refl refl refl c.self.invariant.sized)
+          c.run_and_answer-ran.new.attentions (told_is c.self.invariant.kept u.facts (disks.size_of u.store) refl refl refl refl refl c.self.invariant.sized)
           performed c.push_three.new.self.steps steps
           _ _ _ _ c.self.invariant.noted refl
           (rw (c.command-command.ensures, c.data-bytes.ensures.data, c.len-2.ensures, c.in-Ok-make_way.ensures.steps) at c.note_command.ensures)
@@ -100,9 +100,10 @@ returns-clause-serves g c =
     c.self.invariant.kept (no_tasks u.tasks (omega (arith, c.len.ensures.value, c.if-len-gt0.false))) c.args.arrival.now
     c.came.new.self le came (left + 2) (omega (arith, room, less))
     (facts_of (told u.facts u.attentions) (disks.size_of u.store)) (unkept c.run_and_answer-ran.result) (disks.blocks_of c.run_and_answer-ran.new.store)
-    c.run_and_answer-ran.new.attentions (told_is c.self.invariant.kept u.facts (disks.size_of u.store) refl refl refl refl c.self.invariant.sized)
+    c.run_and_answer-ran.new.attentions (told_is c.self.invariant.kept u.facts (disks.size_of u.store) refl refl refl refl refl c.self.invariant.sized)
     performed c.push_three.new.self.steps steps
-    answers c.self.inside.log.keeps c.push_three.new.self.keeps (sym c.address.ensures ∙ c.if-not-has_address.ensures.yes refl) keeps
+    answers c.self.inside.log.keeps c.push_three.new.self.keeps _ _
+    (ap not (c.run_and_answer-ran.ensures.kind ∙ c.may_run.ensures.kind)) (c.if-not-is_named.ensures.yes refl) keeps
     (c.push_three.ensures.keeps ∙ c.in-Ok-make_way.ensures.keeps ∙ keeps)
     (subst answers (ends_as _ _ _ c.run_and_answer-ran.result) c.run_and_answer-ran.ensures.answered)
     (sym c.ticket-ticket.ensures.chain ∙ own))

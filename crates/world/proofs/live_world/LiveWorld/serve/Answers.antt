@@ -4,7 +4,7 @@ use Rattle.device_steps.specs.Apart.{standing, Stored}
 use Rattle.world.specs.Inner.Rounds.{SettledLive}
 use Rattle.device_steps.specs.Settling.{asks}
 use Rattle.device_steps.proofs.InMemory.{none_known}
-use Rattle.world.proofs.Rounds.{rounds_none, rounds_next, settled_none, settled_look, goes_on_served, stores_served, looks_next, looks_none}
+use Rattle.world.proofs.Rounds.{rounds_none, settled_none, settled_look, goes_on_served, stores_served, looks_next, looks_none}
 use Rattle.world.proofs.live_world.LiveWorld.serve.Goals as goal
 
 pub loop-turn-init : goal.loop-turn-init
@@ -34,16 +34,15 @@ loop-turn-preserved g c =
     let x = c.args.self.now in
     let size = g.M.Memory.extent x.memory in
     record {
-      rounds = rounds_next shared g.M.Memory.begins g.M.Memory.may_be stored asked x c.loop-turn.self c.loop-turn.steps
-          c.in-Ok-Some.served.steps t.begun c.turn.new.self inv.rounds t.begins_so t.none t.serves;
+      rounds = t.serves x c.loop-turn.steps inv.rounds;
       settled = λ a long.
           let w = standing shared a x.device in
           let before = subst (λ n.
           SettledLive asked (stored x.memory c.loop-turn.self.memory) shared n w c.loop-turn.steps c.loop-turn.self.device)
           (sym inv.size) (inv.settled a long) in
           subst (λ n.
-          SettledLive asked (stored x.memory c.turn.new.self.memory) shared n w
-          (c.loop-turn.steps + c.in-Ok-Some.served.steps) c.turn.new.self.device) inv.size
+          SettledLive asked (stored x.memory c.turn_and_row.new.self.memory) shared n w
+          (c.loop-turn.steps + c.in-Ok-Some.served.steps) c.turn_and_row.new.self.device) inv.size
           (next x.memory w c.loop-turn.steps before);
       size = c.in-Ok-Some.ensures.size ∙ inv.size;
       before = t.before;
@@ -69,7 +68,7 @@ returns-in-Ok-None-clause-promise g c =
     let stored = Stored g.M.Memory.stored g.M.Memory.storing in
     let t = rw c.in-Ok-None.field-0-is at c.in-Ok-None.ensures.turns in
     let x = c.args.self.now in
-    let y = c.turn.new.self in
+    let y = c.turn_and_row.new.self in
     let size = g.M.Memory.extent x.memory in
     goes_on_served c.the_promise_is_kept.ensures c.every_run_goes_on.ensures.run c.a_live_run_is_a_run.ensures
     c.a_live_settling_is_short.ensures.runs c.a_live_settling_is_short.ensures.changes c.a_live_settling_is_short.ensures.short
@@ -86,7 +85,7 @@ returns-in-Ok-None-clause-stores g c =
     let stored = Stored g.M.Memory.stored g.M.Memory.storing in
     let t = rw c.in-Ok-None.field-0-is at c.in-Ok-None.ensures.turns in
     let x = c.args.self.now in
-    let y = c.turn.new.self in
+    let y = c.turn_and_row.new.self in
     let size = g.M.Memory.extent x.memory in
     stores_served c.the_promise_is_kept.ensures c.every_run_goes_on.ensures.run c.a_live_run_is_a_run.ensures
     c.a_live_settling_is_short.ensures.runs c.a_live_settling_is_short.ensures.changes c.a_live_settling_is_short.ensures.short
@@ -113,7 +112,7 @@ returns-in-Err-clause-promise g c =
     let stored = Stored g.M.Memory.stored g.M.Memory.storing in
     let t = c.in-Err.ensures.turns in
     let x = c.args.self.now in
-    let y = c.turn.new.self in
+    let y = c.turn_and_row.new.self in
     let size = g.M.Memory.extent x.memory in (
       c.loop-turn.steps,
       goes_on_served c.the_promise_is_kept.ensures c.every_run_goes_on.ensures.run c.a_live_run_is_a_run.ensures
@@ -132,7 +131,7 @@ returns-in-Err-clause-stores g c =
     let stored = Stored g.M.Memory.stored g.M.Memory.storing in
     let t = c.in-Err.ensures.turns in
     let x = c.args.self.now in
-    let y = c.turn.new.self in
+    let y = c.turn_and_row.new.self in
     let size = g.M.Memory.extent x.memory in (
       c.loop-turn.steps,
       stores_served c.the_promise_is_kept.ensures c.every_run_goes_on.ensures.run c.a_live_run_is_a_run.ensures

@@ -1,4 +1,4 @@
-//! Bytes in a list that keeps its length as they are forgotten, so that none is filled before it is loaded.
+//! The bytes of longer runs, in a list that keeps its length as they are forgotten, so that none is filled before it is loaded.
 
 ghost use Rattle.std.specs.Prelude.{◌≡◌, ◌+◌, ◌∷◌, ◌++◌, ◌≤◌, [], List, ℕ, length, OnOk};
 ghost use Rattle.live_mem.specs.Access.{Access, AreBytes};
@@ -11,29 +11,29 @@ use crate::recorded::RecordedBus;
 use std::alloc::{AllocError, Global};
 use std::marker::Model;
 
-/// The bytes before a place of a list. Those behind it are room for more.
+/// The bytes of the longer runs that a phase read, side by side: those before a place of a list. Those behind it are room for more.
 #[derive(Drop)]
-pub(crate) struct Used {
+pub(crate) struct LongRuns {
     room: Vec<u8>,
     used: usize,
     ghost inside: { used ≤ length room.items },
 }
 
-impl Model for Used {
+impl Model for LongRuns {
     ghost use Rattle.std.specs.Prelude.{ℕ, ◌-◌, take, length};
-    ghost use Rattle.live_mem.specs.Used.{PlainUsed};
+    ghost use Rattle.live_mem.specs.LongRuns.{PlainLongRuns};
 
-    ghost Value = { PlainUsed };
+    ghost Value = { PlainLongRuns };
 
-    ghost view = { λ u. record { bytes = take u.used u.room.items; spare = length u.room.items - u.used } };
+    ghost view = { λ r. record { bytes = take r.used r.room.items; spare = length r.room.items - r.used } };
 }
 
-impl Used {
+impl LongRuns {
     /// Keeps nothing. It takes no memory.
-    pub(crate) fn new(alloc: Global) -> Used
+    pub(crate) fn new(alloc: Global) -> LongRuns
         ensures { result.bytes ≡ [] }
     {
-        Used {
+        LongRuns {
             room: Vec::new(alloc),
             used: 0,
         }

@@ -1,0 +1,6 @@
+use Rattle.block_commands.proofs.Passing.{Gives-no_data}
+use Rattle.block_commands.proofs.wide.wide.Goals as goal
+
+pub returns-in-Verify-clause-answer : goal.returns-in-Verify-clause-answer
+returns-in-Verify-clause-answer g c =
+    rw c.in-Verify.is (Gives-no_data (λ v. v.items) _ _ _ c.verify.ensures.answer c.without_data.ensures)

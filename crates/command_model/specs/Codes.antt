@@ -1,0 +1,197 @@
+-- The commands that a unit of the wide profile supports, as REPORT SUPPORTED OPERATION CODES tells them, SPC-4 §6.35.
+use Rattle.std.specs.Prelude.{ℕ, ◌≡◌, ◌+◌, ◌-◌, ◌*◌, ◌/◌, ◌^◌, ◌==◌, Bool, ◌&&◌, ◌||◌, nat_le, List, [], ◌∷◌, ◌++◌, length, map, take, sum_by, Option, None, Some, Ok, Err, find, option_map, is_some, if◌then◌else◌}
+use Rattle.std.specs.List.{list_any, flat_map}
+use Rattle.std.specs.Int.{w16, w32, to_be_bytes}
+use Rattle.sense.specs.Conditions.{invalid_field_in_cdb}
+use Rattle.cdb.specs.Fields.{bits, byte, number}
+use Rattle.cdb.specs.Decoding.{command}
+use Rattle.cdb.specs.declared.profile.Profile.TheVariants.{Wide}
+use Rattle.cdb.specs.Opcodes.{control_of, length_of_group}
+use Rattle.cdb.specs.declared.wide_commands.CodesAsked.{CodesAsked}
+use Rattle.cdb.specs.declared.wide_commands.CodesAsked.TheVariants.{AllCommands, OneCommand, OneServiceAction}
+use Rattle.command_model.specs.Data.{Answer}
+
+-- a field of a CDB: bits high to low of a byte, a whole byte, or bytes i to j as one number
+pub data Field : Type 0 where
+  Bits : ℕ → ℕ → ℕ → Field
+  Whole : ℕ → Field
+  Number : ℕ → ℕ → Field
+
+-- what a CDB has there
+abbrev pub value_of : Field → List ℕ → ℕ
+value_of (Field.Bits i high low) cdb = bits i high low cdb
+value_of (Field.Whole i) cdb = byte i cdb
+value_of (Field.Number i j) cdb = number i j cdb
+
+-- the bits of byte k that a field has, as a number
+abbrev pub mask_of : Field → ℕ → ℕ
+mask_of (Field.Bits i high low) k = if k == i then 2 ^ (high + 1) - 2 ^ low else 0
+mask_of (Field.Whole i) k = if k == i then 0xff else 0
+mask_of (Field.Number i j) k = if nat_le i k && nat_le k j then 0xff else 0
+
+-- a command without service actions: its opcode, and the fields that decide what is done, but for the opcode and NACA
+-- (bit 2 of the control byte)
+abbrev pub plain_commands : List (ℕ × List Field)
+plain_commands =
+    -- TEST UNIT READY
+    (0x00, [])
+    -- REQUEST SENSE: DESC, allocation length
+    ∷ (0x03, Field.Bits 1 0 0 ∷ Field.Whole 4 ∷ [])
+    -- READ (6): address, length
+    ∷ (0x08, Field.Bits 1 4 0 ∷ Field.Number 2 3 ∷ Field.Whole 4 ∷ [])
+    -- WRITE (6)
+    ∷ (0x0a, Field.Bits 1 4 0 ∷ Field.Number 2 3 ∷ Field.Whole 4 ∷ [])
+    -- INQUIRY: EVPD, page code, allocation length
+    ∷ (0x12, Field.Bits 1 0 0 ∷ Field.Whole 2 ∷ Field.Number 3 4 ∷ [])
+    -- MODE SELECT (6): PF, SP, list length
+    ∷ (0x15, Field.Bits 1 4 4 ∷ Field.Bits 1 0 0 ∷ Field.Whole 4 ∷ [])
+    -- MODE SENSE (6): DBD, PC, page code, subpage code, allocation length
+    ∷ (0x1a, Field.Bits 1 3 3 ∷ Field.Bits 2 7 6 ∷ Field.Bits 2 5 0 ∷ Field.Whole 3 ∷ Field.Whole 4 ∷ [])
+    -- START STOP UNIT: POWER CONDITION, LOEJ, START
+    ∷ (0x1b, Field.Bits 4 7 4 ∷ Field.Bits 4 1 1 ∷ Field.Bits 4 0 0 ∷ [])
+    -- SEND DIAGNOSTIC: SELF-TEST CODE, list length
+    ∷ (0x1d, Field.Bits 1 7 5 ∷ Field.Number 3 4 ∷ [])
+    -- PREVENT ALLOW MEDIUM REMOVAL: the obsolete bit of PREVENT
+    ∷ (0x1e, Field.Bits 4 1 1 ∷ [])
+    -- READ CAPACITY (10)
+    ∷ (0x25, [])
+    -- READ (10): RDPROTECT, address, blocks
+    ∷ (0x28, Field.Bits 1 7 5 ∷ Field.Number 2 5 ∷ Field.Number 7 8 ∷ [])
+    -- WRITE (10)
+    ∷ (0x2a, Field.Bits 1 7 5 ∷ Field.Number 2 5 ∷ Field.Number 7 8 ∷ [])
+    -- WRITE AND VERIFY (10): also the upper bit of BYTCHK
+    ∷ (0x2e, Field.Bits 1 2 2 ∷ Field.Bits 1 7 5 ∷ Field.Number 2 5 ∷ Field.Number 7 8 ∷ [])
+    -- VERIFY (10): also BYTCHK
+    ∷ (0x2f, Field.Bits 1 2 1 ∷ Field.Bits 1 7 5 ∷ Field.Number 2 5 ∷ Field.Number 7 8 ∷ [])
+    -- PRE-FETCH (10): address, blocks
+    ∷ (0x34, Field.Number 2 5 ∷ Field.Number 7 8 ∷ [])
+    -- SYNCHRONIZE CACHE (10)
+    ∷ (0x35, Field.Number 2 5 ∷ Field.Number 7 8 ∷ [])
+    -- WRITE SAME (10): WRPROTECT, ANCHOR, the obsolete bits, address, blocks
+    ∷ (0x41, Field.Bits 1 7 5 ∷ Field.Bits 1 4 4 ∷ Field.Bits 1 2 1 ∷ Field.Number 2 5 ∷ Field.Number 7 8 ∷ [])
+    -- UNMAP: ANCHOR, list length
+    ∷ (0x42, Field.Bits 1 0 0 ∷ Field.Number 7 8 ∷ [])
+    -- MODE SELECT (10)
+    ∷ (0x55, Field.Bits 1 4 4 ∷ Field.Bits 1 0 0 ∷ Field.Number 7 8 ∷ [])
+    -- MODE SENSE (10): also LLBAA
+    ∷ (0x5a, Field.Bits 1 4 4 ∷ Field.Bits 1 3 3 ∷ Field.Bits 2 7 6 ∷ Field.Bits 2 5 0 ∷ Field.Whole 3 ∷ Field.Number 7 8 ∷ [])
+    -- READ (16)
+    ∷ (0x88, Field.Bits 1 7 5 ∷ Field.Number 2 9 ∷ Field.Number 10 13 ∷ [])
+    -- COMPARE AND WRITE
+    ∷ (0x89, Field.Bits 1 7 5 ∷ Field.Number 2 9 ∷ Field.Whole 13 ∷ [])
+    -- WRITE (16)
+    ∷ (0x8a, Field.Bits 1 7 5 ∷ Field.Number 2 9 ∷ Field.Number 10 13 ∷ [])
+    -- WRITE AND VERIFY (16)
+    ∷ (0x8e, Field.Bits 1 2 2 ∷ Field.Bits 1 7 5 ∷ Field.Number 2 9 ∷ Field.Number 10 13 ∷ [])
+    -- VERIFY (16)
+    ∷ (0x8f, Field.Bits 1 2 1 ∷ Field.Bits 1 7 5 ∷ Field.Number 2 9 ∷ Field.Number 10 13 ∷ [])
+    -- PRE-FETCH (16)
+    ∷ (0x90, Field.Number 2 9 ∷ Field.Number 10 13 ∷ [])
+    -- SYNCHRONIZE CACHE (16)
+    ∷ (0x91, Field.Number 2 9 ∷ Field.Number 10 13 ∷ [])
+    -- WRITE SAME (16): also NDOB
+    ∷ (0x93, Field.Bits 1 7 5 ∷ Field.Bits 1 4 4 ∷ Field.Bits 1 2 1 ∷ Field.Bits 1 0 0 ∷ Field.Number 2 9 ∷ Field.Number 10 13 ∷ [])
+    -- REPORT LUNS: SELECT REPORT, allocation length
+    ∷ (0xa0, Field.Whole 2 ∷ Field.Number 6 9 ∷ [])
+    -- READ (12)
+    ∷ (0xa8, Field.Bits 1 7 5 ∷ Field.Number 2 5 ∷ Field.Number 6 9 ∷ [])
+    -- WRITE (12)
+    ∷ (0xaa, Field.Bits 1 7 5 ∷ Field.Number 2 5 ∷ Field.Number 6 9 ∷ [])
+    -- WRITE AND VERIFY (12)
+    ∷ (0xae, Field.Bits 1 2 2 ∷ Field.Bits 1 7 5 ∷ Field.Number 2 5 ∷ Field.Number 6 9 ∷ [])
+    -- VERIFY (12)
+    ∷ (0xaf, Field.Bits 1 2 1 ∷ Field.Bits 1 7 5 ∷ Field.Number 2 5 ∷ Field.Number 6 9 ∷ [])
+    ∷ []
+
+-- a command with a service action, which stands in bits 4 to 0 of byte 1: its opcode, the service action, and the fields
+-- besides
+abbrev pub action_commands : List (ℕ × ℕ × List Field)
+action_commands =
+    -- READ CAPACITY (16): allocation length
+    (0x9e, 0x10, Field.Number 10 13 ∷ [])
+    -- GET LBA STATUS: address, allocation length
+    ∷ (0x9e, 0x12, Field.Number 2 9 ∷ Field.Number 10 13 ∷ [])
+    -- REPORT SUPPORTED OPERATION CODES: RCTD, REPORTING OPTIONS, requested opcode and service action, allocation length
+    ∷ (0xa3, 0x0c, Field.Bits 2 7 7 ∷ Field.Bits 2 2 0 ∷ Field.Whole 3 ∷ Field.Number 4 5 ∷ Field.Number 6 9 ∷ [])
+    -- REPORT SUPPORTED TASK MANAGEMENT FUNCTIONS: REPD, allocation length
+    ∷ (0xa3, 0x0d, Field.Bits 2 7 7 ∷ Field.Number 6 9 ∷ [])
+    ∷ []
+
+abbrev pub cdb_length : ℕ → ℕ
+cdb_length opcode = length_of_group (opcode / 32)
+
+-- the bits of byte k that decide
+abbrev pub usage_byte : ℕ → List Field → ℕ → ℕ
+usage_byte opcode fields k = sum_by (λ field. mask_of field k) (Field.Bits (control_of opcode) 2 2 ∷ fields)
+
+-- the CDB usage data, of 16 bytes: byte 0 is the opcode, and the service action stands in its place
+abbrev pub usage_data : ℕ → ℕ → List Field → List ℕ
+usage_data opcode action fields =
+    opcode ∷ (action + usage_byte opcode fields 1)
+    ∷ map (usage_byte opcode fields) (2 ∷ 3 ∷ 4 ∷ 5 ∷ 6 ∷ 7 ∷ 8 ∷ 9 ∷ 10 ∷ 11 ∷ 12 ∷ 13 ∷ 14 ∷ 15 ∷ [])
+
+-- that of an opcode without service actions, if the unit has it
+unfoldable pub plain_usage : ℕ → Option (List ℕ)
+plain_usage opcode = option_map (λ c. usage_data c.0 0 c.1) (find (λ c. c.0 == opcode) plain_commands)
+
+-- that of an opcode and a service action
+unfoldable pub action_usage : ℕ → ℕ → Option (List ℕ)
+action_usage opcode action =
+    option_map (λ c. usage_data c.0 c.1 c.2) (find (λ c. (c.0 == opcode) && (c.1 == action)) action_commands)
+
+-- whether an opcode has service actions
+abbrev pub has_actions : ℕ → Bool
+has_actions opcode = list_any (λ known. known == opcode) (0x9e ∷ 0xa3 ∷ [])
+
+-- one command, SPC-4 §6.35.3: SUPPORT 001b where the unit lacks it; else 011b, the CDB's length and the usage data
+abbrev pub one_command : ℕ → Option (List ℕ) → List ℕ
+one_command opcode None = 0x00 ∷ 0x01 ∷ 0x00 ∷ 0x00 ∷ []
+one_command opcode (Some usage) = (0x00 ∷ 0x03 ∷ 0x00 ∷ cdb_length opcode ∷ []) ++ take (cdb_length opcode) usage
+
+-- all commands, SPC-4 §6.35.2: how many bytes follow; a descriptor of 8 bytes for each, with SERVACTV where it has a
+-- service action, and the CDB's length
+abbrev pub plain_descriptor : ℕ × List Field → List ℕ
+plain_descriptor c = c.0 ∷ 0x00 ∷ 0x00 ∷ 0x00 ∷ 0x00 ∷ 0x00 ∷ 0x00 ∷ cdb_length c.0 ∷ []
+
+abbrev pub action_descriptor : ℕ × ℕ × List Field → List ℕ
+action_descriptor c = c.0 ∷ 0x00 ∷ 0x00 ∷ c.1 ∷ 0x00 ∷ 0x01 ∷ 0x00 ∷ cdb_length c.0 ∷ []
+
+unfoldable pub all_commands : List ℕ
+all_commands =
+    to_be_bytes w32 (8 * (length plain_commands + length action_commands))
+    ++ flat_map plain_descriptor plain_commands ++ flat_map action_descriptor action_commands
+
+-- REPORT SUPPORTED OPERATION CODES; an opcode with service actions is asked for with one, any other without
+abbrev pub codes_answer : CodesAsked → ℕ → Answer
+codes_answer AllCommands allocation = Ok (take allocation all_commands)
+codes_answer (OneCommand opcode) allocation =
+    if has_actions opcode then Err invalid_field_in_cdb
+    else Ok (take allocation (one_command opcode (plain_usage opcode)))
+codes_answer (OneServiceAction opcode action) allocation =
+    if is_some (plain_usage opcode) then Err invalid_field_in_cdb
+    else Ok (take allocation (one_command opcode (action_usage opcode action)))
+
+-- whether a unit has a command of this opcode, as it tells
+abbrev pub is_told : ℕ → Bool
+is_told opcode = is_some (plain_usage opcode) || has_actions opcode
+
+-- the fields have the same in two CDBs
+abbrev pub Agree : List Field → List ℕ → List ℕ → Type 0
+Agree [] a b = Unit {0}
+Agree (field ∷ later) a b = (value_of field a ≡ value_of field b) × Agree later a b
+
+-- the fields of a command decide: two CDBs of its opcode that agree in them, and in NACA, are one command
+abbrev pub PlainDecides : ℕ × List Field → Type 0
+PlainDecides c =
+    (a b : List ℕ) → byte 0 a ≡ c.0 → byte 0 b ≡ c.0 → Agree (Field.Bits (control_of c.0) 2 2 ∷ c.1) a b
+    → command Wide a ≡ command Wide b
+
+abbrev pub ActionDecides : ℕ × ℕ × List Field → Type 0
+ActionDecides c =
+    (a b : List ℕ) → byte 0 a ≡ c.0 → byte 0 b ≡ c.0 → bits 1 4 0 a ≡ c.1 → bits 1 4 0 b ≡ c.1
+    → Agree (Field.Bits (control_of c.0) 2 2 ∷ c.2) a b → command Wide a ≡ command Wide b
+
+-- what holds of each item of a list
+abbrev pub OfEach : {A : Type 0} → (A → Type 0) → List A → Type 0
+OfEach P [] = Unit {0}
+OfEach P (x ∷ later) = P x × OfEach P later

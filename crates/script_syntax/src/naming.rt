@@ -1,0 +1,126 @@
+//! The words by which a header names a disk.
+
+ghost use Rattle.std.specs.Prelude.{◌≡◌, ◌+◌, ◌-◌, ◌≤◌, ◌++◌, ◌⊎◌, [], Ok, replicate, length, codes, IfOk, IfErr};
+ghost use Rattle.command_model.specs.Identity.{plain_identity};
+
+use crate::fault::LineFault;
+use crate::values::number;
+use command_model::{Identity, SERIAL_BYTES};
+use hex::FromHex;
+
+/// The words that name a disk, each with a value behind it.
+const WORDS: [&str; 7] = [
+    "vendor", "product", "revision", "serial", "naa", "exponent", "rotation",
+];
+
+/// Returns true if a word names a disk by the value behind it.
+pub(crate) fn is_naming(word: &str) -> bool {
+    WORDS.iter().any(|known| *known == word)
+}
+
+/// Returns a text as a field of ASCII has it, with the same byte behind it to the end (SPC-4 §4.4.1). `BadValue` where
+/// it is empty or too long.
+fn field<const N: usize>(text: &str, behind: u8) -> Result<[u8; N], LineFault>
+    ensures text { IfOk result (λ field. field ≡ text.now ++ replicate (N - length text.now) behind) }
+    ensures fits { IfOk result (λ field. length text.now ≤ N) }
+    ensures fault { IfErr result (λ fault. fault ≡ LineFault.BadValue) }
+{
+    let bytes = text.as_bytes();
+    if bytes.is_empty() || bytes.len() > N {
+        return Err(LineFault::BadValue);
+    }
+    let mut field = [behind; N];
+    field[..bytes.len()].copy_from_slice(bytes);
+    Ok(field)
+}
+
+/// Returns what a disk says of itself once a word with its value is added to it. `BadValue` where no name has that word,
+/// or the value isn't one of it. It isn't known here which texts and numbers the device takes.
+pub(crate) fn named(identity: Identity, word: &str, value: &str) -> Result<Identity, LineFault>
+    ensures vendor { word.now ≡ codes "vendor" → IfOk result (λ i.
+        i ≡ record identity { vendor = value.now ++ replicate (8 - length value.now) 0x20 }) }
+    ensures product { word.now ≡ codes "product" → IfOk result (λ i.
+        i ≡ record identity { product = value.now ++ replicate (16 - length value.now) 0x20 }) }
+    ensures revision { word.now ≡ codes "revision" → IfOk result (λ i.
+        i ≡ record identity { revision = value.now ++ replicate (4 - length value.now) 0x20 }) }
+    ensures serial { word.now ≡ codes "serial" → IfOk result (λ i.
+        i ≡ record identity { serial = value.now ++ replicate (20 - length value.now) 0; serial_len = length value.now }) }
+    ensures naa { word.now ≡ codes "naa" → IfOk result (λ i. i ≡ record identity { naa = i.naa }) }
+    ensures exponent { word.now ≡ codes "exponent" → IfOk result (λ i.
+        i ≡ record identity { physical_exponent = i.physical_exponent }) }
+    ensures rotation { word.now ≡ codes "rotation" → IfOk result (λ i.
+        i ≡ record identity { rotation_rate = i.rotation_rate }) }
+    ensures fault { IfErr result (λ fault. fault ≡ LineFault.BadValue) }
+{
+    match word {
+        "vendor" => {
+            let vendor = field::<8>(value, b' ')?;
+            Ok(Identity { vendor, ..identity })
+        }
+        "product" => {
+            let product = field::<16>(value, b' ')?;
+            Ok(Identity {
+                product,
+                ..identity
+            })
+        }
+        "revision" => {
+            let revision = field::<4>(value, b' ')?;
+            Ok(Identity {
+                revision,
+                ..identity
+            })
+        }
+        "serial" => {
+            let serial = field::<SERIAL_BYTES>(value, 0)?;
+            Ok(Identity {
+                serial,
+                serial_len: value.len() as u8,
+                ..identity
+            })
+        }
+        "naa" => match <[u8; 8] as FromHex>::from_hex(value) {
+            Ok(naa) => Ok(Identity {
+                naa: Some(naa),
+                ..identity
+            }),
+            Err(_) => Err(LineFault::BadValue),
+        },
+        "exponent" => {
+            let physical_exponent = number::<u8>(value)?;
+            Ok(Identity {
+                physical_exponent,
+                ..identity
+            })
+        }
+        "rotation" => {
+            let rotation_rate = number::<u16>(value)?;
+            Ok(Identity {
+                rotation_rate,
+                ..identity
+            })
+        }
+        _ => Err(LineFault::BadValue),
+    }
+}
+
+/// Returns what a disk says of itself by words, each with its value behind it. `BadValue` where a value lacks.
+pub(crate) fn read_names(words: &[&str]) -> Result<Identity, LineFault>
+    ensures none { words.now ≡ [] → result ≡ Ok plain_identity }
+    ensures fault { IfErr result (λ fault. fault ≡ LineFault.BadValue) }
+{
+    if words.is_empty() {
+        return Ok(Identity::PLAIN);
+    }
+    let mut identity = Identity::PLAIN;
+    let mut rest = words;
+    while let [word, value, others @ ..] = rest {
+        identity = named(identity, word, value)?;
+        rest = others;
+    }
+    if rest.is_empty() {
+        Ok(identity)
+    } else {
+        Err(LineFault::BadValue)
+    }
+}
