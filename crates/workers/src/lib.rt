@@ -11,7 +11,7 @@
 //! at a unit. An act is weighed in the hold in which that unit's history goes on by it; by visibility, only
 //! `hard_on` and `resize_on` of `lock_scopes` add one. The hard resets and resizes in a report weigh what the acts
 //! weigh, by any weighing. So each unit has as many hard resets, and as many resizes to each capacity, as were made
-//! of it. A function never makes a hard reset.
+//! of it (`as_many_acts_as_were_made`). A function never makes a hard reset.
 //!
 //! The notes Direct of a report are exactly those of the requests for which their own fetch decided the answer. So
 //! none is of a request that was to enter its unit.
@@ -22,6 +22,7 @@ mod crew;
 mod gathering;
 mod hired;
 mod host;
+mod laws;
 mod opening;
 mod operating;
 mod tallied;
@@ -30,6 +31,7 @@ mod worker;
 pub use close_audit::{CloseFault, Report};
 pub use config::{Config, StartFault};
 pub use host::{Host, Seen};
+pub use laws::as_many_acts_as_were_made;
 pub use lock_scopes::{Gate, Open, Point, QueueLender, UnitLender, Weighing};
 pub use phases::{
     Cause, Note, ResetFault, ResizeFault, phase_answer, phase_answer_tmf, phase_check,
