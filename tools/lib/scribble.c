@@ -172,6 +172,7 @@ int main(int count, char **words) {
   }
   atomic_store(&over, true);
   pthread_join(thread, NULL);
+  must("destroy", vscsi_disk_destroy(&disk));
   printf("scribble: %llu devices, %llu steps, %llu blocks that may have changed\n", devices, steps, changed);
   return devices > 1 && steps && changed ? 0 : 1;
 }
