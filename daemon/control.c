@@ -10,6 +10,7 @@
 #include "blocks.h"
 #include "clock.h"
 #include "images.h"
+#include "names.h"
 #include "options.h"
 
 #ifdef DAEMON_CONTROL
@@ -132,10 +133,11 @@ static json_t *reset(const struct controlled *controlled, json_t *arguments) {
 
 static json_t *attach(const struct controlled *controlled, json_t *arguments, int *file) {
   char why[WHY];
-  const char *words;
+  const char *words, *naa = NULL;
   struct disks *disks = controlled->disks;
   size_t which;
-  if (json_unpack(arguments, "{s:s}", "disk", &words)) return error("BadRequest", "its argument disk is T:L=SIZE[,..]");
+  if (json_unpack(arguments, "{s:s,s?s}", "disk", &words, "naa", &naa))
+    return error("BadRequest", "its argument disk is T:L=SIZE[,..], and naa digits");
   if (controlled->session) return error("InUse", "a front end is there");
   if (!disks_add(disks, words, why, sizeof why)) return error("BadDisk", why);
   disks_find(disks, words, &which);
@@ -145,8 +147,8 @@ static json_t *attach(const struct controlled *controlled, json_t *arguments, in
   if (taken && disk->path) {
     disk->file = *file;
     *file = -1;
-    taken = image_take(disks, disk, why, sizeof why);
   }
+  taken = taken && (!naa || names_give(disks, disk, naa, why, sizeof why)) && (!disk->path || image_take(disks, disk, why, sizeof why));
   if (taken && (disks->moves || blocks_load(disks, why, sizeof why))) return done();
   disks_remove(disks, which);
   return error("BadDisk", why);

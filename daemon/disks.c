@@ -78,7 +78,7 @@ static bool take_word(const char **at, struct disk *disk, char *why, size_t room
   if (!is_grow && !is_snapshot && !is_punching && !is_narrow && !is_wide) return false;
   if ((is_narrow || is_wide) && disk->has_profile) return false;
   disk->has_profile = disk->has_profile || is_narrow || is_wide;
-  disk->wide = disk->wide || is_wide;
+  disk->wide = disk->wide && !is_narrow;
   disk->punches = disk->punches || is_punching;
   disk->grows = disk->grows || is_grow;
   disk->read_only = disk->read_only || is_snapshot;
@@ -109,7 +109,7 @@ static bool take_disk(struct disk *disk, const char *at, char *why, size_t room)
 }
 
 bool disks_add(struct disks *disks, const char *words, char *why, size_t room) {
-  struct disk disk = {.file = -1};
+  struct disk disk = {.file = -1, .wide = true};
   bool stands = take_disk(&disk, words, why, room);
   if (stands && (disks->count == DEVICE_MOST_UNITS || is_there(disks, &disk))) {
     stands = false;

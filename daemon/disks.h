@@ -33,10 +33,11 @@ struct disk {
   bool grows;       // a shorter image is made as long as the disk
   bool made;        // there was no image
   bool punches;     // a WRITE of zeros may make a hole of the image
-  bool has_profile; // the command line says its profile
-  bool wide;        // it knows the commands of the wide profile
+  bool has_profile; // its words say its profile
+  bool wide;        // it knows the commands of the wide profile, as it does without such a word
   unsigned named;   // which words of names.h the command line has
   struct vscsi_identity names;
+  bool has_new_naa; // the file that keeps its NAA wasn't there
   uint64_t length;  // of the image when it was opened, in bytes
   bool dirty;       // written since disk_sync
   int error;        // the error number by which the image can't be written now, or 0

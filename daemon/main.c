@@ -160,6 +160,15 @@ static bool serve(struct daemon *daemon) {
   return true;
 }
 
+// Watches what somebody may connect to. A front end's own connection is its session's.
+static bool watch_all(struct daemon *daemon, char *why, size_t room) {
+  const struct listener *listener = &daemon->listener, *operators = &daemon->operators;
+  bool watched = (listener->connected || watch(daemon->epoll, listener->fd, EVENT_LISTENER)) &&
+                 (operators->fd < 0 || watch(daemon->epoll, operators->fd, EVENT_CONTROL));
+  if (!watched) snprintf(why, room, "the socket can't be watched: %s", strerror(errno));
+  return watched;
+}
+
 // Opens all, in an order by which nothing is made or changed before whatever may be refused was tried: the socket comes last, so a front
 // end never waits for disks that are still loaded.
 static bool open_all(struct daemon *daemon, char *why, size_t room) {
@@ -173,10 +182,13 @@ static bool open_all(struct daemon *daemon, char *why, size_t room) {
                 (daemon->disks.moves || blocks_load(&daemon->disks, why, room)) &&
                 (!has_path || listener_bind(&daemon->listener, options->path, options->mode, owner.user, owner.group, why, room)) &&
                 (!options->control || listener_bind(&daemon->operators, options->control, 0600, owner.user, owner.group, why, room)) &&
-                (names_keep(&daemon->disks, owner.user, owner.group), true) && sandbox_become(&owner, why, room) &&
+                watch_all(daemon, why, room) && (names_keep(&daemon->disks, owner.user, owner.group), true) &&
+                sandbox_become(&owner, why, room) &&
                 (!options->limits || sandbox_limit(options->path, options->control, options->log, why, room));
-  if (!stands) images_undo(&daemon->disks);
-  return stands;
+  if (stands) return true;
+  names_undo(&daemon->disks);
+  images_undo(&daemon->disks);
+  return false;
 }
 
 static int refuse(const char *why) {
@@ -199,10 +211,7 @@ static int run(struct daemon *daemon) {
   if (daemon->listener.connected) {
     begin_session(daemon, daemon->listener.fd);
     daemon->listener.fd = -1;
-  } else if (!watch(daemon->epoll, daemon->listener.fd, EVENT_LISTENER)) {
-    return refuse(strerror(errno));
   }
-  if (daemon->operators.fd >= 0 && !watch(daemon->epoll, daemon->operators.fd, EVENT_CONTROL)) return refuse(strerror(errno));
   bool served = serve(daemon);
   control_end(&daemon->control);
   if (daemon->connected) end_session(daemon, "the daemon ends");

@@ -1,20 +1,13 @@
 #include "names.h"
 
-#include <errno.h>
-#include <fcntl.h>
 #include <stdio.h>
-#include <stdlib.h>
 #include <string.h>
-#include <sys/random.h>
 #include <sys/stat.h>
-#include <unistd.h>
 
-#include "folders.h"
 #include "log.h"
+#include "naa.h"
 
-enum { NAA_DIGITS = 16, MOST_EXPONENT = 15, LEAST_RATE = 0x401, MOST_RATE = 0xfffe };
-
-static const char suffix[] = ".naa";
+enum { MOST_EXPONENT = 15, LEAST_RATE = 0x401, MOST_RATE = 0xfffe, WHY = 300 };
 
 // The words, by their places in `named` of a disk.
 static const char *const words[] = {"vendor=", "product=", "revision=", "serial=", "naa=", "physical-block-exp=", "rotation-rate="};
@@ -30,24 +23,6 @@ static bool is_printable(const char *text, size_t length) {
 static bool take_text(char *field, size_t size, const char *text, size_t length) {
   if (!length || length > size || !is_printable(text, length)) return false;
   memcpy(field, text, length);
-  return true;
-}
-
-static int digit(char c) {
-  if (c >= '0' && c <= '9') return c - '0';
-  if (c >= 'a' && c <= 'f') return c - 'a' + 10;
-  if (c >= 'A' && c <= 'F') return c - 'A' + 10;
-  return -1;
-}
-
-// Takes 16 hexadecimal digits, of which the first is 3 or 5.
-static bool take_naa(uint8_t naa[8], const char *text, size_t length) {
-  if (length != NAA_DIGITS || (*text != '3' && *text != '5')) return false;
-  for (size_t i = 0; i < 8; i++) {
-    int high = digit(text[2 * i]), low = digit(text[2 * i + 1]);
-    if (high < 0 || low < 0) return false;
-    naa[i] = (uint8_t)(16 * high + low);
-  }
   return true;
 }
 
@@ -68,7 +43,7 @@ static bool take_value(struct vscsi_identity *names, int which, const char *text
     case PRODUCT: return take_text(names->product, sizeof names->product, text, length);
     case REVISION: return take_text(names->revision, sizeof names->revision, text, length);
     case SERIAL: return take_text(names->serial, sizeof names->serial, text, length);
-    case NAA: return take_naa(names->naa, text, length);
+    case NAA: return naa_take(names->naa, text, length);
     case EXPONENT:
       if (!take_number(text, length, &value) || value > MOST_EXPONENT) return false;
       names->physical_exponent = (uint8_t)value;
@@ -104,28 +79,20 @@ enum named names_take(struct disk *disk, const char *word, size_t length, char *
 
 static bool has_naa(const struct disk *disk) { return disk->names.naa[0]; }
 
-// Returns whether another disk has this disk's NAA.
-static bool is_shared(const struct disks *disks, const struct disk *disk) {
+// Returns the other disk that has this disk's NAA, or NULL.
+static const struct disk *sharer(const struct disks *disks, const struct disk *disk) {
   for (size_t i = 0; has_naa(disk) && i < disks->count; i++) {
     const struct disk *other = &disks->disks[i];
     bool is_itself = other->target == disk->target && other->lun == disk->lun;
-    if (!is_itself && !memcmp(other->names.naa, disk->names.naa, sizeof disk->names.naa)) return true;
+    if (!is_itself && !memcmp(other->names.naa, disk->names.naa, sizeof disk->names.naa)) return other;
   }
-  return false;
+  return NULL;
 }
 
 bool names_suit(const struct disks *disks, const struct disk *disk, char *why, size_t room) {
-  if (disk->named && !disk->wide) return snprintf(why, room, "a disk that is named wants profile=wide"), false;
-  if (is_shared(disks, disk)) return snprintf(why, room, "naa= is that of another disk"), false;
+  if (disk->named && !disk->wide) return snprintf(why, room, "a disk with profile=narrow has no names"), false;
+  if (sharer(disks, disk)) return snprintf(why, room, "naa= is that of another disk"), false;
   return true;
-}
-
-// Returns the path of the file that keeps a disk's NAA, with more behind it, or NULL where memory was refused.
-static char *path_of(const struct disk *disk, const char *behind) {
-  size_t size = strlen(disk->path) + strlen(suffix) + strlen(behind) + 1;
-  char *path = malloc(size);
-  if (path) snprintf(path, size, "%s%s%s", disk->path, suffix, behind);
-  return path;
 }
 
 // Returns whether a disk's NAA is kept: that of no name that was given, on a file that stays where it is. The nodes of block devices go
@@ -136,89 +103,53 @@ static bool is_kept(const struct disk *disk) {
   return disk->file < 0 || (!fstat(disk->file, &stat) && S_ISREG(stat.st_mode));
 }
 
-// Reads a file that may be there. Returns false, with errno, where it is and can't be read.
-static bool read_file(const char *path, char *text, size_t size, size_t *length) {
-  int file = open(path, O_RDONLY | O_NONBLOCK | O_NOCTTY | O_CLOEXEC);
-  *length = 0;
-  if (file < 0) return errno == ENOENT;
-  ssize_t count = read(file, text, size);
-  int error = errno;
-  close(file);
-  errno = error;
-  if (count < 0) return false;
-  *length = (size_t)count;
-  if (!count) text[(*length)++] = '\n';  // a file without an NAA
-  return true;
+static bool is_one_image(const struct disk *disk, const struct disk *other) {
+  struct stat its, others;
+  if (disk->file < 0 || other->file < 0 || fstat(disk->file, &its) || fstat(other->file, &others)) return false;
+  return its.st_dev == others.st_dev && its.st_ino == others.st_ino;
 }
 
-static bool read_naa(const struct disks *disks, struct disk *disk, char *why, size_t room) {
-  char text[NAA_DIGITS + 2];
-  size_t length;
-  char *path = path_of(disk, "");
-  bool was_read = path && read_file(path, text, sizeof text, &length), stands = was_read;
-  if (!was_read) snprintf(why, room, "%s%s: %s", disk->path, suffix, strerror(path ? errno : ENOMEM));
-  if (was_read && length) {
-    if (text[length - 1] == '\n') length--;
-    stands = take_naa(disk->names.naa, text, length);
-    if (!stands) snprintf(why, room, "%s: not %s", path, wanted[NAA]);
-    if (stands && is_shared(disks, disk)) {
-      snprintf(why, room, "%s: the NAA of another disk; take the file away where this image is a copy", path);
-      stands = false;
-    }
-  }
-  free(path);
-  return stands;
+// Settles whose an NAA is that came from a file: the first disk of an image has it, and others have none. Returns false, and says why,
+// where a disk of another image has it.
+static bool settle(const struct disks *disks, struct disk *disk, char *why, size_t room) {
+  const struct disk *other = sharer(disks, disk);
+  if (!other) return true;
+  bool is_one = is_one_image(disk, other);
+  snprintf(why, room, "%s.naa: the NAA of another disk%s", disk->path, is_one ? "" : "; take the file away where this image is a copy");
+  memset(disk->names.naa, 0, sizeof disk->names.naa);
+  return is_one;
 }
 
 bool names_read(struct disks *disks, char *why, size_t room) {
-  for (size_t i = 0; i < disks->count; i++)
-    if (is_kept(&disks->disks[i]) && !read_naa(disks, &disks->disks[i], why, room)) return false;
-  return true;
-}
-
-// Makes a locally assigned NAA: 3h and 60 random bits.
-static bool make_naa(uint8_t naa[8]) {
-  if (getrandom(naa, 8, 0) != 8) return false;
-  naa[0] = 0x30 | (naa[0] & 0x0f);
-  return true;
-}
-
-static bool write_file(int file, const uint8_t naa[8], uid_t user, gid_t group) {
-  char text[NAA_DIGITS + 2];
-  for (size_t i = 0; i < 8; i++) snprintf(text + 2 * i, 3, "%02x", naa[i]);
-  text[NAA_DIGITS] = '\n';
-  return write(file, text, NAA_DIGITS + 1) == NAA_DIGITS + 1 && !fchown(file, user, group) && !fsync(file);
-}
-
-// Keeps an NAA in the file of this path: all of it, or none. Returns false, with errno, where it can't be.
-static bool keep(const char *path, const char *beside, const uint8_t naa[8], uid_t user, gid_t group) {
-  int file = open(beside, O_WRONLY | O_CREAT | O_TRUNC | O_CLOEXEC, 0644);
-  if (file < 0) return false;
-  bool kept = write_file(file, naa, user, group);
-  int error = errno;
-  close(file);
-  errno = error;
-  int folder = kept && !rename(beside, path) ? folder_open(path, O_RDONLY) : -1;
-  error = errno;
-  kept = folder >= 0 && !fsync(folder);
-  if (folder >= 0) close(folder);
-  else unlink(beside);
-  if (!kept) errno = error;
-  return kept;
-}
-
-static void keep_naa(struct disk *disk, uid_t user, gid_t group) {
-  char *path = path_of(disk, ""), *beside = path_of(disk, ".new");
-  bool kept = path && beside && make_naa(disk->names.naa) && keep(path, beside, disk->names.naa, user, group);
-  if (!kept) {
-    log_say(LOG_NOTE, disk, "it has no NAA: %s%s can't be made: %s", disk->path, suffix, strerror(errno));
-    memset(disk->names.naa, 0, sizeof disk->names.naa);
+  for (size_t i = 0; i < disks->count; i++) {
+    struct disk *disk = &disks->disks[i];
+    if (!is_kept(disk)) continue;
+    if (naa_read(disk->path, disk->names.naa, why, room) == NAA_WRONG || !settle(disks, disk, why, room)) return false;
   }
-  free(path);
-  free(beside);
+  return true;
 }
 
 void names_keep(struct disks *disks, uid_t user, gid_t group) {
+  char why[WHY];
+  for (size_t i = 0; i < disks->count; i++) {
+    struct disk *disk = &disks->disks[i];
+    if (!is_kept(disk)) continue;
+    disk->has_new_naa = naa_keep(disk->path, disk->names.naa, user, group, why, sizeof why) == NAA_MADE;
+    if (!disk->has_new_naa) settle(disks, disk, why, sizeof why);
+    if (!has_naa(disk)) log_say(LOG_NOTE, disk, "it has no NAA: %s", why);
+  }
+}
+
+void names_undo(struct disks *disks) {
   for (size_t i = 0; i < disks->count; i++)
-    if (is_kept(&disks->disks[i])) keep_naa(&disks->disks[i], user, group);
+    if (disks->disks[i].has_new_naa) naa_undo(disks->disks[i].path, disks->disks[i].names.naa);
+}
+
+bool names_give(const struct disks *disks, struct disk *disk, const char *text, char *why, size_t room) {
+  bool is_wanting = disk->wide && disk->path && !has_naa(disk);
+  if (!is_wanting) return snprintf(why, room, "its argument naa is of a wide disk on a file, without naa="), false;
+  if (!naa_take(disk->names.naa, text, strlen(text))) return snprintf(why, room, "its argument naa wants %s", wanted[NAA]), false;
+  bool stands = settle(disks, disk, why, room);
+  if (stands && !has_naa(disk)) log_say(LOG_NOTE, disk, "it has no NAA: %s", why);
+  return stands;
 }

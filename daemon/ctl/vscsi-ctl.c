@@ -9,10 +9,14 @@
 #include <stdlib.h>
 #include <string.h>
 #include <sys/socket.h>
+#include <sys/stat.h>
 #include <sys/un.h>
 #include <unistd.h>
 
-enum { MOST_ANSWER = 1 << 20, FAILED = 1, WRONG_WORDS = 2 };
+#include "../naa.h"
+
+// REFUSED: the daemon didn't do what it was asked. Of FAILED that isn't known.
+enum { MOST_ANSWER = 1 << 20, WHY = 300, FAILED = 1, WRONG_WORDS = 2, REFUSED = 3 };
 
 static const char usage[] =
     "vscsi-ctl PATH REQUEST\n"
@@ -44,7 +48,8 @@ static json_int_t size_of(const char *word) {
 // What the words of a disk say of its file: its path, and the words behind commas that stand once.
 struct image {
   char path[PATH_MAX + 1];
-  bool named, reads, makes;
+  bool has_path, reads, makes;
+  bool has_naa;  // the disk gets one by its words, or can't have one
 };
 
 // Takes a path up to its end or to a comma that stands once, and returns what follows. One that is too long stays so.
@@ -60,28 +65,47 @@ static const char *take_path(const char *at, char *path) {
 
 static bool is_word(const char *at, size_t length, const char *word) { return length == strlen(word) && !strncmp(at, word, length); }
 
+static bool begins(const char *at, const char *word) { return !strncmp(at, word, strlen(word)); }
+
 // Takes one word of a disk, as the daemon does, and returns what follows.
 static const char *take_word(const char *at, struct image *image) {
   static const char file[] = "file=";
   size_t length = strcspn(at, ",");
-  if (!strncmp(at, file, sizeof file - 1)) {
-    image->named = true;
-    return take_path(at + sizeof file - 1, image->path);
+  if (begins(at, file)) {
+    image->has_path = true;
+    return take_path(at + strlen(file), image->path);
   }
+  image->has_naa = image->has_naa || begins(at, "naa=") || is_word(at, length, "profile=narrow");
   image->reads = image->reads || is_word(at, length, "snapshot");
   image->makes = image->makes || is_word(at, length, "grow");
   return at + length;
 }
 
-// Opens the file that the words of a disk name. Returns -1 where they name none, or -2 where it can't be opened.
-static int open_file(const char *words) {
+static struct image image_of(const char *words) {
   struct image image = {0};
   const char *at = strchr(words, '=');
   while (at && *at) at = take_word(at + 1, &image);
-  if (!image.named) return -1;
-  int flags = (image.reads ? O_RDONLY : O_RDWR) | (image.makes ? O_CREAT : 0) | O_NONBLOCK | O_NOCTTY | O_CLOEXEC;
-  int fd = open(image.path, flags, 0600);
-  return fd < 0 ? refuse(image.path), -2 : fd;
+  return image;
+}
+
+// Opens an image. Returns -1 where it can't be opened.
+static int open_image(const struct image *image) {
+  int flags = (image->reads ? O_RDONLY : O_RDWR) | (image->makes ? O_CREAT : 0) | O_NONBLOCK | O_NOCTTY | O_CLOEXEC;
+  int fd = open(image->path, flags, 0600);
+  if (fd < 0) refuse(image->path);
+  return fd;
+}
+
+// Finds the NAA of a disk on this image: it is kept beside a regular file, and made where none is. Where none can be kept, the disk has
+// none.
+static enum naa find_naa(const struct image *image, int file, uint8_t naa[NAA_BYTES]) {
+  struct stat stat;
+  char why[WHY];
+  if (image->has_naa || fstat(file, &stat) || !S_ISREG(stat.st_mode)) return NAA_NONE;
+  enum naa came = naa_read(image->path, naa, why, sizeof why);
+  if (came == NAA_NONE) came = naa_keep(image->path, naa, (uid_t)-1, (gid_t)-1, why, sizeof why);
+  if (came == NAA_NONE || came == NAA_WRONG) fprintf(stderr, "vscsi-ctl: %s%s\n", came == NAA_NONE ? "the disk has no NAA: " : "", why);
+  return came;
 }
 
 static int connect_to(const char *path) {
@@ -126,7 +150,7 @@ static int ask(const char *path, json_t *request, int file) {
   char *text = json_dumps(request, JSON_COMPACT);
   int to = connect_to(path);
   size_t length = text ? strlen(text) : 0;
-  if (to < 0 || !text) return refuse(path);
+  if (to < 0 || !text) return refuse(path), REFUSED;
   text[length++] = '\n';
   length = send_line(to, text, length, file) ? read_line(to, answer) : 0;
   close(to);
@@ -134,14 +158,30 @@ static int ask(const char *path, json_t *request, int file) {
   json_t *came = length ? json_loadb(answer, length, 0, NULL) : NULL;
   if (!came) return fprintf(stderr, "vscsi-ctl: %s: no answer\n", path), FAILED;
   json_dumpf(came, stdout, JSON_INDENT(2));
-  int status = puts("") >= 0 && json_object_get(came, "return") ? 0 : FAILED;
+  int status = !json_object_get(came, "return") ? REFUSED : puts("") >= 0 ? 0 : FAILED;
   json_decref(came);
+  return status;
+}
+
+// Asks for a disk, with the descriptor of its image and with its NAA.
+static int attach(const char *path, json_t *request, const char *words) {
+  struct image image = image_of(words);
+  uint8_t naa[NAA_BYTES];
+  char digits[NAA_DIGITS + 1];
+  if (!image.has_path) return ask(path, request, -1);
+  int file = open_image(&image);
+  enum naa came = file < 0 ? NAA_WRONG : find_naa(&image, file, naa);
+  bool is_named = came == NAA_READ || came == NAA_MADE;
+  if (is_named) naa_print(naa, digits);
+  bool stands = came != NAA_WRONG && (!is_named || !json_object_set_new(json_object_get(request, "arguments"), "naa", json_string(digits)));
+  int status = stands ? ask(path, request, file) : FAILED;
+  if (came == NAA_MADE && (status == REFUSED || !stands)) naa_undo(image.path, naa);
+  if (file >= 0) close(file);
   return status;
 }
 
 int main(int count, char **words) {
   json_t *request = NULL;
-  int file = -1;
   if (count == 2 && !strcmp(words[1], "--help")) return fputs(usage, stdout) < 0;
   const char *command = count > 2 ? words[2] : "", *disk = count > 3 ? words[3] : NULL;
   bool has_size = count == 5 && size_of(words[4]) > 0;
@@ -151,9 +191,7 @@ int main(int count, char **words) {
     request = json_pack("{s:s,s:{s:s,s:I}}", "execute", command, "arguments", "disk", disk, "size", size_of(words[4]));
   else if (is_disk) request = json_pack("{s:s,s:{s:s}}", "execute", command, "arguments", "disk", disk);
   if (!request) return fputs(usage, stderr), WRONG_WORDS;
-  if (!strcmp(command, "attach")) file = open_file(disk);
-  int status = file < -1 ? FAILED : ask(words[1], request, file);
+  int status = !strcmp(command, "attach") ? attach(words[1], request, disk) : ask(words[1], request, -1);
   json_decref(request);
-  if (file >= 0) close(file);
-  return status;
+  return status == REFUSED ? FAILED : status;
 }

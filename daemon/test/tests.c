@@ -276,8 +276,10 @@ static void test_words(void) {
                                       "0:0=1M,snapshot", "0:0=1M,grow", "0:0=1M,file=x,grow,snapshot", "0:0=file=", "0:0=file=x,grow",
                                       "0:0=file=x,1M", "0:0=1M,file=x,file=y", "0:0=snapshot", "0:0=1M,file=x,", "0:0=1M,file=x,,,",
                                       "0:0=1M,profile=", "0:0=1M,profile=broad", "0:0=1M,profile=widest", "0:0=profile=wide", "0:0=1M,profile=wide,profile=narrow",
-                                      "0:0=1M,serial=S", "0:0=1M,profile=narrow,naa=3000000000000001", "0:0=1M,profile=wide,serial=",
-                                      "0:0=1M,profile=wide,serial=ABCDEFGHIJKLMNOPQRSTU", "0:0=1M,profile=wide,serial=S,serial=T",
+                                      "0:0=1M,profile=narrow,profile=wide", "0:0=1M,profile=narrow,profile=narrow",
+                                      "0:0=1M,profile=narrow,serial=S", "0:0=1M,profile=narrow,naa=3000000000000001",
+                                      "0:0=1M,serial=S,profile=narrow", "0:0=1M,serial=",
+                                      "0:0=1M,serial=ABCDEFGHIJKLMNOPQRSTU", "0:0=1M,profile=wide,serial=S,serial=T",
                                       "0:0=1M,profile=wide,vendor=ABCDEFGHI", "0:0=1M,profile=wide,vendor=A\tB",
                                       "0:0=1M,profile=wide,product=ABCDEFGHIJKLMNOPQ", "0:0=1M,profile=wide,revision=1.0.0",
                                       "0:0=1M,profile=wide,naa=300000000000000", "0:0=1M,profile=wide,naa=30000000000000001",
@@ -302,13 +304,13 @@ static void test_words(void) {
   disks_close(&disks);
   MUST(disks_add(&disks, "0:0=1M,profile=wide", why, sizeof why) && disks.disks[0].wide);
   MUST(disks_add(&disks, "0:1=1M,profile=narrow", why, sizeof why) && !disks.disks[1].wide);
-  MUST(disks_add(&disks, "0:2=1M", why, sizeof why) && !disks.disks[2].wide);
+  MUST(disks_add(&disks, "0:2=1M", why, sizeof why) && disks.disks[2].wide && !disks.disks[2].named);
   disks_close(&disks);
-  MUST(disks_add(&disks, "0:0=1M,naa=3123456789abcDEF,serial=A B,profile=wide,physical-block-exp=3,rotation-rate=0,vendor=V", why, sizeof why));
+  MUST(disks_add(&disks, "0:0=1M,naa=3123456789abcDEF,serial=A B,physical-block-exp=3,rotation-rate=0,vendor=V", why, sizeof why));
   const struct vscsi_identity *names = &disks.disks[0].names;
   MUST(!memcmp(names->naa, "\x31\x23\x45\x67\x89\xab\xcd\xef", 8) && !strcmp(names->serial, "A B") && !strcmp(names->vendor, "V"));
   MUST(names->physical_exponent == 3 && names->rotation_rate == VSCSI_RATE_NOT_REPORTED && !*names->product && !*names->revision);
-  MUST(!disks_add(&disks, "0:1=1M,naa=3123456789abcdef,profile=wide", why, sizeof why) && strstr(why, "another disk"));
+  MUST(!disks_add(&disks, "0:1=1M,naa=3123456789abcdef", why, sizeof why) && strstr(why, "another disk"));
   MUST(disks_add(&disks, "0:1=1M,profile=wide,rotation-rate=65534", why, sizeof why) && disks.disks[1].names.rotation_rate == 65534);
   disks_close(&disks);
   MUST(disks_add(&disks, "1:1=512", why, sizeof why) && !disks_are_whole(&disks) && !disks_add(&disks, "1:1=512", why, sizeof why));

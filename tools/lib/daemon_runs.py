@@ -681,10 +681,10 @@ def test_nonsense(room):
 
 
 @contextlib.contextmanager
-def driven(room, *words, ends):
+def driven(room, *words, ends, **more):
     """A daemon with a driver of one request queue, and its log. It is ended by SIGTERM, with this status."""
     log = room.folder / "log"
-    with room.runs("--log", log, *words, ends=ends) as run, FrontEnd(connected(room.socket)) as front:
+    with room.runs("--log", log, *words, ends=ends, **more) as run, FrontEnd(connected(room.socket)) as front:
         yield run, front, log
 
 
@@ -748,15 +748,16 @@ def test_refused_unmap(room):
 
 
 def test_profiles(room):
-    """Each disk has the commands of its profile: MODE SENSE (6) is one of the wide profile alone."""
+    """A disk has the commands of its profile, and of the wide one where no word says which: MODE SENSE (6) is of that alone."""
     words = ["--disk", "0:0=1M", "--disk", "0:1=1M,profile=wide", "--disk", "0:2=1M,profile=narrow"]
     with driven(room, *words, ends=0) as (_, front, _):
-        for lun, status in enumerate((2, 0, 2)):
+        for lun, status in enumerate((0, 0, 2)):
             front.put(bytes.fromhex("1a003f00ff00"), lun=lun, writable=255)
             wait_for(lambda: front.answered() == lun + 1, "a MODE SENSE")  # noqa: B023
             assert front.status(lun) == status, (lun, front.status(lun))
         # 67 bytes follow the first: a header, a block descriptor, and pages of 12, 20, 12 and 12 bytes (SPC-4 7.5.5, SBC-3 6.4).
-        assert front.data(1, 4) == bytes.fromhex("43001008"), front.data(1, 4).hex()
+        for lun in (0, 1):
+            assert front.data(lun, 4) == bytes.fromhex("43001008"), front.data(lun, 4).hex()
 
 
 def page(front, number, lun, code):
@@ -768,9 +769,24 @@ def page(front, number, lun, code):
     return data[:4 + data[3]]
 
 
+def naa_of(designators):
+    """The NAA of page 83h, 3h and 60 bits, or None where there is no designator of that kind (SPC-4 7.8.6.6)."""
+    first = 4 + 4 + designators[7]
+    if len(designators) == first:
+        return None
+    assert designators[first : first + 4] == b"\x01\x03\x00\x08" and len(designators) == first + 12, designators.hex()
+    return designators[first + 4 :].hex()
+
+
+def naas(room, *words, luns=(0,)):
+    """What the disks at target 0 say of their NAAs."""
+    with driven(room, *words, ends=0) as (_, front, _):
+        return [naa_of(page(front, number, lun, 0x83)) for number, lun in enumerate(luns)]
+
+
 def test_names(room):
     """Each disk tells the names of its words (SPC-4 7.8.6, 7.8.15), and wrong ones are refused."""
-    first, second = "profile=wide,serial=FIRST,naa=5000c500a1b2c3d4,vendor=ACME", "profile=wide,serial=SECOND"
+    first, second = "profile=wide,serial=FIRST,naa=5000c500a1b2c3d4,vendor=ACME", "serial=SECOND"
     with driven(room, "--disk", f"0:0=1M,{first}", "--disk", f"0:1=1M,{second}", ends=0) as (_, front, _):
         assert page(front, 0, 0, 0x80) == b"\x00\x80\x00\x05FIRST"
         t10 = b"\x02\x01\x00\x0dACME    FIRST"
@@ -778,32 +794,28 @@ def test_names(room):
         # A disk in memory alone has an NAA only where it is given one.
         assert page(front, 2, 1, 0x83) == b"\x00\x83\x00\x12" + b"\x02\x01\x00\x0eVSCSI   SECOND"
     named = ("--socket", room.socket, "--disk")
-    room.ends(*named, "0:0=1M,serial=S", status=2, says="profile=wide")
+    room.ends(*named, "0:0=1M,serial=S,profile=narrow", status=2, says="profile=narrow has no names")
     room.ends(*named, "0:0=1M,profile=wide,naa=12", status=2, says="naa= wants 16 hexadecimal digits")
     room.ends(*named, f"0:0=1M,{first}", "--disk", f"0:1=1M,{first}", status=2, says="naa= is that of another disk")
 
 
 def test_kept_naa(room):
-    """A wide disk on a file has an NAA 3h of its own, which stays: it stands beside the image."""
+    """A disk on a file has an NAA 3h of its own, which stays: it stands beside the image."""
     disk, other = room.file("disk.img"), room.file("other.img")
     kept = room.folder / "disk.img.naa"
-    words = ["--disk", f"0:0=file={disk},profile=wide"]
+    words = ["--disk", f"0:0=file={disk}"]
 
     def naa():
-        with driven(room, *words, ends=0) as (_, front, _):
-            designators = page(front, 0, 0, 0x83)
-        assert designators[-12:-8] == b"\x01\x03\x00\x08" and designators[-8] >> 4 == 3, designators.hex()
-        return designators[-8:].hex()
+        return naas(room, *words)[0]
 
     first = naa()
-    assert kept.read_text() == first + "\n" and sorted(it.name for it in room.folder.glob("*.naa*")) == [kept.name]
+    assert first[0] == "3" and kept.read_text() == first + "\n" and sorted(it.name for it in room.folder.glob("*.naa*")) == [kept.name]
     assert naa() == first
     kept.unlink()
     assert naa() != first
     kept.write_text("5000C500A1B2C3D4")
-    with driven(room, *words, ends=0) as (_, front, _):
-        assert page(front, 0, 0, 0x83)[-8:].hex() == "5000c500a1b2c3d4"
-    # The same names twice, and what is no NAA.
+    assert naa() == "5000c500a1b2c3d4"
+    # Of a copy the file is the image's, too.
     twice = room.folder / "other.img.naa"
     shutil.copy(kept, twice)
     room.refuses(*words, "--disk", f"0:1=file={other},profile=wide", says="other.img.naa: the NAA of another disk")
@@ -813,23 +825,93 @@ def test_kept_naa(room):
         assert kept.read_text() == text
     kept.unlink()
     # Neither a narrow disk nor one that is given an NAA has any kept.
-    for more in ("", ",profile=narrow", ",profile=wide,naa=3000000000000001"):
+    for more in (",profile=narrow", ",naa=3000000000000001"):
         with room.runs("--disk", f"0:0=file={disk}{more}"):
-            assert not kept.exists()
-    with room.runs("--disk", f"0:0=file={disk},profile=wide,snapshot"):
-        assert kept.exists()
+            assert serves(room.socket)
+        assert not kept.exists()
+    with room.runs("--disk", f"0:0=file={disk},snapshot"):
+        wait_for(kept.exists, "the NAA")
+    # Each image that is made has one.
+    made = naas(room, *[word for lun in range(3) for word in ("--disk", f"0:{lun}=1M,file={room.folder / f'made{lun}'}")], luns=range(3))
+    assert len(set(made)) == 3 and made == [(room.folder / f"made{lun}.naa").read_text().strip() for lun in range(3)]
+
+
+def test_naa_of_one_image(room):
+    """Of snapshots of one image the first has its NAA: two would be one disk to a guest."""
+    disk = room.file("disk.img")
+    words = [word for lun in range(3) for word in ("--disk", f"0:{lun}=file={disk},snapshot")]
+    for _ in range(2):
+        first, *others = naas(room, *words, luns=range(3))
+        assert first == (room.folder / "disk.img.naa").read_text().strip() and others == [None, None]
 
 
 def test_naa_of_a_closed_folder(room):
     """Where an NAA can't be kept, the disk has none, and the log says so."""
-    folder = room.folder / "closed"
-    folder.mkdir()
-    disk = folder / "disk.img"
-    disk.write_bytes(b"\x5a" * MIB)
-    (folder / "disk.img.naa.new").mkdir()
-    with driven(room, "--disk", f"0:0=file={disk},profile=wide", ends=0) as (_, front, _):
-        assert page(front, 0, 0, 0x83) == b"\x00\x83\x00\x19" + b"\x02\x01\x00\x15VSCSI   VSCSI00000000"
-    assert not (folder / "disk.img.naa").exists()
+    # The longest of names, and one that leaves no room for a file beside its own.
+    for name in ("d" * 255, "d" * 250):
+        disk = room.file(name)
+        with driven(room, "--disk", f"0:0=file={disk}", ends=0) as (_, front, log):
+            assert page(front, 0, 0, 0x83) == b"\x00\x83\x00\x19" + b"\x02\x01\x00\x15VSCSI   VSCSI00000000"
+            assert f"({disk}): it has no NAA: " in log.read_text(), log.read_text()
+        assert [it.name for it in room.folder.glob("d*")] == [name]
+        disk.unlink()
+
+
+def test_naa_of_a_poor_file_system(room):
+    """An NAA is kept where there are no hard links, and none where its entry may not stand on the file system."""
+    if not room.shim:
+        return "needs a program without sanitizers"
+    disk = room.file("disk.img")
+    for fault, kept in (("UNSYNCED", []), ("LINKLESS", ["disk.img.naa"])):
+        with driven(room, "--disk", f"0:0=file={disk}", ends=0, env={"LD_PRELOAD": str(room.shim), fault: "1"}) as (_, front, log):
+            told = naa_of(page(front, 0, 0, 0x83))
+            assert (told is None) == (fault == "UNSYNCED") and ("it has no NAA" in log.read_text()) == (fault == "UNSYNCED"), fault
+            assert [it.name for it in room.folder.glob("*.naa*")] == kept
+            assert [(room.folder / it).read_text() for it in kept] == [f"{told}\n"] * len(kept)
+        log.unlink()
+    assert naas(room, "--disk", f"0:0=file={disk}") == [told]
+    return None
+
+
+def test_naa_of_a_start_that_fails(room):
+    """A start that fails leaves no NAA behind, whichever of its steps is refused."""
+    made = [room.folder / name for name in ("new.img", "new.img.naa", "old.img.naa")]
+    words = ["--disk", f"0:0=1M,file={made[0]}", "--disk", f"0:1=1M,file={room.file('old.img')}"]
+    short = room.file("short.img", 512)
+    room.refuses(*words, "--disk", f"0:2=1M,file={short}", says="shorter than the disk")
+    room.refuses(*words, "--control", room.folder / "none/control", says="none/control")
+    # The last step but one: the user can't be taken, though files can be given to it.
+    weak = ["setpriv", "--bounding-set=-setuid,-setgid"]
+    left_out = None
+    if os.geteuid() or not shutil.which(weak[0]):
+        left_out = "the user, which wants root and setpriv"
+    else:
+        run = subprocess.run([*weak, room.program, "--socket", room.socket, *words, "--user", "1"], capture_output=True, text=True, timeout=20)
+        assert run.returncode == 1 and "the user or the group can't be taken" in run.stderr, run
+    assert not [it.name for it in made if it.exists()] and not list(room.folder.glob("*.naa*"))
+    return left_out
+
+
+def test_naa_of_many_starts(room):
+    """Daemons that begin at once with one file have one NAA."""
+    disk, kept = room.file("disk.img"), room.folder / "disk.img.naa"
+    for turn in range(5):
+        kept.unlink(missing_ok=True)
+        with contextlib.ExitStack() as all_of_them:
+            sockets = [room.folder / f"socket{turn}.{count}" for count in range(6)]
+            words = ["--disk", f"0:0=file={disk}", "--migratable"]
+            runs = [subprocess.Popen([room.program, "--socket", path, *words], stderr=subprocess.PIPE) for path in sockets]
+            for run in runs:
+                all_of_them.callback(run.communicate)
+                all_of_them.callback(run.terminate)
+            wait_for(lambda: all(listens(path) for path in sockets), "the daemons to listen")  # noqa: B023
+            told = set()
+            for path in sockets:
+                with FrontEnd(connected(path)) as front:
+                    told.add(naa_of(page(front, 0, 0, 0x83)))
+                    front.stop()
+            assert told == {kept.read_text().strip()}, told
+        assert [it.name for it in room.folder.glob("*.naa*")] == [kept.name]
 
 
 # Isolation.
@@ -1145,6 +1227,54 @@ def test_control_disks(room):
     return None
 
 
+def test_control_names(room):
+    """A disk that vscsi-ctl attaches has the NAA that the command line would give it, and one that is refused leaves none behind."""
+    if not room.client:
+        return "no libjansson-dev"
+    path, image = room.folder / "control", room.folder / "a,b.img"
+    own, narrow, wrong = (room.file(f"{name}.img") for name in ("own", "narrow", "wrong"))
+    kept, word = room.folder / "a,b.img.naa", str(image).replace(",", ",,")
+
+    def asks(*words, to=path, status=0):
+        run = subprocess.run([room.client, to, *words], capture_output=True, text=True)
+        assert run.returncode == status, (words, run.stdout, run.stderr)
+        return run.stdout + run.stderr
+
+    with room.runs("--disk", "0:0=1M", "--control", path):
+        asks("attach", f"0:1=1M,file={word},grow")
+        asks("attach", f"0:2=file={own},naa=5000c500a1b2c3d4")
+        asks("attach", f"0:3=file={narrow},profile=narrow")
+        asks("attach", "0:4=1M")
+        with FrontEnd(connected(room.socket)) as front:
+            told = [naa_of(page(front, number, lun, 0x83)) for number, lun in enumerate(range(5))]
+            assert told == [None, kept.read_text().strip(), "5000c500a1b2c3d4", None, None] and told[1][0] == "3", told
+            assert "InUse" in asks("attach", f"0:5=file={wrong}", status=1)
+        wait_for(lambda: '"front-end": false' in asks("stats"), "the end of the session")
+        assert "BadDisk" in asks("attach", f"0:5=512,file={wrong}", status=1) and "BadDisk" in asks("attach", f"0:4=file={wrong}", status=1)
+        asks("attach", f"0:5=file={wrong}", to=room.folder / "nowhere", status=1)
+        assert [it.name for it in room.folder.glob("*.naa*")] == [kept.name]
+        # What stands beside the image counts: no NAA, that of another disk, and that of this one.
+        beside = room.folder / "wrong.img.naa"
+        for text, says in (("x", "wrong.img.naa: not 16 hexadecimal digits"), (kept.read_text(), "wrong.img.naa: the NAA of another disk")):
+            beside.write_text(text)
+            assert says in asks("attach", f"0:5=file={wrong}", status=1) and beside.read_text() == text
+        beside.write_text("3000000000000005\n")
+        for lun in (5, 6):
+            asks("attach", f"0:{lun}=file={wrong},snapshot")
+        file = os.open(wrong, os.O_RDONLY)
+        with Asking(path) as asking:
+            assert asking.ask("attach", disk="0:7=1M", naa="3000000000000007") == "BadDisk"
+            assert asking.ask("attach", disk="0:7=1M", naa=7) == "BadRequest"
+            for more, naa in ((",naa=3000000000000008", "3000000000000007"), (",profile=narrow", "3000000000000007"), ("", "300000000000000")):
+                assert asking.ask("attach", [file], disk=f"0:7=file={wrong},snapshot{more}", naa=naa) == "BadDisk", more
+        os.close(file)
+        with FrontEnd(connected(room.socket)) as front:
+            assert [naa_of(page(front, number, lun, 0x83)) for number, lun in enumerate((5, 6))] == ["3000000000000005", None]
+    # The next start has the same one.
+    assert naas(room, "--disk", f"0:0=file={word}") == [told[1]]
+    return None
+
+
 def test_control_live(room):
     """What a guest did is counted, and its disk is resized and reset while it runs."""
     if not room.client:
@@ -1228,7 +1358,13 @@ int unlink(const char *path) {
   return (int)syscall(SYS_unlinkat, AT_FDCWD, path, 0);
 }
 
-// No folder is synced, where the environment asks for that.
+// There are no hard links, and no folder is synced, where the environment asks for that.
+int link(const char *from, const char *to) {
+  if (!getenv("LINKLESS")) return (int)syscall(SYS_linkat, AT_FDCWD, from, AT_FDCWD, to, 0);
+  errno = EPERM;
+  return -1;
+}
+
 int fsync(int fd) {
   struct stat stat;
   if (!getenv("UNSYNCED") || fstat(fd, &stat) || !S_ISDIR(stat.st_mode)) return (int)syscall(SYS_fsync, fd);

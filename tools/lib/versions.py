@@ -5,11 +5,11 @@ from pathlib import Path
 
 ROOT = Path(__file__).resolve().parent.parent.parent
 
-# What says the version: a file, and how it stands there. The first that matches is looked at.
+# What says the version: a file, and how it stands there. The first that matches is looked at: what isn't released yet says none.
 PLACES = (
     ("crates/vscsi/src/words.rt", r'\.version\("([^"]*)"\)'),
     ("crates/vscsi_c/include/vscsi.h", r"The version of this header: (\d+\.\d+\.\d+)\."),
-    ("CHANGELOG.md", r"^## \[([^]]*)\]"),
+    ("CHANGELOG.md", r"^## \[(?!Unreleased\])([^]]*)\]"),
 )
 
 # The name and the version in the title of a manual page.
