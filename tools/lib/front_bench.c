@@ -180,6 +180,7 @@ static uint64_t ran(const char *process) {
   snprintf(path, sizeof path, "/proc/%s/task", process);
   DIR *threads = opendir(path);
   for (struct dirent *it; threads && (it = readdir(threads));) {
+    if (*it->d_name == '.') continue;  // the folder above has the first thread's, too
     snprintf(path, sizeof path, "/proc/%s/task/%s/schedstat", process, it->d_name);
     FILE *file = fopen(path, "r");
     if (file && fscanf(file, "%" SCNu64, &its) == 1) all += its;
