@@ -21,7 +21,7 @@ pub struct UnitFacts {
     pub pending: Option<Sense>,
     /// The commands that the unit knows.
     pub profile: Profile,
-    /// What its configuration says of it.
+    /// Names the unit to a host, as its configuration has it.
     pub identity: Identity,
     // There are no more LUNs than flat space addresses tell apart (SAM-5 §4.7.7.3).
     ghost few: { length luns.items ≤ 16384 },

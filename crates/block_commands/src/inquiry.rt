@@ -40,7 +40,8 @@ pub(crate) fn inquiry(
     address: Address,
     allocation: u32,
 ) -> Result<Vec<u8>, AllocError>
-    ensures data { IfOk result (λ bytes. bytes.items ≡ take allocation (inquiry_data profile identity.now what address.target address.lun)) }
+    ensures data { IfOk result (λ bytes. bytes.items
+        ≡ take allocation (inquiry_data profile identity.now what address.target address.lun)) }
     ensures want { OnErr result (IsTrue (nat_lt 0 allocation)) }
 {
     match what {

@@ -1,4 +1,4 @@
-//! What a configuration may say of a disk.
+//! Names a disk to a host, as a configuration has it.
 
 ghost use Rattle.std.specs.Prelude.{◌≡◌};
 ghost use Rattle.command_model.specs.Identity.{is_identity, is_rate, is_naa, are_printable};

@@ -27,7 +27,7 @@ pub struct UnitSpec {
     pub calm: bool,
     /// The profile of its commands: those that it knows.
     pub profile: Profile,
-    /// What it says of itself, if it is of the wide profile.
+    /// Names it to a host, if it is of the wide profile.
     pub identity: Identity,
 }
 
@@ -48,11 +48,11 @@ impl UnitSpec {
 #[derive(Drop)]
 pub struct Inventory {
     addresses: ArrayVec<Address, MOST_UNITS>,
-    profiles: ArrayVec<Known, MOST_UNITS>,
+    known: ArrayVec<Known, MOST_UNITS>,
 }
 
-/// What a request is decided by once its unit is found: the commands that the unit knows, and the number of its address.
-/// Free places of a list have the narrow ones.
+/// Keeps what a request is decided by once its unit is found: the commands that the unit knows, and the number of its
+/// address. Free places of a list have the narrow ones.
 #[derive(Clone, Copy)]
 struct Known {
     profile: Profile,
@@ -75,11 +75,11 @@ impl Model for Inventory {
 
     ghost Value = { PlainInventory };
 
-    ghost view = { λ i. record { addresses = i.addresses.items; profiles = profiles_of i.profiles.items } };
+    ghost view = { λ i. record { addresses = i.addresses.items; profiles = profiles_of i.known.items } };
 
     ghost invariant = { λ i. (is_rising i.addresses.items ≡ true)
-        × (length i.profiles.items ≡ length i.addresses.items)
-        × AreNumbersOf i.profiles.items i.addresses.items };
+        × (length i.known.items ≡ length i.addresses.items)
+        × AreNumbersOf i.known.items i.addresses.items };
 }
 
 impl Inventory {
@@ -90,18 +90,15 @@ impl Inventory {
         ensures { result ≡ inventory_of units.now }
     {
         let mut addresses = ArrayVec::new();
-        let mut profiles = ArrayVec::new();
+        let mut known = ArrayVec::new();
         for unit in units {
             addresses.push(unit.address());
-            profiles.push(Known {
+            known.push(Known {
                 profile: unit.profile,
                 number: unit.address().number(),
             });
         }
-        Inventory {
-            addresses,
-            profiles,
-        }
+        Inventory { addresses, known }
     }
 
     /// Returns the addresses, each at its unit's place.
@@ -140,7 +137,7 @@ impl Inventory {
         requires place { place < length self.now.addresses }
         ensures { slice_get self.now.profiles place ≡ Some result }
     {
-        self.profiles.as_slice()[place].profile
+        self.known.as_slice()[place].profile
     }
 
     /// Returns the number of the address of the unit at this place.
@@ -153,7 +150,7 @@ impl Inventory {
         ensures range { result < 2 ^ 24 }
     {
         let _number = self.addresses.as_slice()[place].number();
-        self.profiles.as_slice()[place].number
+        self.known.as_slice()[place].number
     }
 
     /// Returns the LUNs of a target, rising, for a unit that opens. `AllocError` where their list was refused memory.

@@ -52,7 +52,7 @@ pub struct Disk {
     pub calm: bool,
     /// The profile of its commands.
     pub profile: Profile,
-    /// What it says of itself.
+    /// Names it to a host.
     pub identity: Identity,
 }
 

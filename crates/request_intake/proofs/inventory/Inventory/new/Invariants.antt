@@ -7,5 +7,5 @@ use Rattle.request_intake.proofs.inventory.Inventory.new.Given as goal
 
 abbrev pub invariant-loop-unit : goal.invariant-loop-unit
 invariant-loop-unit l = (l.addresses.items ≡ map address_of (take l.unit-index l.units))
-    × (numbers_of l.profiles.items ≡ map number_of l.addresses.items)
-    × (profiles_of l.profiles.items ≡ map (λ (u : UnitSpec). u.profile) (take l.unit-index l.units))
+    × (numbers_of l.known.items ≡ map number_of l.addresses.items)
+    × (profiles_of l.known.items ≡ map (λ (u : UnitSpec). u.profile) (take l.unit-index l.units))

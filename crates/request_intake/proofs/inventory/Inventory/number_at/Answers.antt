@@ -15,7 +15,7 @@ returns-clause-address c =
     let within : c.args.place < length c.self.inside.addresses.items =
     subst (λ (i : PlainInventory). c.args.place < length i.addresses) (sym c.self.view_is) c.requires.place in
     let known = subst (λ n. c.args.place < n) (sym c.self.invariant.1) within in
-    let is = numbered c.self.inside.profiles.items c.self.inside.addresses.items c.args.place nothing none c.self.invariant.2 known within in
+    let is = numbered c.self.inside.known.items c.self.inside.addresses.items c.args.place nothing none c.self.invariant.2 known within in
     rw (← c.self.view_is, c.as_slice-2.ensures.value)
     (slice_get-get_or c.self.inside.addresses.items c.args.place none within
     ∙ ap (λ (a : Address). Some a)
