@@ -73,7 +73,7 @@ decides_1a a b is_a is_b h =
     let same : command_by (row_of Wide 0x1a) a ≡ command_by (row_of Wide 0x1a) b = rw (e0, e1, e2, e3, e4, e5) refl in
     ap (λ x. command_by (row_of Wide x) a) is_a ∙ same ∙ sym (ap (λ x. command_by (row_of Wide x) b) is_b)
 
-decides_1b : (a b : List ℕ) → byte 0 a ≡ 0x1b → byte 0 b ≡ 0x1b → Agree (Field.Bits 5 2 2 ∷ Field.Bits 4 7 4 ∷ Field.Bits 4 1 1 ∷ Field.Bits 4 0 0 ∷ []) a b → command Wide a ≡ command Wide b
+decides_1b : (a b : List ℕ) → byte 0 a ≡ 0x1b → byte 0 b ≡ 0x1b → Agree (Field.Bits 5 2 2 ∷ Field.Bits 4 7 4 ∷ Field.Bits 4 1 1 ∷ Field.Bits 4 0 0 ∷ Field.Bits 1 0 0 ∷ []) a b → command Wide a ≡ command Wide b
 unfolding command
 decides_1b a b is_a is_b h =
     let e0 : bits 5 2 2 a ≡ bits 5 2 2 b = h.0 in
@@ -107,7 +107,7 @@ decides_25 a b is_a is_b h =
     let same : command_by (row_of Wide 0x25) a ≡ command_by (row_of Wide 0x25) b = rw (e0) refl in
     ap (λ x. command_by (row_of Wide x) a) is_a ∙ same ∙ sym (ap (λ x. command_by (row_of Wide x) b) is_b)
 
-decides_28 : (a b : List ℕ) → byte 0 a ≡ 0x28 → byte 0 b ≡ 0x28 → Agree (Field.Bits 9 2 2 ∷ Field.Bits 1 7 5 ∷ Field.Number 2 5 ∷ Field.Number 7 8 ∷ []) a b → command Wide a ≡ command Wide b
+decides_28 : (a b : List ℕ) → byte 0 a ≡ 0x28 → byte 0 b ≡ 0x28 → Agree (Field.Bits 9 2 2 ∷ Field.Bits 1 7 5 ∷ Field.Number 2 5 ∷ Field.Number 7 8 ∷ Field.Bits 1 4 3 ∷ []) a b → command Wide a ≡ command Wide b
 unfolding command
 decides_28 a b is_a is_b h =
     let e0 : bits 9 2 2 a ≡ bits 9 2 2 b = h.0 in
@@ -117,7 +117,7 @@ decides_28 a b is_a is_b h =
     let same : command_by (row_of Wide 0x28) a ≡ command_by (row_of Wide 0x28) b = rw (e0, e1, e2, e3) refl in
     ap (λ x. command_by (row_of Wide x) a) is_a ∙ same ∙ sym (ap (λ x. command_by (row_of Wide x) b) is_b)
 
-decides_2a : (a b : List ℕ) → byte 0 a ≡ 0x2a → byte 0 b ≡ 0x2a → Agree (Field.Bits 9 2 2 ∷ Field.Bits 1 7 5 ∷ Field.Number 2 5 ∷ Field.Number 7 8 ∷ []) a b → command Wide a ≡ command Wide b
+decides_2a : (a b : List ℕ) → byte 0 a ≡ 0x2a → byte 0 b ≡ 0x2a → Agree (Field.Bits 9 2 2 ∷ Field.Bits 1 7 5 ∷ Field.Number 2 5 ∷ Field.Number 7 8 ∷ Field.Bits 1 4 3 ∷ []) a b → command Wide a ≡ command Wide b
 unfolding command
 decides_2a a b is_a is_b h =
     let e0 : bits 9 2 2 a ≡ bits 9 2 2 b = h.0 in
@@ -127,7 +127,7 @@ decides_2a a b is_a is_b h =
     let same : command_by (row_of Wide 0x2a) a ≡ command_by (row_of Wide 0x2a) b = rw (e0, e1, e2, e3) refl in
     ap (λ x. command_by (row_of Wide x) a) is_a ∙ same ∙ sym (ap (λ x. command_by (row_of Wide x) b) is_b)
 
-decides_2e : (a b : List ℕ) → byte 0 a ≡ 0x2e → byte 0 b ≡ 0x2e → Agree (Field.Bits 9 2 2 ∷ Field.Bits 1 2 2 ∷ Field.Bits 1 7 5 ∷ Field.Number 2 5 ∷ Field.Number 7 8 ∷ []) a b → command Wide a ≡ command Wide b
+decides_2e : (a b : List ℕ) → byte 0 a ≡ 0x2e → byte 0 b ≡ 0x2e → Agree (Field.Bits 9 2 2 ∷ Field.Bits 1 2 2 ∷ Field.Bits 1 7 5 ∷ Field.Number 2 5 ∷ Field.Number 7 8 ∷ Field.Bits 1 4 4 ∷ []) a b → command Wide a ≡ command Wide b
 unfolding command
 decides_2e a b is_a is_b h =
     let e0 : bits 9 2 2 a ≡ bits 9 2 2 b = h.0 in
@@ -138,7 +138,7 @@ decides_2e a b is_a is_b h =
     let same : command_by (row_of Wide 0x2e) a ≡ command_by (row_of Wide 0x2e) b = rw (e0, e1, e2, e3, e4) refl in
     ap (λ x. command_by (row_of Wide x) a) is_a ∙ same ∙ sym (ap (λ x. command_by (row_of Wide x) b) is_b)
 
-decides_2f : (a b : List ℕ) → byte 0 a ≡ 0x2f → byte 0 b ≡ 0x2f → Agree (Field.Bits 9 2 2 ∷ Field.Bits 1 2 1 ∷ Field.Bits 1 7 5 ∷ Field.Number 2 5 ∷ Field.Number 7 8 ∷ []) a b → command Wide a ≡ command Wide b
+decides_2f : (a b : List ℕ) → byte 0 a ≡ 0x2f → byte 0 b ≡ 0x2f → Agree (Field.Bits 9 2 2 ∷ Field.Bits 1 2 1 ∷ Field.Bits 1 7 5 ∷ Field.Number 2 5 ∷ Field.Number 7 8 ∷ Field.Bits 1 4 4 ∷ []) a b → command Wide a ≡ command Wide b
 unfolding command
 decides_2f a b is_a is_b h =
     let e0 : bits 9 2 2 a ≡ bits 9 2 2 b = h.0 in
@@ -149,7 +149,7 @@ decides_2f a b is_a is_b h =
     let same : command_by (row_of Wide 0x2f) a ≡ command_by (row_of Wide 0x2f) b = rw (e0, e1, e2, e3, e4) refl in
     ap (λ x. command_by (row_of Wide x) a) is_a ∙ same ∙ sym (ap (λ x. command_by (row_of Wide x) b) is_b)
 
-decides_34 : (a b : List ℕ) → byte 0 a ≡ 0x34 → byte 0 b ≡ 0x34 → Agree (Field.Bits 9 2 2 ∷ Field.Number 2 5 ∷ Field.Number 7 8 ∷ []) a b → command Wide a ≡ command Wide b
+decides_34 : (a b : List ℕ) → byte 0 a ≡ 0x34 → byte 0 b ≡ 0x34 → Agree (Field.Bits 9 2 2 ∷ Field.Number 2 5 ∷ Field.Number 7 8 ∷ Field.Bits 1 1 1 ∷ []) a b → command Wide a ≡ command Wide b
 unfolding command
 decides_34 a b is_a is_b h =
     let e0 : bits 9 2 2 a ≡ bits 9 2 2 b = h.0 in
@@ -158,7 +158,7 @@ decides_34 a b is_a is_b h =
     let same : command_by (row_of Wide 0x34) a ≡ command_by (row_of Wide 0x34) b = rw (e0, e1, e2) refl in
     ap (λ x. command_by (row_of Wide x) a) is_a ∙ same ∙ sym (ap (λ x. command_by (row_of Wide x) b) is_b)
 
-decides_35 : (a b : List ℕ) → byte 0 a ≡ 0x35 → byte 0 b ≡ 0x35 → Agree (Field.Bits 9 2 2 ∷ Field.Number 2 5 ∷ Field.Number 7 8 ∷ []) a b → command Wide a ≡ command Wide b
+decides_35 : (a b : List ℕ) → byte 0 a ≡ 0x35 → byte 0 b ≡ 0x35 → Agree (Field.Bits 9 2 2 ∷ Field.Number 2 5 ∷ Field.Number 7 8 ∷ Field.Bits 1 1 1 ∷ []) a b → command Wide a ≡ command Wide b
 unfolding command
 decides_35 a b is_a is_b h =
     let e0 : bits 9 2 2 a ≡ bits 9 2 2 b = h.0 in
@@ -167,7 +167,7 @@ decides_35 a b is_a is_b h =
     let same : command_by (row_of Wide 0x35) a ≡ command_by (row_of Wide 0x35) b = rw (e0, e1, e2) refl in
     ap (λ x. command_by (row_of Wide x) a) is_a ∙ same ∙ sym (ap (λ x. command_by (row_of Wide x) b) is_b)
 
-decides_41 : (a b : List ℕ) → byte 0 a ≡ 0x41 → byte 0 b ≡ 0x41 → Agree (Field.Bits 9 2 2 ∷ Field.Bits 1 7 5 ∷ Field.Bits 1 4 4 ∷ Field.Bits 1 2 1 ∷ Field.Number 2 5 ∷ Field.Number 7 8 ∷ []) a b → command Wide a ≡ command Wide b
+decides_41 : (a b : List ℕ) → byte 0 a ≡ 0x41 → byte 0 b ≡ 0x41 → Agree (Field.Bits 9 2 2 ∷ Field.Bits 1 7 5 ∷ Field.Bits 1 4 4 ∷ Field.Bits 1 2 1 ∷ Field.Number 2 5 ∷ Field.Number 7 8 ∷ Field.Bits 1 3 3 ∷ []) a b → command Wide a ≡ command Wide b
 unfolding command
 decides_41 a b is_a is_b h =
     let e0 : bits 9 2 2 a ≡ bits 9 2 2 b = h.0 in
@@ -211,7 +211,7 @@ decides_5a a b is_a is_b h =
     let same : command_by (row_of Wide 0x5a) a ≡ command_by (row_of Wide 0x5a) b = rw (e0, e1, e2, e3, e4, e5, e6) refl in
     ap (λ x. command_by (row_of Wide x) a) is_a ∙ same ∙ sym (ap (λ x. command_by (row_of Wide x) b) is_b)
 
-decides_88 : (a b : List ℕ) → byte 0 a ≡ 0x88 → byte 0 b ≡ 0x88 → Agree (Field.Bits 15 2 2 ∷ Field.Bits 1 7 5 ∷ Field.Number 2 9 ∷ Field.Number 10 13 ∷ []) a b → command Wide a ≡ command Wide b
+decides_88 : (a b : List ℕ) → byte 0 a ≡ 0x88 → byte 0 b ≡ 0x88 → Agree (Field.Bits 15 2 2 ∷ Field.Bits 1 7 5 ∷ Field.Number 2 9 ∷ Field.Number 10 13 ∷ Field.Bits 1 4 3 ∷ []) a b → command Wide a ≡ command Wide b
 unfolding command
 decides_88 a b is_a is_b h =
     let e0 : bits 15 2 2 a ≡ bits 15 2 2 b = h.0 in
@@ -221,7 +221,7 @@ decides_88 a b is_a is_b h =
     let same : command_by (row_of Wide 0x88) a ≡ command_by (row_of Wide 0x88) b = rw (e0, e1, e2, e3) refl in
     ap (λ x. command_by (row_of Wide x) a) is_a ∙ same ∙ sym (ap (λ x. command_by (row_of Wide x) b) is_b)
 
-decides_89 : (a b : List ℕ) → byte 0 a ≡ 0x89 → byte 0 b ≡ 0x89 → Agree (Field.Bits 15 2 2 ∷ Field.Bits 1 7 5 ∷ Field.Number 2 9 ∷ Field.Whole 13 ∷ []) a b → command Wide a ≡ command Wide b
+decides_89 : (a b : List ℕ) → byte 0 a ≡ 0x89 → byte 0 b ≡ 0x89 → Agree (Field.Bits 15 2 2 ∷ Field.Bits 1 7 5 ∷ Field.Number 2 9 ∷ Field.Whole 13 ∷ Field.Bits 1 4 3 ∷ []) a b → command Wide a ≡ command Wide b
 unfolding command
 decides_89 a b is_a is_b h =
     let e0 : bits 15 2 2 a ≡ bits 15 2 2 b = h.0 in
@@ -231,7 +231,7 @@ decides_89 a b is_a is_b h =
     let same : command_by (row_of Wide 0x89) a ≡ command_by (row_of Wide 0x89) b = rw (e0, e1, e2, e3) refl in
     ap (λ x. command_by (row_of Wide x) a) is_a ∙ same ∙ sym (ap (λ x. command_by (row_of Wide x) b) is_b)
 
-decides_8a : (a b : List ℕ) → byte 0 a ≡ 0x8a → byte 0 b ≡ 0x8a → Agree (Field.Bits 15 2 2 ∷ Field.Bits 1 7 5 ∷ Field.Number 2 9 ∷ Field.Number 10 13 ∷ []) a b → command Wide a ≡ command Wide b
+decides_8a : (a b : List ℕ) → byte 0 a ≡ 0x8a → byte 0 b ≡ 0x8a → Agree (Field.Bits 15 2 2 ∷ Field.Bits 1 7 5 ∷ Field.Number 2 9 ∷ Field.Number 10 13 ∷ Field.Bits 1 4 3 ∷ []) a b → command Wide a ≡ command Wide b
 unfolding command
 decides_8a a b is_a is_b h =
     let e0 : bits 15 2 2 a ≡ bits 15 2 2 b = h.0 in
@@ -241,7 +241,7 @@ decides_8a a b is_a is_b h =
     let same : command_by (row_of Wide 0x8a) a ≡ command_by (row_of Wide 0x8a) b = rw (e0, e1, e2, e3) refl in
     ap (λ x. command_by (row_of Wide x) a) is_a ∙ same ∙ sym (ap (λ x. command_by (row_of Wide x) b) is_b)
 
-decides_8e : (a b : List ℕ) → byte 0 a ≡ 0x8e → byte 0 b ≡ 0x8e → Agree (Field.Bits 15 2 2 ∷ Field.Bits 1 2 2 ∷ Field.Bits 1 7 5 ∷ Field.Number 2 9 ∷ Field.Number 10 13 ∷ []) a b → command Wide a ≡ command Wide b
+decides_8e : (a b : List ℕ) → byte 0 a ≡ 0x8e → byte 0 b ≡ 0x8e → Agree (Field.Bits 15 2 2 ∷ Field.Bits 1 2 2 ∷ Field.Bits 1 7 5 ∷ Field.Number 2 9 ∷ Field.Number 10 13 ∷ Field.Bits 1 4 4 ∷ []) a b → command Wide a ≡ command Wide b
 unfolding command
 decides_8e a b is_a is_b h =
     let e0 : bits 15 2 2 a ≡ bits 15 2 2 b = h.0 in
@@ -252,7 +252,7 @@ decides_8e a b is_a is_b h =
     let same : command_by (row_of Wide 0x8e) a ≡ command_by (row_of Wide 0x8e) b = rw (e0, e1, e2, e3, e4) refl in
     ap (λ x. command_by (row_of Wide x) a) is_a ∙ same ∙ sym (ap (λ x. command_by (row_of Wide x) b) is_b)
 
-decides_8f : (a b : List ℕ) → byte 0 a ≡ 0x8f → byte 0 b ≡ 0x8f → Agree (Field.Bits 15 2 2 ∷ Field.Bits 1 2 1 ∷ Field.Bits 1 7 5 ∷ Field.Number 2 9 ∷ Field.Number 10 13 ∷ []) a b → command Wide a ≡ command Wide b
+decides_8f : (a b : List ℕ) → byte 0 a ≡ 0x8f → byte 0 b ≡ 0x8f → Agree (Field.Bits 15 2 2 ∷ Field.Bits 1 2 1 ∷ Field.Bits 1 7 5 ∷ Field.Number 2 9 ∷ Field.Number 10 13 ∷ Field.Bits 1 4 4 ∷ []) a b → command Wide a ≡ command Wide b
 unfolding command
 decides_8f a b is_a is_b h =
     let e0 : bits 15 2 2 a ≡ bits 15 2 2 b = h.0 in
@@ -263,7 +263,7 @@ decides_8f a b is_a is_b h =
     let same : command_by (row_of Wide 0x8f) a ≡ command_by (row_of Wide 0x8f) b = rw (e0, e1, e2, e3, e4) refl in
     ap (λ x. command_by (row_of Wide x) a) is_a ∙ same ∙ sym (ap (λ x. command_by (row_of Wide x) b) is_b)
 
-decides_90 : (a b : List ℕ) → byte 0 a ≡ 0x90 → byte 0 b ≡ 0x90 → Agree (Field.Bits 15 2 2 ∷ Field.Number 2 9 ∷ Field.Number 10 13 ∷ []) a b → command Wide a ≡ command Wide b
+decides_90 : (a b : List ℕ) → byte 0 a ≡ 0x90 → byte 0 b ≡ 0x90 → Agree (Field.Bits 15 2 2 ∷ Field.Number 2 9 ∷ Field.Number 10 13 ∷ Field.Bits 1 1 1 ∷ []) a b → command Wide a ≡ command Wide b
 unfolding command
 decides_90 a b is_a is_b h =
     let e0 : bits 15 2 2 a ≡ bits 15 2 2 b = h.0 in
@@ -272,7 +272,7 @@ decides_90 a b is_a is_b h =
     let same : command_by (row_of Wide 0x90) a ≡ command_by (row_of Wide 0x90) b = rw (e0, e1, e2) refl in
     ap (λ x. command_by (row_of Wide x) a) is_a ∙ same ∙ sym (ap (λ x. command_by (row_of Wide x) b) is_b)
 
-decides_91 : (a b : List ℕ) → byte 0 a ≡ 0x91 → byte 0 b ≡ 0x91 → Agree (Field.Bits 15 2 2 ∷ Field.Number 2 9 ∷ Field.Number 10 13 ∷ []) a b → command Wide a ≡ command Wide b
+decides_91 : (a b : List ℕ) → byte 0 a ≡ 0x91 → byte 0 b ≡ 0x91 → Agree (Field.Bits 15 2 2 ∷ Field.Number 2 9 ∷ Field.Number 10 13 ∷ Field.Bits 1 1 1 ∷ []) a b → command Wide a ≡ command Wide b
 unfolding command
 decides_91 a b is_a is_b h =
     let e0 : bits 15 2 2 a ≡ bits 15 2 2 b = h.0 in
@@ -281,7 +281,7 @@ decides_91 a b is_a is_b h =
     let same : command_by (row_of Wide 0x91) a ≡ command_by (row_of Wide 0x91) b = rw (e0, e1, e2) refl in
     ap (λ x. command_by (row_of Wide x) a) is_a ∙ same ∙ sym (ap (λ x. command_by (row_of Wide x) b) is_b)
 
-decides_93 : (a b : List ℕ) → byte 0 a ≡ 0x93 → byte 0 b ≡ 0x93 → Agree (Field.Bits 15 2 2 ∷ Field.Bits 1 7 5 ∷ Field.Bits 1 4 4 ∷ Field.Bits 1 2 1 ∷ Field.Bits 1 0 0 ∷ Field.Number 2 9 ∷ Field.Number 10 13 ∷ []) a b → command Wide a ≡ command Wide b
+decides_93 : (a b : List ℕ) → byte 0 a ≡ 0x93 → byte 0 b ≡ 0x93 → Agree (Field.Bits 15 2 2 ∷ Field.Bits 1 7 5 ∷ Field.Bits 1 4 4 ∷ Field.Bits 1 2 1 ∷ Field.Bits 1 0 0 ∷ Field.Number 2 9 ∷ Field.Number 10 13 ∷ Field.Bits 1 3 3 ∷ []) a b → command Wide a ≡ command Wide b
 unfolding command
 decides_93 a b is_a is_b h =
     let e0 : bits 15 2 2 a ≡ bits 15 2 2 b = h.0 in
@@ -303,7 +303,7 @@ decides_a0 a b is_a is_b h =
     let same : command_by (row_of Wide 0xa0) a ≡ command_by (row_of Wide 0xa0) b = rw (e0, e1, e2) refl in
     ap (λ x. command_by (row_of Wide x) a) is_a ∙ same ∙ sym (ap (λ x. command_by (row_of Wide x) b) is_b)
 
-decides_a8 : (a b : List ℕ) → byte 0 a ≡ 0xa8 → byte 0 b ≡ 0xa8 → Agree (Field.Bits 11 2 2 ∷ Field.Bits 1 7 5 ∷ Field.Number 2 5 ∷ Field.Number 6 9 ∷ []) a b → command Wide a ≡ command Wide b
+decides_a8 : (a b : List ℕ) → byte 0 a ≡ 0xa8 → byte 0 b ≡ 0xa8 → Agree (Field.Bits 11 2 2 ∷ Field.Bits 1 7 5 ∷ Field.Number 2 5 ∷ Field.Number 6 9 ∷ Field.Bits 1 4 3 ∷ []) a b → command Wide a ≡ command Wide b
 unfolding command
 decides_a8 a b is_a is_b h =
     let e0 : bits 11 2 2 a ≡ bits 11 2 2 b = h.0 in
@@ -313,7 +313,7 @@ decides_a8 a b is_a is_b h =
     let same : command_by (row_of Wide 0xa8) a ≡ command_by (row_of Wide 0xa8) b = rw (e0, e1, e2, e3) refl in
     ap (λ x. command_by (row_of Wide x) a) is_a ∙ same ∙ sym (ap (λ x. command_by (row_of Wide x) b) is_b)
 
-decides_aa : (a b : List ℕ) → byte 0 a ≡ 0xaa → byte 0 b ≡ 0xaa → Agree (Field.Bits 11 2 2 ∷ Field.Bits 1 7 5 ∷ Field.Number 2 5 ∷ Field.Number 6 9 ∷ []) a b → command Wide a ≡ command Wide b
+decides_aa : (a b : List ℕ) → byte 0 a ≡ 0xaa → byte 0 b ≡ 0xaa → Agree (Field.Bits 11 2 2 ∷ Field.Bits 1 7 5 ∷ Field.Number 2 5 ∷ Field.Number 6 9 ∷ Field.Bits 1 4 3 ∷ []) a b → command Wide a ≡ command Wide b
 unfolding command
 decides_aa a b is_a is_b h =
     let e0 : bits 11 2 2 a ≡ bits 11 2 2 b = h.0 in
@@ -323,7 +323,7 @@ decides_aa a b is_a is_b h =
     let same : command_by (row_of Wide 0xaa) a ≡ command_by (row_of Wide 0xaa) b = rw (e0, e1, e2, e3) refl in
     ap (λ x. command_by (row_of Wide x) a) is_a ∙ same ∙ sym (ap (λ x. command_by (row_of Wide x) b) is_b)
 
-decides_ae : (a b : List ℕ) → byte 0 a ≡ 0xae → byte 0 b ≡ 0xae → Agree (Field.Bits 11 2 2 ∷ Field.Bits 1 2 2 ∷ Field.Bits 1 7 5 ∷ Field.Number 2 5 ∷ Field.Number 6 9 ∷ []) a b → command Wide a ≡ command Wide b
+decides_ae : (a b : List ℕ) → byte 0 a ≡ 0xae → byte 0 b ≡ 0xae → Agree (Field.Bits 11 2 2 ∷ Field.Bits 1 2 2 ∷ Field.Bits 1 7 5 ∷ Field.Number 2 5 ∷ Field.Number 6 9 ∷ Field.Bits 1 4 4 ∷ []) a b → command Wide a ≡ command Wide b
 unfolding command
 decides_ae a b is_a is_b h =
     let e0 : bits 11 2 2 a ≡ bits 11 2 2 b = h.0 in
@@ -334,7 +334,7 @@ decides_ae a b is_a is_b h =
     let same : command_by (row_of Wide 0xae) a ≡ command_by (row_of Wide 0xae) b = rw (e0, e1, e2, e3, e4) refl in
     ap (λ x. command_by (row_of Wide x) a) is_a ∙ same ∙ sym (ap (λ x. command_by (row_of Wide x) b) is_b)
 
-decides_af : (a b : List ℕ) → byte 0 a ≡ 0xaf → byte 0 b ≡ 0xaf → Agree (Field.Bits 11 2 2 ∷ Field.Bits 1 2 1 ∷ Field.Bits 1 7 5 ∷ Field.Number 2 5 ∷ Field.Number 6 9 ∷ []) a b → command Wide a ≡ command Wide b
+decides_af : (a b : List ℕ) → byte 0 a ≡ 0xaf → byte 0 b ≡ 0xaf → Agree (Field.Bits 11 2 2 ∷ Field.Bits 1 2 1 ∷ Field.Bits 1 7 5 ∷ Field.Number 2 5 ∷ Field.Number 6 9 ∷ Field.Bits 1 4 4 ∷ []) a b → command Wide a ≡ command Wide b
 unfolding command
 decides_af a b is_a is_b h =
     let e0 : bits 11 2 2 a ≡ bits 11 2 2 b = h.0 in

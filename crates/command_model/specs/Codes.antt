@@ -29,8 +29,8 @@ mask_of (Field.Bits i high low) k = if k == i then 2 ^ (high + 1) - 2 ^ low else
 mask_of (Field.Whole i) k = if k == i then 0xff else 0
 mask_of (Field.Number i j) k = if nat_le i k && nat_le k j then 0xff else 0
 
--- a command without service actions: its opcode, and the fields that decide what is done, but for the opcode and NACA
--- (bit 2 of the control byte)
+-- a command without service actions: its opcode, and the fields that a unit evaluates, SPC-4 §6.35.3, but for the opcode
+-- and NACA (bit 2 of the control byte). DPO, FUA, IMMED and UNMAP are taken, and change nothing: they stand last.
 abbrev pub plain_commands : List (ℕ × List Field)
 plain_commands =
     -- TEST UNIT READY
@@ -47,28 +47,28 @@ plain_commands =
     ∷ (0x15, Field.Bits 1 4 4 ∷ Field.Bits 1 0 0 ∷ Field.Whole 4 ∷ [])
     -- MODE SENSE (6): DBD, PC, page code, subpage code, allocation length
     ∷ (0x1a, Field.Bits 1 3 3 ∷ Field.Bits 2 7 6 ∷ Field.Bits 2 5 0 ∷ Field.Whole 3 ∷ Field.Whole 4 ∷ [])
-    -- START STOP UNIT: POWER CONDITION, LOEJ, START
-    ∷ (0x1b, Field.Bits 4 7 4 ∷ Field.Bits 4 1 1 ∷ Field.Bits 4 0 0 ∷ [])
+    -- START STOP UNIT: POWER CONDITION, LOEJ, START, IMMED
+    ∷ (0x1b, Field.Bits 4 7 4 ∷ Field.Bits 4 1 1 ∷ Field.Bits 4 0 0 ∷ Field.Bits 1 0 0 ∷ [])
     -- SEND DIAGNOSTIC: SELF-TEST CODE, list length
     ∷ (0x1d, Field.Bits 1 7 5 ∷ Field.Number 3 4 ∷ [])
     -- PREVENT ALLOW MEDIUM REMOVAL: the obsolete bit of PREVENT
     ∷ (0x1e, Field.Bits 4 1 1 ∷ [])
     -- READ CAPACITY (10)
     ∷ (0x25, [])
-    -- READ (10): RDPROTECT, address, blocks
-    ∷ (0x28, Field.Bits 1 7 5 ∷ Field.Number 2 5 ∷ Field.Number 7 8 ∷ [])
+    -- READ (10): RDPROTECT, address, blocks, DPO and FUA
+    ∷ (0x28, Field.Bits 1 7 5 ∷ Field.Number 2 5 ∷ Field.Number 7 8 ∷ Field.Bits 1 4 3 ∷ [])
     -- WRITE (10)
-    ∷ (0x2a, Field.Bits 1 7 5 ∷ Field.Number 2 5 ∷ Field.Number 7 8 ∷ [])
-    -- WRITE AND VERIFY (10): also the upper bit of BYTCHK
-    ∷ (0x2e, Field.Bits 1 2 2 ∷ Field.Bits 1 7 5 ∷ Field.Number 2 5 ∷ Field.Number 7 8 ∷ [])
+    ∷ (0x2a, Field.Bits 1 7 5 ∷ Field.Number 2 5 ∷ Field.Number 7 8 ∷ Field.Bits 1 4 3 ∷ [])
+    -- WRITE AND VERIFY (10): also the upper bit of BYTCHK; DPO without FUA
+    ∷ (0x2e, Field.Bits 1 2 2 ∷ Field.Bits 1 7 5 ∷ Field.Number 2 5 ∷ Field.Number 7 8 ∷ Field.Bits 1 4 4 ∷ [])
     -- VERIFY (10): also BYTCHK
-    ∷ (0x2f, Field.Bits 1 2 1 ∷ Field.Bits 1 7 5 ∷ Field.Number 2 5 ∷ Field.Number 7 8 ∷ [])
-    -- PRE-FETCH (10): address, blocks
-    ∷ (0x34, Field.Number 2 5 ∷ Field.Number 7 8 ∷ [])
+    ∷ (0x2f, Field.Bits 1 2 1 ∷ Field.Bits 1 7 5 ∷ Field.Number 2 5 ∷ Field.Number 7 8 ∷ Field.Bits 1 4 4 ∷ [])
+    -- PRE-FETCH (10): address, blocks, IMMED
+    ∷ (0x34, Field.Number 2 5 ∷ Field.Number 7 8 ∷ Field.Bits 1 1 1 ∷ [])
     -- SYNCHRONIZE CACHE (10)
-    ∷ (0x35, Field.Number 2 5 ∷ Field.Number 7 8 ∷ [])
-    -- WRITE SAME (10): WRPROTECT, ANCHOR, the obsolete bits, address, blocks
-    ∷ (0x41, Field.Bits 1 7 5 ∷ Field.Bits 1 4 4 ∷ Field.Bits 1 2 1 ∷ Field.Number 2 5 ∷ Field.Number 7 8 ∷ [])
+    ∷ (0x35, Field.Number 2 5 ∷ Field.Number 7 8 ∷ Field.Bits 1 1 1 ∷ [])
+    -- WRITE SAME (10): WRPROTECT, ANCHOR, the obsolete bits, address, blocks, UNMAP
+    ∷ (0x41, Field.Bits 1 7 5 ∷ Field.Bits 1 4 4 ∷ Field.Bits 1 2 1 ∷ Field.Number 2 5 ∷ Field.Number 7 8 ∷ Field.Bits 1 3 3 ∷ [])
     -- UNMAP: ANCHOR, list length
     ∷ (0x42, Field.Bits 1 0 0 ∷ Field.Number 7 8 ∷ [])
     -- MODE SELECT (10)
@@ -76,31 +76,35 @@ plain_commands =
     -- MODE SENSE (10): also LLBAA
     ∷ (0x5a, Field.Bits 1 4 4 ∷ Field.Bits 1 3 3 ∷ Field.Bits 2 7 6 ∷ Field.Bits 2 5 0 ∷ Field.Whole 3 ∷ Field.Number 7 8 ∷ [])
     -- READ (16)
-    ∷ (0x88, Field.Bits 1 7 5 ∷ Field.Number 2 9 ∷ Field.Number 10 13 ∷ [])
+    ∷ (0x88, Field.Bits 1 7 5 ∷ Field.Number 2 9 ∷ Field.Number 10 13 ∷ Field.Bits 1 4 3 ∷ [])
     -- COMPARE AND WRITE
-    ∷ (0x89, Field.Bits 1 7 5 ∷ Field.Number 2 9 ∷ Field.Whole 13 ∷ [])
+    ∷ (0x89, Field.Bits 1 7 5 ∷ Field.Number 2 9 ∷ Field.Whole 13 ∷ Field.Bits 1 4 3 ∷ [])
     -- WRITE (16)
-    ∷ (0x8a, Field.Bits 1 7 5 ∷ Field.Number 2 9 ∷ Field.Number 10 13 ∷ [])
+    ∷ (0x8a, Field.Bits 1 7 5 ∷ Field.Number 2 9 ∷ Field.Number 10 13 ∷ Field.Bits 1 4 3 ∷ [])
     -- WRITE AND VERIFY (16)
-    ∷ (0x8e, Field.Bits 1 2 2 ∷ Field.Bits 1 7 5 ∷ Field.Number 2 9 ∷ Field.Number 10 13 ∷ [])
+    ∷ (0x8e, Field.Bits 1 2 2 ∷ Field.Bits 1 7 5 ∷ Field.Number 2 9 ∷ Field.Number 10 13 ∷ Field.Bits 1 4 4 ∷ [])
     -- VERIFY (16)
-    ∷ (0x8f, Field.Bits 1 2 1 ∷ Field.Bits 1 7 5 ∷ Field.Number 2 9 ∷ Field.Number 10 13 ∷ [])
+    ∷ (0x8f, Field.Bits 1 2 1 ∷ Field.Bits 1 7 5 ∷ Field.Number 2 9 ∷ Field.Number 10 13 ∷ Field.Bits 1 4 4 ∷ [])
     -- PRE-FETCH (16)
-    ∷ (0x90, Field.Number 2 9 ∷ Field.Number 10 13 ∷ [])
+    ∷ (0x90, Field.Number 2 9 ∷ Field.Number 10 13 ∷ Field.Bits 1 1 1 ∷ [])
     -- SYNCHRONIZE CACHE (16)
-    ∷ (0x91, Field.Number 2 9 ∷ Field.Number 10 13 ∷ [])
+    ∷ (0x91, Field.Number 2 9 ∷ Field.Number 10 13 ∷ Field.Bits 1 1 1 ∷ [])
     -- WRITE SAME (16): also NDOB
-    ∷ (0x93, Field.Bits 1 7 5 ∷ Field.Bits 1 4 4 ∷ Field.Bits 1 2 1 ∷ Field.Bits 1 0 0 ∷ Field.Number 2 9 ∷ Field.Number 10 13 ∷ [])
+    ∷ (
+      0x93,
+      Field.Bits 1 7 5 ∷ Field.Bits 1 4 4 ∷ Field.Bits 1 2 1 ∷ Field.Bits 1 0 0 ∷ Field.Number 2 9 ∷ Field.Number 10 13
+          ∷ Field.Bits 1 3 3 ∷ [],
+    )
     -- REPORT LUNS: SELECT REPORT, allocation length
     ∷ (0xa0, Field.Whole 2 ∷ Field.Number 6 9 ∷ [])
     -- READ (12)
-    ∷ (0xa8, Field.Bits 1 7 5 ∷ Field.Number 2 5 ∷ Field.Number 6 9 ∷ [])
+    ∷ (0xa8, Field.Bits 1 7 5 ∷ Field.Number 2 5 ∷ Field.Number 6 9 ∷ Field.Bits 1 4 3 ∷ [])
     -- WRITE (12)
-    ∷ (0xaa, Field.Bits 1 7 5 ∷ Field.Number 2 5 ∷ Field.Number 6 9 ∷ [])
+    ∷ (0xaa, Field.Bits 1 7 5 ∷ Field.Number 2 5 ∷ Field.Number 6 9 ∷ Field.Bits 1 4 3 ∷ [])
     -- WRITE AND VERIFY (12)
-    ∷ (0xae, Field.Bits 1 2 2 ∷ Field.Bits 1 7 5 ∷ Field.Number 2 5 ∷ Field.Number 6 9 ∷ [])
+    ∷ (0xae, Field.Bits 1 2 2 ∷ Field.Bits 1 7 5 ∷ Field.Number 2 5 ∷ Field.Number 6 9 ∷ Field.Bits 1 4 4 ∷ [])
     -- VERIFY (12)
-    ∷ (0xaf, Field.Bits 1 2 1 ∷ Field.Bits 1 7 5 ∷ Field.Number 2 5 ∷ Field.Number 6 9 ∷ [])
+    ∷ (0xaf, Field.Bits 1 2 1 ∷ Field.Bits 1 7 5 ∷ Field.Number 2 5 ∷ Field.Number 6 9 ∷ Field.Bits 1 4 4 ∷ [])
     ∷ []
 
 -- a command with a service action, which stands in bits 4 to 0 of byte 1: its opcode, the service action, and the fields
@@ -120,7 +124,7 @@ action_commands =
 abbrev pub cdb_length : ℕ → ℕ
 cdb_length opcode = length_of_group (opcode / 32)
 
--- the bits of byte k that decide
+-- the bits of byte k that a unit evaluates
 abbrev pub usage_byte : ℕ → List Field → ℕ → ℕ
 usage_byte opcode fields k = sum_by (λ field. mask_of field k) (Field.Bits (control_of opcode) 2 2 ∷ fields)
 
