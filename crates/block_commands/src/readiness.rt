@@ -7,7 +7,7 @@ ghost use Rattle.command_model.specs.Data.{data_of};
 ghost use Rattle.command_model.specs.Attention.{met};
 ghost use Rattle.command_model.specs.UnmapList.{descriptors_in, descriptors, is_named, are_in_range};
 ghost use Rattle.command_model.specs.Replies.{unmap_answer};
-ghost use Rattle.block_commands.specs.Inner.Ready.{IsReady, is_inside, is_read_wide, is_near_to, is_near_any, is_done};
+ghost use Rattle.block_commands.specs.Inner.Ready.{IsReady, is_inside, is_read_wide, is_changed_wide, is_near_wide, is_near_to, is_near_any, is_done};
 
 use crate::attention::met_attention;
 use crate::capacity::is_in_range;
@@ -128,10 +128,13 @@ fn to_compare<S: Store>(store: &mut S, lba: u64, blocks: u32) -> Readiness
     read.and(write)
 }
 
-/// Asks for the blocks that a command of the wide profile alone reads.
+/// Asks for the blocks that a command of the wide profile alone reads, and makes room for what it may write over.
 fn to_run_wide<S: Store>(store: &mut S, command: &WideCommand) -> Readiness
     ensures ready { result ≡ Ready → (b : ℕ) → IsTrue (is_read_wide (S.size store.old) command.now b) → IsTrue (S.is_held store.new b) }
     ensures asked { result ≢ Full → (b : ℕ) → IsTrue (is_read_wide (S.size store.old) command.now b) → IsTrue (S.is_coming store.new b) }
+    ensures room { result ≢ Full → (b : ℕ) → IsTrue (is_changed_wide (S.size store.old) command.now b) → IsTrue (S.has_room store.new b) }
+    ensures near { result ≡ Ready → (b : ℕ) → IsTrue (is_near_wide (S.size store.old) command.now b) → IsTrue (S.is_held store.new b) }
+    ensures near_asked { result ≢ Full → (b : ℕ) → IsTrue (is_near_wide (S.size store.old) command.now b) → IsTrue (S.is_coming store.new b) }
     ensures whole { IsTrue (S.is_whole store.old) → result ≡ Ready }
     ensures kind { S.is_whole store.new ≡ S.is_whole store.old }
     ensures blocks { (b : ℕ) → S.block_at store.new b ≡ S.block_at store.old b }
@@ -142,6 +145,7 @@ fn to_run_wide<S: Store>(store: &mut S, command: &WideCommand) -> Readiness
 {
     match *command {
         WideCommand::Verify { blocks, lba, .. } => to_read(store, lba, u32::from(blocks)),
+        WideCommand::WriteZeros { blocks, lba } => to_write(store, lba, blocks),
         _ => Readiness::Ready,
     }
 }

@@ -1,7 +1,7 @@
 //! READ, WRITE and WRITE SAME.
 
 ghost use Rattle.std.specs.Prelude.{◌≡◌, ◌&&◌, nat_lt, ℕ, ◌*◌, ◌-◌, [], length, vec_len, IfOk, OnOk, OnErr, Ok, IsTrue};
-ghost use Rattle.block_store.specs.Blocks.{run, overwritten, filled};
+ghost use Rattle.block_store.specs.Blocks.{run, overwritten, filled, zeroed};
 ghost use Rattle.command_model.specs.Capacity.{is_in_range, within};
 ghost use Rattle.command_model.specs.Data.{done};
 ghost use Rattle.block_commands.specs.Inner.Steps.{Gives, Ends, Wants};
@@ -83,6 +83,23 @@ pub(crate) fn write_same<S: Store>(
     let mut block = [0; BLOCK_BYTES];
     block.copy_from_slice(bytes);
     store.fill_blocks(lba, blocks, &block)?;
+    Ok(())
+}
+
+/// Puts zeros into each of the blocks, as if a block of zeros had been sent (SBC-3 §5.44). After an error nothing is
+/// changed. Takes no memory.
+pub(crate) fn write_zeros<S: Store>(store: &mut S, lba: u64, blocks: u32) -> Result<(), Sense>
+    requires room { (b : ℕ) → IsTrue (is_inside (S.size store.old) lba blocks b) → IsTrue (S.has_room store.old b) }
+    requires near { (b : ℕ) → IsTrue (is_near_to (S.size store.old) lba blocks b) → IsTrue (S.is_held store.old b) }
+    ensures answer { Ends (within (S.size store.old) lba blocks done) result }
+    ensures ok { OnOk result ((b : ℕ) → S.block_at store.new b ≡ zeroed (S.block_at store.old) lba blocks b) }
+    ensures err { OnErr result ((b : ℕ) → S.block_at store.new b ≡ S.block_at store.old b) }
+    ensures size { S.size store.new ≡ S.size store.old }
+{
+    if !is_in_range(store.capacity(), lba, blocks) {
+        return Err(Sense::LBA_OUT_OF_RANGE);
+    }
+    store.zero_blocks(lba, blocks);
     Ok(())
 }
 

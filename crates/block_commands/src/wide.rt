@@ -1,17 +1,19 @@
 //! The commands of the wide profile alone.
 
-ghost use Rattle.std.specs.Prelude.{◌≡◌, ◌≤◌, ◌<◌, ℕ, length, nat_lt, vec_len, take, IfOk, OnErr, IsTrue};
+ghost use Rattle.std.specs.Prelude.{◌≡◌, ◌≤◌, ◌<◌, ℕ, length, nat_lt, vec_len, take, IfOk, OnOk, OnErr, IsTrue, unwrap_or};
 ghost use Rattle.cdb.specs.Need.{wide_need};
+ghost use Rattle.command_model.specs.Effects.{wide_given};
 ghost use Rattle.command_model.specs.Modes.{mode_answer};
 ghost use Rattle.command_model.specs.Wide.{lba_status, task_management_data, wide_answer, wide_wants};
 ghost use Rattle.block_commands.specs.Inner.Steps.{Gives, Wants};
-ghost use Rattle.block_commands.specs.Inner.Ready.{is_read_wide};
+ghost use Rattle.block_commands.specs.Inner.Ready.{is_changed_wide, is_near_wide, is_read_wide};
 
 use crate::codes::operation_codes;
 use crate::data::{cut, without_data};
 use crate::failure::Failure;
 use crate::mode_lists::mode_select;
 use crate::modes::{is_saved, mode_data};
+use crate::transfer::write_zeros;
 use crate::verify::verify;
 use block_store::Store;
 use cdb::{ModeRequest, WideCommand};
@@ -30,20 +32,26 @@ const EXTENDED_TASK_MANAGEMENT: [u8; 16] = [
 /// The bytes that follow byte 3 of the data of GET LBA STATUS.
 const STATUS_LENGTH: u32 = 20;
 
-/// Runs a command of the wide profile alone on the blocks of a unit, on exactly the data that it needs. None changes a
-/// block.
+/// Runs a command of the wide profile alone on the blocks of a unit, on exactly the data that it needs. After an error
+/// nothing is changed.
 pub(crate) fn wide<S: Store>(
     alloc: Global,
-    store: &S,
+    store: &mut S,
     command: &WideCommand,
     bytes: &[u8],
 ) -> Result<Vec<u8>, Failure>
     requires data { length bytes.now ≡ (wide_need command.now).out }
-    requires read { (b : ℕ) → IsTrue (is_read_wide (S.size store.now) command.now b) → IsTrue (S.is_held store.now b) }
+    requires read { (b : ℕ) → IsTrue (is_read_wide (S.size store.old) command.now b) → IsTrue (S.is_held store.old b) }
+    requires changed { (b : ℕ) → IsTrue (is_changed_wide (S.size store.old) command.now b) → IsTrue (S.has_room store.old b) }
+    requires near { (b : ℕ) → IsTrue (is_near_wide (S.size store.old) command.now b) → IsTrue (S.is_held store.old b) }
     ensures answer { Gives (λ bytes. bytes.items)
-        (wide_answer (S.size store.now) command.now bytes.now (S.block_at store.now)) result }
+        (wide_answer (S.size store.old) command.now bytes.now (S.block_at store.old)) result }
+    ensures ok { OnOk result ((b : ℕ) → S.block_at store.new b
+        ≡ unwrap_or (wide_given command.now bytes.now b) (S.block_at store.old b)) }
+    ensures err { OnErr result ((b : ℕ) → S.block_at store.new b ≡ S.block_at store.old b) }
+    ensures size { S.size store.new ≡ S.size store.old }
     ensures room { IfOk result (λ bytes. vec_len bytes ≤ (wide_need command.now).into) }
-    ensures want { Wants (wide_wants (S.size store.now) command.now) result }
+    ensures want { Wants (wide_wants (S.size store.old) command.now) result }
 {
     match *command {
         WideCommand::ModeSense(request) => mode_sense(alloc, &request, store.capacity()),
@@ -66,6 +74,10 @@ pub(crate) fn wide<S: Store>(
         }
         WideCommand::Verify { sent, blocks, lba } => {
             without_data(alloc, verify(alloc, store, sent, lba, blocks, bytes))
+        }
+        WideCommand::WriteZeros { blocks, lba } => {
+            write_zeros(store, lba, blocks)?;
+            Ok(Vec::new(alloc))
         }
     }
 }

@@ -58,9 +58,10 @@ all_known Narrow cdb = refl
 all_known Wide cdb =
     both _ _ (verified_known (number 2 5 cdb) (number 7 8 cdb) cdb)
     (both _ _ (verified_known (number 2 9 cdb) (number 10 13 cdb) cdb)
+    (both _ _ (either_meant (bit 1 0 cdb) _ _ refl refl)
     (both _ _ (either_meant (bits 1 4 0 cdb == 0x10) _ _ refl refl)
     (both _ _ (either_meant (bits 1 4 0 cdb == 0x0c) _ _ refl refl)
-    (both _ _ (verified_known (number 2 5 cdb) (number 6 9 cdb) cdb) refl))))
+    (both _ _ (verified_known (number 2 5 cdb) (number 6 9 cdb) cdb) refl)))))
 
 pub known : (profile : Profile) (cdb : List ℕ) → is_profiled profile (byte 0 cdb) ≡ true → command profile cdb ≢ Unknown
 known profile cdb h is_unknown =

@@ -90,6 +90,14 @@ capacity_row =
     (λ cdb. not (bits 1 4 0 cdb == 0x10) ∷ [])
     (λ cdb. ReadCapacity16 (number 10 13 cdb))
 
+-- WRITE SAME (16), SBC-3 §5.44: as WRITE SAME (10), and NDOB
+abbrev pub same_row : Row
+same_row =
+    row 0x93 15
+    (λ cdb. protect cdb ∷ bit 1 4 cdb ∷ is_set (bits 1 2 1 cdb) ∷ bit 1 0 cdb
+    ∷ (number 10 13 cdb == 0) ∷ is_over 65536 (number 10 13 cdb) ∷ [])
+    (λ cdb. WriteSame (number 2 9 cdb) (number 10 13 cdb))
+
 -- the narrow profile
 abbrev pub narrow_rows : List Row
 narrow_rows =
@@ -140,11 +148,8 @@ narrow_rows =
     (λ cdb. Write (number 2 9 cdb) (number 10 13 cdb))
     -- SYNCHRONIZE CACHE (16), SBC-3 §5.27
     ∷ row 0x91 15 never (λ cdb. SynchronizeCache (number 2 9 cdb) (number 10 13 cdb))
-    -- WRITE SAME (16), SBC-3 §5.44: the same, and NDOB
-    ∷ row 0x93 15
-    (λ cdb. protect cdb ∷ bit 1 4 cdb ∷ is_set (bits 1 2 1 cdb) ∷ bit 1 0 cdb
-    ∷ (number 10 13 cdb == 0) ∷ is_over 65536 (number 10 13 cdb) ∷ [])
-    (λ cdb. WriteSame (number 2 9 cdb) (number 10 13 cdb))
+    -- WRITE SAME (16), SBC-3 §5.44
+    ∷ same_row
     -- READ CAPACITY (16), SBC-3 §5.16
     ∷ capacity_row
     -- REPORT LUNS, SPC-4 §6.33

@@ -4,8 +4,8 @@ use Rattle.std.specs.List.{list_any}
 use Rattle.cdb.specs.Fields.{byte, bits, bit, number, is_set, is_over}
 use Rattle.cdb.specs.Profile.{Row, row, never, protect}
 use Rattle.cdb.specs.declared.commands.Command.{Command}
-use Rattle.cdb.specs.declared.commands.Command.TheVariants.{TestUnitReady, Write, ReadCapacity16, SynchronizeCache, Wide}
-use Rattle.cdb.specs.declared.wide_commands.WideCommand.TheVariants.{ModeSense, ModeSelect, ReportTaskManagement, ReportOperationCodes, GetLbaStatus, Verify}
+use Rattle.cdb.specs.declared.commands.Command.TheVariants.{TestUnitReady, Write, ReadCapacity16, SynchronizeCache, WriteSame, Wide}
+use Rattle.cdb.specs.declared.wide_commands.WideCommand.TheVariants.{ModeSense, ModeSelect, ReportTaskManagement, ReportOperationCodes, GetLbaStatus, Verify, WriteZeros}
 use Rattle.cdb.specs.declared.wide_commands.CodesAsked.{CodesAsked}
 use Rattle.cdb.specs.declared.wide_commands.CodesAsked.TheVariants.{AllCommands, OneCommand, OneServiceAction}
 use Rattle.cdb.specs.declared.wide_commands.VerifyData.TheVariants.{EachBlock, OneBlock}
@@ -75,6 +75,20 @@ abbrev pub verified : ℕ → ℕ → List ℕ → Command
 verified lba count cdb =
     if bits 1 2 1 cdb == 0 then SynchronizeCache lba count
     else (if bits 1 2 1 cdb == 1 then Wide (Verify EachBlock count lba) else Wide (Verify OneBlock count lba))
+
+-- WRITE SAME (16), SBC-3 §5.44: without data where NDOB is 1
+abbrev pub same_causes : List ℕ → List Bool
+same_causes cdb =
+    protect cdb ∷ bit 1 4 cdb ∷ is_set (bits 1 2 1 cdb)
+    ∷ (number 10 13 cdb == 0) ∷ is_over 65536 (number 10 13 cdb) ∷ []
+
+abbrev pub same_meaning : List ℕ → Command
+same_meaning cdb =
+    if bit 1 0 cdb then Wide (WriteZeros (number 10 13 cdb) (number 2 9 cdb))
+    else WriteSame (number 2 9 cdb) (number 10 13 cdb)
+
+abbrev pub wide_same_row : Row
+wide_same_row = row 0x93 15 same_causes same_meaning
 
 -- SERVICE ACTION IN (16): a service action but READ CAPACITY (16) and GET LBA STATUS
 abbrev pub action_causes : List ℕ → List Bool
@@ -151,6 +165,8 @@ wide_rows =
     (λ cdb. verified (number 2 9 cdb) (number 10 13 cdb) cdb)
     -- PRE-FETCH (16), SBC-3 §5.9
     ∷ row 0x90 15 never (λ cdb. SynchronizeCache (number 2 9 cdb) (number 10 13 cdb))
+    -- WRITE SAME (16), SBC-3 §5.44
+    ∷ wide_same_row
     -- READ CAPACITY (16), SBC-3 §5.16, and GET LBA STATUS, SBC-3 §5.4
     ∷ service_row
     -- REPORT SUPPORTED OPERATION CODES, SPC-4 §6.35, and REPORT SUPPORTED TASK MANAGEMENT FUNCTIONS, SPC-4 §6.36

@@ -65,7 +65,7 @@ pub enum Command {
         /// The number of blocks; 0 means all from `lba` on.
         blocks: u32,
     },
-    /// WRITE SAME (10) or (16) (SBC-3 §5.43, §5.44).
+    /// WRITE SAME (10) or (16) (SBC-3 §5.43, §5.44), with a block of data.
     WriteSame {
         /// The first block.
         lba: u64,

@@ -3,8 +3,8 @@
 ghost use Rattle.std.specs.Prelude.{◌≡◌, ◌<◌, ◌≤◌, ◌==◌, [], ◌∷◌, if◌then◌else◌, unwrap_or, IfSome};
 ghost use Rattle.cdb.specs.Fields.{bit, bits, byte, is_over, is_set};
 ghost use Rattle.cdb.specs.Profile.{inquiry_causes, inquiry_meaning, page_of, protect};
-ghost use Rattle.cdb.specs.Decoding.{command};
-ghost use Rattle.cdb.specs.Inner.Decoding.{fields_of, service_causes, service_meaning, unless};
+ghost use Rattle.cdb.specs.Decoding.{any, command};
+ghost use Rattle.cdb.specs.Inner.Decoding.{fields_of, same_causes, same_meaning, service_causes, service_meaning, unless};
 ghost use Rattle.cdb.specs.Need.{need_of};
 
 use crate::commands::{
@@ -17,6 +17,7 @@ use crate::fields::{
 };
 use crate::opcodes;
 use crate::profile::Profile;
+use crate::wide_commands::WideCommand;
 use crate::wide_decoding::{decode_other, service_action_in_16};
 use byteorder::{BigEndian, ByteOrder};
 
@@ -121,7 +122,7 @@ fn decode_16(profile: Profile, cdb: &[u8; CDB_BYTES]) -> Command
         opcodes::WRITE_16 => write(cdb, blocks_16(cdb)),
         opcodes::COMPARE_AND_WRITE => compare_and_write(cdb),
         opcodes::SYNCHRONIZE_CACHE_16 => Some(synchronize_cache(blocks_16(cdb))),
-        opcodes::WRITE_SAME_16 => write_same_16(cdb),
+        opcodes::WRITE_SAME_16 => write_same_16(profile, cdb),
         opcodes::SERVICE_ACTION_IN_16 => service_action(profile, cdb),
         _ => return decode_other(profile, cdb),
     };
@@ -296,12 +297,7 @@ fn write_same(cdb: &[u8; CDB_BYTES], blocks: Blocks) -> Option<Command>
         (Command.WriteSame blocks.lba blocks.count) }
     ensures data_out { IfSome result (λ c. (need_of c).out ≤ 1048576) }
 {
-    let anchor = has_bit(cdb[1], 4);
-    let obsolete = has_bit(cdb[1], 2) || has_bit(cdb[1], 1);
-    if has_protect(cdb) || anchor || obsolete {
-        return None;
-    }
-    if blocks.count == 0 || blocks.count > MOST_WRITE_SAME_BLOCKS {
+    if is_refused_same(cdb, blocks.count) {
         return None;
     }
     Some(Command::WriteSame {
@@ -310,16 +306,47 @@ fn write_same(cdb: &[u8; CDB_BYTES], blocks: Blocks) -> Option<Command>
     })
 }
 
+/// Decodes WRITE SAME (16) without data.
+fn write_zeros(cdb: &[u8; CDB_BYTES], blocks: Blocks) -> Option<Command>
+    ensures meaning { result
+        ≡ unless (protect cdb.now ∷ bit 1 4 cdb.now ∷ is_set (bits 1 2 1 cdb.now)
+        ∷ (blocks.count == 0) ∷ is_over 65536 blocks.count ∷ [])
+        (Command.Wide (WideCommand.WriteZeros blocks.count blocks.lba)) }
+    ensures data_out { IfSome result (λ c. (need_of c).out ≤ 1048576) }
+{
+    if is_refused_same(cdb, blocks.count) {
+        return None;
+    }
+    Some(Command::Wide(WideCommand::WriteZeros {
+        blocks: blocks.count,
+        lba: blocks.lba,
+    }))
+}
+
+/// Returns true if a WRITE SAME of so many blocks is refused, whether it has data or not.
+fn is_refused_same(cdb: &[u8; CDB_BYTES], count: u32) -> bool
+    ensures { result ≡ any (protect cdb.now ∷ bit 1 4 cdb.now ∷ is_set (bits 1 2 1 cdb.now)
+        ∷ (count == 0) ∷ is_over 65536 count ∷ []) }
+{
+    let anchor = has_bit(cdb[1], 4);
+    let obsolete = has_bit(cdb[1], 2) || has_bit(cdb[1], 1);
+    if has_protect(cdb) || anchor || obsolete {
+        return true;
+    }
+    count == 0 || count > MOST_WRITE_SAME_BLOCKS
+}
+
 /// Decodes WRITE SAME (16).
-fn write_same_16(cdb: &[u8; CDB_BYTES]) -> Option<Command>
-    ensures meaning { result ≡ fields_of Profile.Narrow 0x93 cdb.now }
+fn write_same_16(profile: Profile, cdb: &[u8; CDB_BYTES]) -> Option<Command>
+    ensures meaning { result ≡ unless (same_causes profile cdb.now) (same_meaning profile cdb.now) }
     ensures data_out { IfSome result (λ c. (need_of c).out ≤ 1048576) }
 {
     let no_data_out = has_bit(cdb[1], 0);
-    if no_data_out {
-        return None;
+    match profile {
+        Profile::Narrow if no_data_out => None,
+        Profile::Wide if no_data_out => write_zeros(cdb, blocks_16(cdb)),
+        _ => write_same(cdb, blocks_16(cdb)),
     }
-    write_same(cdb, blocks_16(cdb))
 }
 
 /// Decodes UNMAP.

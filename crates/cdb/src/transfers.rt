@@ -61,6 +61,7 @@ fn wide_need(command: &WideCommand) -> Transfer
         WideCommand::Verify { sent, blocks, .. } => from_driver(
             sent_blocks(sent, blocks) * BLOCK_BYTES,
         ),
+        WideCommand::WriteZeros { .. } => Transfer { out: 0, into: 0 },
     }
 }
 

@@ -44,6 +44,13 @@ pub enum WideCommand {
         /// The first block.
         lba: u64,
     },
+    /// WRITE SAME (16) without data: NDOB is 1 (SBC-3 §5.44). One with data is a [`crate::Command::WriteSame`].
+    WriteZeros {
+        /// The number of blocks, 1 to `MOST_WRITE_SAME_BLOCKS`.
+        blocks: u32,
+        /// The first block.
+        lba: u64,
+    },
 }
 
 /// The commands that a REPORT SUPPORTED OPERATION CODES tells of: the field REPORTING OPTIONS (SPC-4 §6.35).

@@ -1,7 +1,9 @@
 -- What a command leaves in each block.
 use Rattle.std.specs.Prelude.{ℕ, ◌-◌, ◌==◌, Bool, List, Option, Some, None, if◌then◌else◌, unwrap_or}
 use Rattle.cdb.specs.declared.commands.Command.{Command}
-use Rattle.cdb.specs.declared.commands.Command.TheVariants.{Write, WriteSame, Unmap, CompareAndWrite}
+use Rattle.cdb.specs.declared.commands.Command.TheVariants.{Write, WriteSame, Unmap, CompareAndWrite, Wide}
+use Rattle.cdb.specs.declared.wide_commands.WideCommand.{WideCommand}
+use Rattle.cdb.specs.declared.wide_commands.WideCommand.TheVariants.{WriteZeros}
 use Rattle.block_store.specs.Blocks.{Blocks, nth_block, zero_block, is_within}
 use Rattle.command_model.specs.Statuses.{good}
 use Rattle.command_model.specs.Comparing.{to_write}
@@ -11,15 +13,21 @@ use Rattle.command_model.specs.UnmapList.{descriptors, is_named}
 abbrev pub where_covered : Bool → List ℕ → Option (List ℕ)
 where_covered covered bytes = if covered then Some bytes else None
 
--- what a writing command with this data gives block b where it ends with GOOD, if it covers b: WRITE
--- its slice of the data (SBC-3 §5.33), WRITE SAME the one block of data (SBC-3 §5.43), UNMAP zeros
--- (SBC-3 §5.28), COMPARE AND WRITE its slice of the second half (SBC-3 §5.2)
+-- what a command of the wide profile alone gives block b where it ends with GOOD, if it covers b: WRITE SAME with NDOB
+-- zeros (SBC-3 §5.44)
+abbrev pub wide_given : WideCommand → List ℕ → ℕ → Option (List ℕ)
+wide_given (WriteZeros count lba) bytes b = where_covered (is_within lba count b) zero_block
+wide_given _ bytes b = None
+
+-- the same of a command with this data: WRITE its slice of the data (SBC-3 §5.33), WRITE SAME the one block of data
+-- (SBC-3 §5.43), UNMAP zeros (SBC-3 §5.28), COMPARE AND WRITE its slice of the second half (SBC-3 §5.2)
 abbrev pub given : Command → List ℕ → ℕ → Option (List ℕ)
 given (Write lba count) bytes b = where_covered (is_within lba count b) (nth_block bytes (b - lba))
 given (WriteSame lba count) bytes b = where_covered (is_within lba count b) bytes
 given (Unmap list_length) bytes b = where_covered (is_named (descriptors bytes) b) zero_block
 given (CompareAndWrite lba count) bytes b =
     where_covered (is_within lba count b) (nth_block (to_write count bytes) (b - lba))
+given (Wide command) bytes b = wide_given command bytes b
 given _ bytes b = None
 
 -- block b once the command ended with this status, over the blocks before

@@ -1,6 +1,6 @@
 -- Which commands may be refused memory: those with data to return or to write, unless a test that
--- comes before refuses them. An UNMAP writes no data; no data is returned for an allocation length of
--- 0, but of a list of LUNs, and no block is read for a length of 0.
+-- comes before refuses them. An UNMAP writes no data, nor does a WRITE SAME with NDOB; no data is
+-- returned for an allocation length of 0, but of a list of LUNs, and no block is read for a length of 0.
 use Rattle.std.specs.Prelude.{ℕ, Bool, true, false, not, ◌&&◌, ◌||◌, nat_lt, is_some}
 use Rattle.cdb.specs.declared.commands.Command.{Command}
 use Rattle.cdb.specs.declared.commands.Command.TheVariants.{TestUnitReady, RequestSense, Read, Write, Inquiry, ReadCapacity10, ReadCapacity16, SynchronizeCache, WriteSame, Unmap, CompareAndWrite, ReportLuns, Wide, Bad, Unknown}

@@ -1,12 +1,12 @@
 -- What a command of the wide profile alone is answered in a unit of so many blocks, by the data from the driver and the
--- blocks. None changes a block.
+-- blocks.
 use Rattle.std.specs.Prelude.{ℕ, ◌-◌, Bool, true, false, ◌&&◌, nat_lt, List, [], ◌∷◌, ◌++◌, min, replicate, take, Ok, Err, if◌then◌else◌}
 use Rattle.std.specs.Int.{w32, w64, to_be_bytes}
 use Rattle.sense.specs.Conditions.{lba_out_of_range}
 use Rattle.cdb.specs.declared.wide_commands.WideCommand.{WideCommand}
-use Rattle.cdb.specs.declared.wide_commands.WideCommand.TheVariants.{ModeSense, ModeSelect, ReportTaskManagement, ReportOperationCodes, GetLbaStatus, Verify}
+use Rattle.cdb.specs.declared.wide_commands.WideCommand.TheVariants.{ModeSense, ModeSelect, ReportTaskManagement, ReportOperationCodes, GetLbaStatus, Verify, WriteZeros}
 use Rattle.block_store.specs.Blocks.{Blocks, run}
-use Rattle.command_model.specs.Data.{Answer}
+use Rattle.command_model.specs.Data.{Answer, done}
 use Rattle.command_model.specs.Capacity.{is_in_range, within}
 use Rattle.command_model.specs.Comparing.{to_verify, first_unequal, compared}
 use Rattle.command_model.specs.Codes.{codes_answer}
@@ -38,6 +38,8 @@ wide_answer capacity (ReportOperationCodes asked allocation) bytes blocks = code
 -- SBC-3 §5.29
 wide_answer capacity (Verify sent count lba) bytes blocks =
     within capacity lba count (compared (first_unequal (run (to_verify sent bytes) 0 count) (run blocks lba count)))
+-- SBC-3 §5.44
+wide_answer capacity (WriteZeros count lba) bytes blocks = within capacity lba count done
 
 -- whether it may be refused memory
 abbrev pub wide_wants : ℕ → WideCommand → Bool
@@ -47,3 +49,4 @@ wide_wants capacity (ReportTaskManagement extended allocation) = nat_lt 0 alloca
 wide_wants capacity (GetLbaStatus allocation lba) = nat_lt 0 allocation
 wide_wants capacity (ReportOperationCodes asked allocation) = nat_lt 0 allocation
 wide_wants capacity (Verify sent count lba) = nat_lt 0 count && is_in_range capacity lba count
+wide_wants capacity (WriteZeros count lba) = false

@@ -1,15 +1,15 @@
 //! The blocks of a unit that may have changed.
 
-ghost use Rattle.std.specs.Prelude.{◌≡◌, ℕ, ◌+◌, ◌-◌, ◌*◌, ◌<◌, ◌≤◌, ◌^◌, Bool, false, [], length, is_some, nat_le, ◌&&◌, ◌||◌};
+ghost use Rattle.std.specs.Prelude.{◌≡◌, ℕ, ◌+◌, ◌-◌, ◌*◌, ◌<◌, ◌≤◌, ◌^◌, Bool, false, List, [], length, is_some, nat_le, ◌&&◌, ◌||◌};
 ghost use Rattle.block_store.specs.Blocks.{is_within};
-ghost use Rattle.command_model.specs.Effects.{given};
+ghost use Rattle.command_model.specs.Effects.{given, wide_given};
 ghost use Rattle.command_model.specs.UnmapList.{descriptors_in, descriptors, is_named};
 ghost use Rattle.unit_history.specs.Changes.{is_in};
 ghost use Rattle.unit_history.specs.Inner.Noting.{Notes};
 
 use arrayvec::ArrayVec;
 use block_commands::{UNMAP_HEADER_BYTES, extent_at, taken_descriptors};
-use cdb::Command;
+use cdb::{Command, WideCommand};
 use std::marker::Model;
 
 /// The most ranges that are kept apart.
@@ -221,6 +221,20 @@ impl Changes {
                 self.note(lba, u64::from(blocks), capacity, place)
             }
             Command::Unmap { .. } => self.note_unmap(bytes, capacity, place),
+            Command::Wide(command) => self.note_wide(&command, capacity, place),
+            _ => {}
+        }
+    }
+
+    /// Notes the same of a command of the wide profile alone.
+    #[inline(never)]
+    fn note_wide(&mut self, command: &WideCommand, capacity: u64, place: u64)
+        ensures { (bytes : List ℕ) → Notes (λ b. is_some (wide_given command.now bytes b)) capacity place self.old self.new }
+    {
+        match *command {
+            WideCommand::WriteZeros { blocks, lba } => {
+                self.note(lba, u64::from(blocks), capacity, place)
+            }
             _ => {}
         }
     }

@@ -4,7 +4,7 @@ use Rattle.std.specs.List.{list_any}
 use Rattle.cdb.specs.declared.commands.Command.{Command}
 use Rattle.cdb.specs.declared.commands.Command.TheVariants.{Read, Write, WriteSame, Unmap, CompareAndWrite, Wide}
 use Rattle.cdb.specs.declared.wide_commands.WideCommand.{WideCommand}
-use Rattle.cdb.specs.declared.wide_commands.WideCommand.TheVariants.{Verify}
+use Rattle.cdb.specs.declared.wide_commands.WideCommand.TheVariants.{Verify, WriteZeros}
 use Rattle.block_store.specs.Blocks.{is_within}
 use Rattle.block_store.specs.Inner.Pages.{is_beside}
 use Rattle.command_model.specs.Data.{Answer}
@@ -32,6 +32,16 @@ abbrev pub is_read_wide : ℕ → WideCommand → ℕ → Bool
 is_read_wide blocks (Verify sent count lba) b = is_inside blocks lba count b
 is_read_wide blocks _ b = false
 
+-- whether it may write over the block
+abbrev pub is_changed_wide : ℕ → WideCommand → ℕ → Bool
+is_changed_wide blocks (WriteZeros count lba) b = is_inside blocks lba count b
+is_changed_wide blocks _ b = false
+
+-- whether the block lies in a page of which it may write over a part
+abbrev pub is_near_wide : ℕ → WideCommand → ℕ → Bool
+is_near_wide blocks (WriteZeros count lba) b = is_near_to blocks lba count b
+is_near_wide blocks _ b = false
+
 -- whether a command does
 abbrev pub is_read : ℕ → Command → ℕ → Bool
 is_read blocks (Read lba count) b = is_inside blocks lba count b
@@ -45,6 +55,7 @@ is_changed blocks (Write lba count) bytes b = is_inside blocks lba count b
 is_changed blocks (WriteSame lba count) bytes b = is_inside blocks lba count b
 is_changed blocks (Unmap list_length) bytes b = is_done (unmap_answer blocks bytes) && is_named (descriptors bytes) b
 is_changed blocks (CompareAndWrite lba count) bytes b = is_inside blocks lba count b
+is_changed blocks (Wide command) bytes b = is_changed_wide blocks command b
 is_changed blocks _ bytes b = false
 
 -- whether it lies in a page of which the command may write over a part
@@ -53,6 +64,7 @@ is_near blocks (Write lba count) bytes b = is_near_to blocks lba count b
 is_near blocks (WriteSame lba count) bytes b = is_near_to blocks lba count b
 is_near blocks (Unmap list_length) bytes b = is_done (unmap_answer blocks bytes) && is_near_any (descriptors bytes) b
 is_near blocks (CompareAndWrite lba count) bytes b = is_near_to blocks lba count b
+is_near blocks (Wide command) bytes b = is_near_wide blocks command b
 is_near blocks _ bytes b = false
 
 -- the command can run: what it reads, and what is beside what it writes, is in memory, and what it writes has room

@@ -1,7 +1,7 @@
 -- Rests on `specs/Decoding.antt`; no promise rests on it.
 use Rattle.std.specs.Prelude.{ℕ, Bool, List, if◌then◌else◌, Option, None, Some}
-use Rattle.cdb.specs.Profile.{Row, row, capacity_row}
-use Rattle.cdb.specs.WideProfile.{service_row}
+use Rattle.cdb.specs.Profile.{Row, row, capacity_row, same_row}
+use Rattle.cdb.specs.WideProfile.{service_row, wide_same_row}
 use Rattle.cdb.specs.Decoding.{any, row_of}
 use Rattle.cdb.specs.declared.profile.Profile.{Profile}
 use Rattle.cdb.specs.declared.profile.Profile.TheVariants.{Narrow, Wide}
@@ -18,6 +18,18 @@ fields_by (Some row) cdb = unless (row.causes cdb) (row.meaning cdb)
 
 abbrev pub fields_of : Profile → ℕ → List ℕ → Option Command
 fields_of profile opcode cdb = fields_by (row_of profile opcode) cdb
+
+-- the row of WRITE SAME (16)
+abbrev pub same_causes : Profile → List ℕ → List Bool
+same_causes Narrow = same_row.causes
+same_causes Wide = wide_same_row.causes
+
+abbrev pub same_meaning : Profile → List ℕ → Command
+same_meaning Narrow = same_row.meaning
+same_meaning Wide = wide_same_row.meaning
+
+abbrev pub same_rows : Profile → Row
+same_rows profile = row 0x93 15 (same_causes profile) (same_meaning profile)
 
 -- the row of SERVICE ACTION IN (16)
 abbrev pub service_causes : Profile → List ℕ → List Bool
