@@ -25,9 +25,13 @@ INQUIRY, REPORT_LUNS, REQUEST_SENSE = 0x12, 0xa0, 0x03
 
 # Commands that name a range of blocks, by what they do with it (SBC-3 §5).
 READ, WRITE, SYNCHRONIZE, WRITE_SAME, COMPARE = (0x08, 0x28, 0xa8, 0x88), (0x0a, 0x2a, 0xaa, 0x8a), (0x35, 0x91), (0x41, 0x93), (0x89,)
+OR_WRITE = (0x8b,)
 RANGED = (*READ, *WRITE, *SYNCHRONIZE, *WRITE_SAME, *COMPARE)
 TEST_UNIT_READY, UNMAP, CAPACITY_10, CAPACITY_16 = 0x00, 0x42, 0x25, 0x9e
 KNOWN = (*RANGED, INQUIRY, REPORT_LUNS, REQUEST_SENSE, TEST_UNIT_READY, UNMAP, CAPACITY_10, CAPACITY_16)
+
+# Those besides of the wide profile that this model has.
+WIDE = OR_WRITE
 
 # Where the control byte stands, by an opcode's group; its bit 2 is NACA (SAM-5 §5.2).
 CONTROL, NACA = {0: 5, 1: 9, 2: 9, 4: 15, 5: 11}, 4
@@ -56,7 +60,17 @@ def range_of(cdb):
     return number(cdb[2:6]), number(cdb[6:10] if group == 5 else cdb[7:9])
 
 
-def is_bad(cdb):
+def is_known(cdb, is_wide):
+    """Returns true if a unit knows a command, whatever its fields."""
+    return cdb[0] in KNOWN or is_wide and cdb[0] in WIDE
+
+
+def has_no_data_out(cdb):
+    """Returns true if a command is a WRITE SAME (16) with NDOB (SBC-3 §5.44)."""
+    return cdb[0] == 0x93 and bool(cdb[1] & 1)
+
+
+def is_bad(cdb, is_wide=False):
     """Returns true if the fields of a known command block are refused."""
     code = cdb[0]
     if cdb[CONTROL[code >> 5]] & NACA:
@@ -70,20 +84,20 @@ def is_bad(cdb):
     if code in (REQUEST_SENSE, UNMAP):
         return bool(cdb[1] & 1)
     if code in WRITE_SAME:
-        return bool(cdb[1] & (0xf7 if code == 0x93 else 0xf6)) or not 0 < range_of(cdb)[1] <= MOST_SAME
-    if code in (0x08, 0x0a) or code not in (*READ, *WRITE, *COMPARE):
+        return bool(cdb[1] & (0xf7 if code == 0x93 and not is_wide else 0xf6)) or not 0 < range_of(cdb)[1] <= MOST_SAME
+    if code in (0x08, 0x0a) or code not in (*READ, *WRITE, *COMPARE, *OR_WRITE):
         return False
     return bool(cdb[1] >> 5) or range_of(cdb)[1] > (MOST_COMPARED if code in COMPARE else MOST)
 
 
-def need(cdb):
+def need(cdb, is_wide=False):
     """Returns how many bytes a command needs that go out, and that come in. One that is unknown or refused needs none."""
     code = cdb[0]
-    if code not in KNOWN or is_bad(cdb):
+    if not is_known(cdb, is_wide) or is_bad(cdb, is_wide) or has_no_data_out(cdb):
         return 0, 0
-    if code in (*READ, *WRITE, *COMPARE):
+    if code in (*READ, *WRITE, *COMPARE, *OR_WRITE):
         size = BLOCK * range_of(cdb)[1]
-        return (0, size) if code in READ else (size, 0) if code in WRITE else (2 * size, 0)
+        return (0, size) if code in READ else (2 * size, 0) if code in COMPARE else (size, 0)
     out = BLOCK if code in WRITE_SAME else number(cdb[7:9]) if code == UNMAP else 0
     allocations = {INQUIRY: cdb[3:5], REQUEST_SENSE: cdb[4:5], REPORT_LUNS: cdb[6:10], CAPACITY_16: cdb[10:14], CAPACITY_10: b"\x08"}
     return out, number(allocations.get(code, b""))
@@ -171,6 +185,8 @@ class Disk:
     refusals: int = 0
     # The LUNs of its target's units.
     luns: tuple = (0,)
+    # Whether it has the wide profile of commands.
+    is_wide: bool = False
 
     def read(self, first, count):
         """Returns what stands in blocks."""
@@ -285,9 +301,9 @@ class Disk:
     def execute(self, cdb, out):
         """What a command does to the blocks: its sense if any, its data, and how many bytes it took (SBC-3 §5)."""
         code = cdb[0]
-        if code not in KNOWN or is_bad(cdb):
-            return BAD_FIELD if code in KNOWN else UNKNOWN, b"", 0
-        if code in RANGED:
+        if not is_known(cdb, self.is_wide) or is_bad(cdb, self.is_wide):
+            return BAD_FIELD if is_known(cdb, self.is_wide) else UNKNOWN, b"", 0
+        if code in (*RANGED, *OR_WRITE):
             return self.execute_range(cdb, out)
         if code == TEST_UNIT_READY:
             return "", b"", 0
@@ -318,13 +334,17 @@ class Disk:
         if code in SYNCHRONIZE:
             return "", b"", 0
         if code in WRITE_SAME:
-            self.blocks.update(dict.fromkeys(range(lba, lba + count), out[:BLOCK]))
-            return "", b"", BLOCK
+            data = b"" if has_no_data_out(cdb) else out[:BLOCK]
+            self.blocks.update(dict.fromkeys(range(lba, lba + count), data or ZEROS))
+            return "", b"", len(data)
         half = BLOCK * count
         if code in WRITE:
             self.write(lba, out[:half])
             return "", b"", half
         old = self.read(lba, count)
+        if code in OR_WRITE:
+            self.write(lba, bytes(byte | new for byte, new in zip(old, out)))
+            return "", b"", half
         unequal = next((at for at in range(half) if old[at] != out[at]), None)
         if unequal is not None:
             return f"{MISCOMPARE}@{unequal}", b"", 0

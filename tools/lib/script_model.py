@@ -10,8 +10,8 @@ from functools import lru_cache
 from itertools import islice
 
 from disk_model import (
-    BAD_FIELD, BUS_RESET, CAPACITY_16, INQUIRY, INQUIRY_DATA, KNOWN, NEXUS_LOSS, POWER_ON, REQUEST_SENSE, Disk, NotModelled, Request, Wrong, busy,
-    fixed, is_bad, need, number, runs, shown,
+    BAD_FIELD, BUS_RESET, CAPACITY_16, INQUIRY, INQUIRY_DATA, NEXUS_LOSS, POWER_ON, REQUEST_SENSE, Disk, NotModelled, Request, Wrong, busy,
+    fixed, is_bad, is_known, need, number, runs, shown,
 )
 
 # Task management functions: those that abort, those that reset, and those that look.
@@ -87,7 +87,9 @@ def disks_of(script):
     found = re.findall(r"^ *unit +(\d+) +(\d+) +(\d+)( +calm)?(?: +profile +(?:narrow|wide(?: +\S+ +\S+)*))? *$", script, re.M)
     units = [(str(int(target)), str(int(lun)), blocks, calm) for target, lun, blocks, calm in found]
     luns = {target: tuple(int(lun) for its, lun, *_ in units if its == target) for target, *_ in units}
-    return {f"{target}:{lun}": Disk(int(blocks), [] if calm else [POWER_ON], luns=luns[target]) for target, lun, blocks, calm in units}
+    wide = wide_units(script)
+    return {f"{target}:{lun}": Disk(int(blocks), [] if calm else [POWER_ON], luns=luns[target], is_wide=f"{target}:{lun}" in wide)
+            for target, lun, blocks, calm in units}
 
 
 def wide_units(script):
@@ -96,9 +98,9 @@ def wide_units(script):
     return {f"{int(target)}:{int(lun)}" for target, lun in found}
 
 
-def is_alike(cdb):
-    """Returns true if a command is the same in both profiles."""
-    return cdb[0] in KNOWN and cdb[0] != INQUIRY and not (cdb[0] == CAPACITY_16 and cdb[1] & 0x1f == 0x12)
+def is_modelled(cdb):
+    """Returns true if the model has a command of the wide profile."""
+    return is_known(cdb, True) and cdb[0] != INQUIRY and not (cdb[0] == CAPACITY_16 and cdb[1] & 0x1f == 0x12)
 
 
 def last_lines(printed):
@@ -179,7 +181,7 @@ def direct(request, disks):
         return shown(request.name, response=FAILED)
     if not any(unit.startswith(request.unit.split(":")[0] + ":") for unit in disks):
         return shown(request.name, response=BAD_TARGET)
-    out, into = need(request.cdb)
+    out, into = need(request.cdb, request.unit in disks and disks[request.unit].is_wide)
     if out > len(request.out) or into > request.room:
         return shown(request.name, response=OVERRUN)
     if request.attribute not in ATTRIBUTES:
@@ -226,7 +228,7 @@ def judge(script, printed, refused=0):
     last = last_lines(printed)
     requests, deeds, _ = requests_of(script)
     wide = wide_units(script)
-    if any(request.unit in wide and not is_alike(request.cdb) for request in requests.values()):
+    if any(request.unit in wide and not is_modelled(request.cdb) for request in requests.values()):
         raise NotModelled("a command of the wide profile")
     functions = [deed for deed in deeds if deed.name]
     failed = [deed for deed in functions if last.get(deed.name, "").endswith(f"response={FAILED}")]

@@ -241,6 +241,16 @@ decides_8a a b is_a is_b h =
     let same : command_by (row_of Wide 0x8a) a ≡ command_by (row_of Wide 0x8a) b = rw (e0, e1, e2, e3) refl in
     ap (λ x. command_by (row_of Wide x) a) is_a ∙ same ∙ sym (ap (λ x. command_by (row_of Wide x) b) is_b)
 
+decides_8b : (a b : List ℕ) → byte 0 a ≡ 0x8b → byte 0 b ≡ 0x8b → Agree (Field.Bits 15 2 2 ∷ Field.Bits 1 7 5 ∷ Field.Number 2 9 ∷ Field.Number 10 13 ∷ Field.Bits 1 4 3 ∷ []) a b → command Wide a ≡ command Wide b
+unfolding command
+decides_8b a b is_a is_b h =
+    let e0 : bits 15 2 2 a ≡ bits 15 2 2 b = h.0 in
+    let e1 : bits 1 7 5 a ≡ bits 1 7 5 b = h.1.0 in
+    let e2 : number 2 9 a ≡ number 2 9 b = h.1.1.0 in
+    let e3 : number 10 13 a ≡ number 10 13 b = h.1.1.1.0 in
+    let same : command_by (row_of Wide 0x8b) a ≡ command_by (row_of Wide 0x8b) b = rw (e0, e1, e2, e3) refl in
+    ap (λ x. command_by (row_of Wide x) a) is_a ∙ same ∙ sym (ap (λ x. command_by (row_of Wide x) b) is_b)
+
 decides_8e : (a b : List ℕ) → byte 0 a ≡ 0x8e → byte 0 b ≡ 0x8e → Agree (Field.Bits 15 2 2 ∷ Field.Bits 1 2 2 ∷ Field.Bits 1 7 5 ∷ Field.Number 2 9 ∷ Field.Number 10 13 ∷ Field.Bits 1 4 4 ∷ []) a b → command Wide a ≡ command Wide b
 unfolding command
 decides_8e a b is_a is_b h =
@@ -384,7 +394,7 @@ decides_a3_0d a b is_a is_b action_a action_b h =
     ap (λ x. command_by (row_of Wide x) a) is_a ∙ same ∙ sym (ap (λ x. command_by (row_of Wide x) b) is_b)
 
 pub plain_decide : OfEach PlainDecides plain_commands
-plain_decide = (decides_00, (decides_03, (decides_08, (decides_0a, (decides_12, (decides_15, (decides_1a, (decides_1b, (decides_1d, (decides_1e, (decides_25, (decides_28, (decides_2a, (decides_2e, (decides_2f, (decides_34, (decides_35, (decides_41, (decides_42, (decides_55, (decides_5a, (decides_88, (decides_89, (decides_8a, (decides_8e, (decides_8f, (decides_90, (decides_91, (decides_93, (decides_a0, (decides_a8, (decides_aa, (decides_ae, (decides_af, tt))))))))))))))))))))))))))))))))))
+plain_decide = (decides_00, (decides_03, (decides_08, (decides_0a, (decides_12, (decides_15, (decides_1a, (decides_1b, (decides_1d, (decides_1e, (decides_25, (decides_28, (decides_2a, (decides_2e, (decides_2f, (decides_34, (decides_35, (decides_41, (decides_42, (decides_55, (decides_5a, (decides_88, (decides_89, (decides_8a, (decides_8b, (decides_8e, (decides_8f, (decides_90, (decides_91, (decides_93, (decides_a0, (decides_a8, (decides_aa, (decides_ae, (decides_af, tt)))))))))))))))))))))))))))))))))))
 
 pub action_decide : OfEach ActionDecides action_commands
 action_decide = (decides_9e_10, (decides_9e_12, (decides_a3_0c, (decides_a3_0d, tt))))

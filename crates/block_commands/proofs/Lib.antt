@@ -2,6 +2,7 @@ pub mod Comparisons
 pub mod Deciding
 pub mod Descriptors
 pub mod ModePages
+pub mod Oring
 pub mod Passing
 pub mod Ranges
 pub mod Unmapping

@@ -84,7 +84,7 @@ fn run<S: Store>(
     ensures answer { Gives (λ bytes. bytes.items)
         (answer_of (facts_of facts.now (S.size store.old)) command.now bytes.now (S.block_at store.old)) result }
     ensures ok { OnOk result ((b : ℕ) → S.block_at store.new b
-        ≡ unwrap_or (given command.now bytes.now b) (S.block_at store.old b)) }
+        ≡ unwrap_or (given command.now bytes.now b (S.block_at store.old b)) (S.block_at store.old b)) }
     ensures err { OnErr result ((b : ℕ) → S.block_at store.new b ≡ S.block_at store.old b) }
     ensures size { S.size store.new ≡ S.size store.old }
     ensures room { IfOk result (λ bytes. vec_len bytes ≤ (need_of command.now).into) }

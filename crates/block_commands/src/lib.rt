@@ -25,6 +25,7 @@ pub mod laws;
 mod luns;
 mod mode_lists;
 mod modes;
+mod or_write;
 mod prepared;
 mod readiness;
 mod transfer;

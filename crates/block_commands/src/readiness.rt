@@ -108,8 +108,8 @@ fn to_unmap<S: Store>(store: &mut S, list: &[u8]) -> Readiness
     to_unmap_extents(store, taken, count)
 }
 
-/// Does the same for what a COMPARE AND WRITE reads and writes.
-fn to_compare<S: Store>(store: &mut S, lba: u64, blocks: u32) -> Readiness
+/// Does the same for blocks that a command reads and then writes over.
+fn to_read_and_write<S: Store>(store: &mut S, lba: u64, blocks: u32) -> Readiness
     ensures ready { result ≡ Ready → (b : ℕ) → IsTrue (is_inside (S.size store.old) lba blocks b) → IsTrue (S.is_held store.new b) }
     ensures asked { result ≢ Full → (b : ℕ) → IsTrue (is_inside (S.size store.old) lba blocks b) → IsTrue (S.is_coming store.new b) }
     ensures room { result ≢ Full → (b : ℕ) → IsTrue (is_inside (S.size store.old) lba blocks b) → IsTrue (S.has_room store.new b) }
@@ -146,6 +146,7 @@ fn to_run_wide<S: Store>(store: &mut S, command: &WideCommand) -> Readiness
     match *command {
         WideCommand::Verify { blocks, lba, .. } => to_read(store, lba, u32::from(blocks)),
         WideCommand::WriteZeros { blocks, lba } => to_write(store, lba, blocks),
+        WideCommand::OrWrite { blocks, lba } => to_read_and_write(store, lba, u32::from(blocks)),
         _ => Readiness::Ready,
     }
 }
@@ -178,7 +179,9 @@ pub fn make_ready<S: Store>(
         Command::Read { lba, blocks } => to_read(store, lba, u32::from(blocks)),
         Command::Write { lba, blocks } => to_write(store, lba, u32::from(blocks)),
         Command::WriteSame { lba, blocks } => to_write(store, lba, blocks),
-        Command::CompareAndWrite { lba, blocks } => to_compare(store, lba, u32::from(blocks)),
+        Command::CompareAndWrite { lba, blocks } => {
+            to_read_and_write(store, lba, u32::from(blocks))
+        }
         Command::Unmap { .. } => to_unmap(store, bytes),
         Command::Wide(command) => to_run_wide(store, &command),
         _ => Readiness::Ready,

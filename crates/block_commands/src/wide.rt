@@ -13,6 +13,7 @@ use crate::data::{cut, without_data};
 use crate::failure::Failure;
 use crate::mode_lists::mode_select;
 use crate::modes::{is_saved, mode_data};
+use crate::or_write::or_write;
 use crate::transfer::write_zeros;
 use crate::verify::verify;
 use block_store::Store;
@@ -47,7 +48,7 @@ pub(crate) fn wide<S: Store>(
     ensures answer { Gives (λ bytes. bytes.items)
         (wide_answer (S.size store.old) command.now bytes.now (S.block_at store.old)) result }
     ensures ok { OnOk result ((b : ℕ) → S.block_at store.new b
-        ≡ unwrap_or (wide_given command.now bytes.now b) (S.block_at store.old b)) }
+        ≡ unwrap_or (wide_given command.now bytes.now b (S.block_at store.old b)) (S.block_at store.old b)) }
     ensures err { OnErr result ((b : ℕ) → S.block_at store.new b ≡ S.block_at store.old b) }
     ensures size { S.size store.new ≡ S.size store.old }
     ensures room { IfOk result (λ bytes. vec_len bytes ≤ (wide_need command.now).into) }
@@ -78,6 +79,9 @@ pub(crate) fn wide<S: Store>(
         WideCommand::WriteZeros { blocks, lba } => {
             write_zeros(store, lba, blocks)?;
             Ok(Vec::new(alloc))
+        }
+        WideCommand::OrWrite { blocks, lba } => {
+            without_data(alloc, or_write(alloc, store, lba, blocks, bytes))
         }
     }
 }

@@ -5,7 +5,7 @@ use Rattle.cdb.specs.declared.transfers.Transfer.{Transfer}
 use Rattle.cdb.specs.declared.commands.Command.{Command}
 use Rattle.cdb.specs.declared.commands.Command.TheVariants.{TestUnitReady, RequestSense, Read, Write, Inquiry, ReadCapacity10, ReadCapacity16, SynchronizeCache, WriteSame, Unmap, CompareAndWrite, ReportLuns, Wide, Bad, Unknown}
 use Rattle.cdb.specs.declared.wide_commands.WideCommand.{WideCommand}
-use Rattle.cdb.specs.declared.wide_commands.WideCommand.TheVariants.{ModeSense, ModeSelect, ReportTaskManagement, ReportOperationCodes, GetLbaStatus, Verify, WriteZeros}
+use Rattle.cdb.specs.declared.wide_commands.WideCommand.TheVariants.{ModeSense, ModeSelect, ReportTaskManagement, ReportOperationCodes, GetLbaStatus, Verify, WriteZeros, OrWrite}
 use Rattle.cdb.specs.declared.wide_commands.VerifyData.{VerifyData}
 use Rattle.cdb.specs.declared.wide_commands.VerifyData.TheVariants.{EachBlock, OneBlock}
 
@@ -34,6 +34,7 @@ wide_need (GetLbaStatus allocation lba) = bytes_in allocation
 wide_need (ReportOperationCodes asked allocation) = bytes_in allocation
 wide_need (Verify sent count lba) = bytes_out (512 * sent_blocks sent count)
 wide_need (WriteZeros count lba) = no_bytes
+wide_need (OrWrite count lba) = bytes_out (512 * count)
 
 abbrev pub need_of : Command → Transfer
 need_of TestUnitReady = no_bytes

@@ -27,7 +27,7 @@ row opcode control causes meaning =
 abbrev pub never : List ℕ → List Bool
 never cdb = []
 
--- RDPROTECT or WRPROTECT isn't 0: protection information is asked for
+-- RDPROTECT, WRPROTECT or ORPROTECT isn't 0: protection information is asked for
 abbrev pub protect : List ℕ → Bool
 protect cdb = is_set (bits 1 7 5 cdb)
 

@@ -5,7 +5,7 @@ use Rattle.cdb.specs.Fields.{byte, bits, bit, number, is_set, is_over}
 use Rattle.cdb.specs.Profile.{Row, row, never, protect}
 use Rattle.cdb.specs.declared.commands.Command.{Command}
 use Rattle.cdb.specs.declared.commands.Command.TheVariants.{TestUnitReady, Write, ReadCapacity16, SynchronizeCache, WriteSame, Wide}
-use Rattle.cdb.specs.declared.wide_commands.WideCommand.TheVariants.{ModeSense, ModeSelect, ReportTaskManagement, ReportOperationCodes, GetLbaStatus, Verify, WriteZeros}
+use Rattle.cdb.specs.declared.wide_commands.WideCommand.TheVariants.{ModeSense, ModeSelect, ReportTaskManagement, ReportOperationCodes, GetLbaStatus, Verify, WriteZeros, OrWrite}
 use Rattle.cdb.specs.declared.wide_commands.CodesAsked.{CodesAsked}
 use Rattle.cdb.specs.declared.wide_commands.CodesAsked.TheVariants.{AllCommands, OneCommand, OneServiceAction}
 use Rattle.cdb.specs.declared.wide_commands.VerifyData.TheVariants.{EachBlock, OneBlock}
@@ -155,6 +155,10 @@ wide_rows =
     -- MODE SENSE (10), SPC-4 §6.12: DBD is bit 3 of byte 1, LLBAA bit 4
     ∷ row 0x5a 9 mode_causes
     (λ cdb. mode_sense_of Ten (if bit 1 3 cdb then Absent else (if bit 1 4 cdb then Long else Short)) (number 7 8 cdb) cdb)
+    -- ORWRITE (16), SBC-3 §5.5: ORPROTECT
+    ∷ row 0x8b 15
+    (λ cdb. protect cdb ∷ is_over 2048 (number 10 13 cdb) ∷ [])
+    (λ cdb. Wide (OrWrite (number 10 13 cdb) (number 2 9 cdb)))
     -- WRITE AND VERIFY (16), SBC-3 §5.39
     ∷ row 0x8e 15
     (λ cdb. written_causes (number 10 13 cdb) cdb)

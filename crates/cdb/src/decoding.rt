@@ -267,8 +267,8 @@ pub(crate) fn write(cdb: &[u8; CDB_BYTES], blocks: Blocks) -> Option<Command>
     })
 }
 
-/// Returns how many blocks a READ or a WRITE moves; `None` where it asks for protection information or for too many.
-fn transfer_length(cdb: &[u8; CDB_BYTES], count: u32) -> Option<u16>
+/// Returns how many blocks a READ, a WRITE or an ORWRITE moves; `None` where it asks for protection information or for too many.
+pub(crate) fn transfer_length(cdb: &[u8; CDB_BYTES], count: u32) -> Option<u16>
     ensures length { result ≡ unless (protect cdb.now ∷ is_over 2048 count ∷ []) count }
     ensures bounded { IfSome result (λ blocks. blocks ≤ 2048) }
 {

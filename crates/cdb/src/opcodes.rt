@@ -62,6 +62,8 @@ pub(crate) const MODE_SELECT_10: u8 = 0x55;
 
 pub(crate) const MODE_SENSE_10: u8 = 0x5a;
 
+pub(crate) const OR_WRITE_16: u8 = 0x8b;
+
 pub(crate) const WRITE_AND_VERIFY_16: u8 = 0x8e;
 
 pub(crate) const VERIFY_16: u8 = 0x8f;

@@ -62,6 +62,7 @@ fn wide_need(command: &WideCommand) -> Transfer
             sent_blocks(sent, blocks) * BLOCK_BYTES,
         ),
         WideCommand::WriteZeros { .. } => Transfer { out: 0, into: 0 },
+        WideCommand::OrWrite { blocks, .. } => from_driver(u32::from(blocks) * BLOCK_BYTES),
     }
 }
 

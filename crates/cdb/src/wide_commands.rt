@@ -51,6 +51,13 @@ pub enum WideCommand {
         /// The first block.
         lba: u64,
     },
+    /// ORWRITE (16) (SBC-3 §5.5).
+    OrWrite {
+        /// The number of blocks, 0 to `MOST_TRANSFER_BLOCKS`.
+        blocks: u16,
+        /// The first block.
+        lba: u64,
+    },
 }
 
 /// The commands that a REPORT SUPPORTED OPERATION CODES tells of: the field REPORTING OPTIONS (SPC-4 §6.35).

@@ -10,7 +10,7 @@ ghost use Rattle.cdb.specs.Inner.Decoding.{fields_of, unless};
 ghost use Rattle.cdb.specs.Need.{need_of};
 
 use crate::commands::{CDB_BYTES, Command, MOST_TRANSFER_BLOCKS};
-use crate::decoding::{READ_CAPACITY_16, synchronize_cache, under_control, write};
+use crate::decoding::{READ_CAPACITY_16, synchronize_cache, transfer_length, under_control, write};
 use crate::fields::{
     Blocks, blocks_10, blocks_12, blocks_16, has_bit, has_protect, lba_64, low_bits,
 };
@@ -117,6 +117,7 @@ fn wide_16(cdb: &[u8; CDB_BYTES]) -> Command
     ensures data_out { (need_of result).out ≤ 1048576 }
 {
     let fields = match cdb[0] {
+        opcodes::OR_WRITE_16 => or_write(cdb, blocks_16(cdb)),
         opcodes::WRITE_AND_VERIFY_16 => write_and_verify(cdb, blocks_16(cdb)),
         opcodes::VERIFY_16 => verify(cdb, blocks_16(cdb)),
         opcodes::PRE_FETCH_16 => Some(synchronize_cache(blocks_16(cdb))),
@@ -156,6 +157,19 @@ fn write_and_verify(cdb: &[u8; CDB_BYTES], blocks: Blocks) -> Option<Command>
         return None;
     }
     write(cdb, blocks)
+}
+
+/// Decodes ORWRITE (16), of these blocks.
+fn or_write(cdb: &[u8; CDB_BYTES], blocks: Blocks) -> Option<Command>
+    ensures meaning { result
+        ≡ unless (protect cdb.now ∷ is_over 2048 blocks.count ∷ [])
+        (Command.Wide (WideCommand.OrWrite blocks.count blocks.lba)) }
+    ensures data_out { IfSome result (λ c. (need_of c).out ≤ 1048576) }
+{
+    Some(Command::Wide(WideCommand::OrWrite {
+        blocks: transfer_length(cdb, blocks.count)?,
+        lba: blocks.lba,
+    }))
 }
 
 /// Decodes VERIFY, of these blocks. Where it compares nothing, all that it asks is that the blocks are there.

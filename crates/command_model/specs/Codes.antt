@@ -81,6 +81,8 @@ plain_commands =
     ∷ (0x89, Field.Bits 1 7 5 ∷ Field.Number 2 9 ∷ Field.Whole 13 ∷ Field.Bits 1 4 3 ∷ [])
     -- WRITE (16)
     ∷ (0x8a, Field.Bits 1 7 5 ∷ Field.Number 2 9 ∷ Field.Number 10 13 ∷ Field.Bits 1 4 3 ∷ [])
+    -- ORWRITE (16): ORPROTECT, address, blocks, DPO and FUA
+    ∷ (0x8b, Field.Bits 1 7 5 ∷ Field.Number 2 9 ∷ Field.Number 10 13 ∷ Field.Bits 1 4 3 ∷ [])
     -- WRITE AND VERIFY (16)
     ∷ (0x8e, Field.Bits 1 2 2 ∷ Field.Bits 1 7 5 ∷ Field.Number 2 9 ∷ Field.Number 10 13 ∷ Field.Bits 1 4 4 ∷ [])
     -- VERIFY (16)

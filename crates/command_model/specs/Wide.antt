@@ -4,7 +4,7 @@ use Rattle.std.specs.Prelude.{ℕ, ◌-◌, Bool, true, false, ◌&&◌, nat_lt,
 use Rattle.std.specs.Int.{w32, w64, to_be_bytes}
 use Rattle.sense.specs.Conditions.{lba_out_of_range}
 use Rattle.cdb.specs.declared.wide_commands.WideCommand.{WideCommand}
-use Rattle.cdb.specs.declared.wide_commands.WideCommand.TheVariants.{ModeSense, ModeSelect, ReportTaskManagement, ReportOperationCodes, GetLbaStatus, Verify, WriteZeros}
+use Rattle.cdb.specs.declared.wide_commands.WideCommand.TheVariants.{ModeSense, ModeSelect, ReportTaskManagement, ReportOperationCodes, GetLbaStatus, Verify, WriteZeros, OrWrite}
 use Rattle.block_store.specs.Blocks.{Blocks, run}
 use Rattle.command_model.specs.Data.{Answer, done}
 use Rattle.command_model.specs.Capacity.{is_in_range, within}
@@ -40,6 +40,8 @@ wide_answer capacity (Verify sent count lba) bytes blocks =
     within capacity lba count (compared (first_unequal (run (to_verify sent bytes) 0 count) (run blocks lba count)))
 -- SBC-3 §5.44
 wide_answer capacity (WriteZeros count lba) bytes blocks = within capacity lba count done
+-- SBC-3 §5.5
+wide_answer capacity (OrWrite count lba) bytes blocks = within capacity lba count done
 
 -- whether it may be refused memory
 abbrev pub wide_wants : ℕ → WideCommand → Bool
@@ -50,3 +52,4 @@ wide_wants capacity (GetLbaStatus allocation lba) = nat_lt 0 allocation
 wide_wants capacity (ReportOperationCodes asked allocation) = nat_lt 0 allocation
 wide_wants capacity (Verify sent count lba) = nat_lt 0 count && is_in_range capacity lba count
 wide_wants capacity (WriteZeros count lba) = false
+wide_wants capacity (OrWrite count lba) = is_in_range capacity lba count

@@ -230,12 +230,12 @@ module _ (o : Opening) (past : List Step) (block_at : Blocks) (pending : List Co
       room2 room3 less fewer))
 
   pub recorded_served : (capacity place : ℕ) (c c' : PlainChanges) → AreRecorded o past c → place ≡ length past + 1
-      → Notes (λ b. is_some (given j.entry.command j.entry.data_out b)) capacity place c c' → capacity ≡ capacity_of o past
+      → ((blocks : Blocks) → Notes (λ b. is_some (given j.entry.command j.entry.data_out b (blocks b))) capacity place c c') → capacity ≡ capacity_of o past
       → AreRecorded o steps' c'
   recorded_served capacity place c c' noted behind n size =
       let t = j.entry.ticket in
       let is_place : place ≡ length (Step.Enter j.entry ∷ past) = omega (arith, behind) in
-      let notes = subst (λ k. Notes (λ b. is_some (given j.entry.command j.entry.data_out b)) capacity k c c') is_place n in
+      let notes = subst (λ k. (blocks : Blocks) → Notes (λ b. is_some (given j.entry.command j.entry.data_out b (blocks b))) capacity k c c') is_place n in
       let entered = recorded_on o (Step.Enter j.entry) past _ c noted (λ b below out. (below, refl)) refl in
       let there = (ready o past block_at pending last_tickets room kept_none j last_tickets' le came room1 reserve facts p block_at' pending' as_told ran).is_there in
       let ran' = recorded_run o t j.entry p (Step.Enter j.entry ∷ past) _ capacity c c' entered there notes size refl in

@@ -3,7 +3,7 @@ use Rattle.std.proofs.Common.{◌≡◌, ℕ, suc, ◌-◌, ◌<◌, ◌≤◌, 
 use Rattle.std.proofs.lemmas.Bool.{ltb-true, ltb-false}
 use Rattle.std.specs.Prelude.{unwrap_or}
 use Rattle.ring_core.specs.declared.log.Ticket.{Ticket}
-use Rattle.block_store.specs.Blocks.{is_within, zero_block}
+use Rattle.block_store.specs.Blocks.{Blocks, is_within, zero_block}
 use Rattle.command_model.specs.Effects.{given}
 use Rattle.unit_model.specs.Tasks.{Entry, task_of}
 use Rattle.unit_model.specs.Steps.{Step, alive}
@@ -89,11 +89,11 @@ given_none (Some bytes) ends old some = absurd (cc)
 
 -- a command leaves the blocks that it gives nothing
 leaves_run : (o : Opening) (t : Ticket) (e : Entry) (p : Option PlainPerformed) (past : List Step) → task_of t (alive past) ≡ Some e
-    → Leaves o (step_for t p) past (λ b. is_some (given e.command e.data_out b))
+    → Leaves o (step_for t p) past (λ b. is_some (given e.command e.data_out b (blocks_of o past b)))
 leaves_run o t e None past there b below none = (below, refl)
 leaves_run o t e (Some p) past there b below none = (
   below,
-  ap (λ x. block_with x p.reply.status (blocks_of o past) b) there ∙ given_none (given e.command e.data_out b) _ (blocks_of o past b) none,
+  ap (λ x. block_with x p.reply.status (blocks_of o past) b) there ∙ given_none (given e.command e.data_out b (blocks_of o past b)) _ (blocks_of o past b) none,
 )
 
 capacity_ran : (o : Opening) (t : Ticket) (p : Option PlainPerformed) (past : List Step) → capacity_of o (step_for t p ∷ past) ≡ capacity_of o past
@@ -102,10 +102,11 @@ capacity_ran o t (Some p) past = refl
 
 -- after a command ran
 pub recorded_run : (o : Opening) (t : Ticket) (e : Entry) (p : Option PlainPerformed) (past steps' : List Step) (capacity : ℕ) (c c' : PlainChanges) → AreRecorded o past c
-    → task_of t (alive past) ≡ Some e → Notes (λ b. is_some (given e.command e.data_out b)) capacity (length past) c c' → capacity ≡ capacity_of o past
+    → task_of t (alive past) ≡ Some e
+    → ((blocks : Blocks) → Notes (λ b. is_some (given e.command e.data_out b (blocks b))) capacity (length past) c c') → capacity ≡ capacity_of o past
     → steps' ≡ step_for t p ∷ past → AreRecorded o steps' c'
 recorded_run o t e p past steps' capacity c c' k there n size is =
-    recorded_by o (step_for t p) past (λ b. is_some (given e.command e.data_out b)) capacity c c' k n
+    recorded_by o (step_for t p) past (λ b. is_some (given e.command e.data_out b (blocks_of o past b))) capacity c c' k (n (blocks_of o past))
     (let same = capacity_ran o t p past in let h = size in omega (arith, same, h)) (leaves_run o t e p past there) steps' is
 
 -- a unit that grows leaves the blocks that it had

@@ -1,7 +1,7 @@
 //! The blocks of a unit that may have changed.
 
 ghost use Rattle.std.specs.Prelude.{◌≡◌, ℕ, ◌+◌, ◌-◌, ◌*◌, ◌<◌, ◌≤◌, ◌^◌, Bool, false, List, [], length, is_some, nat_le, ◌&&◌, ◌||◌};
-ghost use Rattle.block_store.specs.Blocks.{is_within};
+ghost use Rattle.block_store.specs.Blocks.{Blocks, is_within};
 ghost use Rattle.command_model.specs.Effects.{given, wide_given};
 ghost use Rattle.command_model.specs.UnmapList.{descriptors_in, descriptors, is_named};
 ghost use Rattle.unit_history.specs.Changes.{is_in};
@@ -210,7 +210,7 @@ impl Changes {
         capacity: u64,
         place: u64,
     )
-        ensures { Notes (λ b. is_some (given command.now bytes.now b)) capacity place self.old self.new }
+        ensures { (blocks : Blocks) → Notes (λ b. is_some (given command.now bytes.now b (blocks b))) capacity place self.old self.new }
     {
         match *command {
             Command::Write { lba, blocks } => self.note(lba, u64::from(blocks), capacity, place),
@@ -229,10 +229,14 @@ impl Changes {
     /// Notes the same of a command of the wide profile alone.
     #[inline(never)]
     fn note_wide(&mut self, command: &WideCommand, capacity: u64, place: u64)
-        ensures { (bytes : List ℕ) → Notes (λ b. is_some (wide_given command.now bytes b)) capacity place self.old self.new }
+        ensures { (bytes : List ℕ) (blocks : Blocks) → Notes (λ b. is_some (wide_given command.now bytes b (blocks b))) capacity place
+            self.old self.new }
     {
         match *command {
             WideCommand::WriteZeros { blocks, lba } => {
+                self.note(lba, u64::from(blocks), capacity, place)
+            }
+            WideCommand::OrWrite { blocks, lba } => {
                 self.note(lba, u64::from(blocks), capacity, place)
             }
             _ => {}

@@ -4,7 +4,7 @@ use Rattle.std.specs.List.{list_any}
 use Rattle.cdb.specs.declared.commands.Command.{Command}
 use Rattle.cdb.specs.declared.commands.Command.TheVariants.{Read, Write, WriteSame, Unmap, CompareAndWrite, Wide}
 use Rattle.cdb.specs.declared.wide_commands.WideCommand.{WideCommand}
-use Rattle.cdb.specs.declared.wide_commands.WideCommand.TheVariants.{Verify, WriteZeros}
+use Rattle.cdb.specs.declared.wide_commands.WideCommand.TheVariants.{Verify, WriteZeros, OrWrite}
 use Rattle.block_store.specs.Blocks.{is_within}
 use Rattle.block_store.specs.Inner.Pages.{is_beside}
 use Rattle.command_model.specs.Data.{Answer}
@@ -30,16 +30,19 @@ is_near_any taken b = list_any (λ d. is_beside d.0 d.1 b) taken
 -- whether a command of the wide profile alone reads block b of a unit of so many blocks
 abbrev pub is_read_wide : ℕ → WideCommand → ℕ → Bool
 is_read_wide blocks (Verify sent count lba) b = is_inside blocks lba count b
+is_read_wide blocks (OrWrite count lba) b = is_inside blocks lba count b
 is_read_wide blocks _ b = false
 
 -- whether it may write over the block
 abbrev pub is_changed_wide : ℕ → WideCommand → ℕ → Bool
 is_changed_wide blocks (WriteZeros count lba) b = is_inside blocks lba count b
+is_changed_wide blocks (OrWrite count lba) b = is_inside blocks lba count b
 is_changed_wide blocks _ b = false
 
 -- whether the block lies in a page of which it may write over a part
 abbrev pub is_near_wide : ℕ → WideCommand → ℕ → Bool
 is_near_wide blocks (WriteZeros count lba) b = is_near_to blocks lba count b
+is_near_wide blocks (OrWrite count lba) b = is_near_to blocks lba count b
 is_near_wide blocks _ b = false
 
 -- whether a command does

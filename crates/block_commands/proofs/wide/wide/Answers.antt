@@ -4,3 +4,7 @@ use Rattle.block_commands.proofs.wide.wide.Goals as goal
 pub returns-in-Verify-clause-answer : goal.returns-in-Verify-clause-answer
 returns-in-Verify-clause-answer g c =
     rw c.in-Verify.is (Gives-no_data (λ v. v.items) _ _ _ c.verify.ensures.answer c.without_data.ensures)
+
+pub returns-in-OrWrite-clause-answer : goal.returns-in-OrWrite-clause-answer
+returns-in-OrWrite-clause-answer g c =
+    rw c.in-OrWrite.is (Gives-no_data (λ v. v.items) _ _ _ c.or_write.ensures.answer c.without_data-in-OrWrite.ensures)
