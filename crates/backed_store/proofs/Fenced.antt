@@ -1,5 +1,5 @@
 -- What the host's storage has of a store.
-use Rattle.std.proofs.Common.{◌≡◌, ℕ, ◌/◌, ◌%◌, ◌==◌, Bool, true, false, IsTrue, List, if◌then◌else◌, refl, sym, ◌∙◌, arith}
+use Rattle.std.proofs.Common.{◌≡◌, ℕ, ◌/◌, ◌%◌, ◌==◌, ◌≤◌, ◌&&◌, nat_le, Bool, true, false, IsTrue, List, if◌then◌else◌, refl, sym, ◌∙◌, arith}
 use Rattle.std.proofs.lemmas.Bool.Decides.{nat_tests}
 use Rattle.block_store.specs.Blocks.{nth_block}
 use Rattle.backed_store.specs.Marks.{State, state_of, is_clean, number_of, has_room}
@@ -9,6 +9,7 @@ use Rattle.backed_store.specs.Sets.{has_at}
 use Rattle.backed_store.specs.Slots.{mark_at}
 use Rattle.backed_store.specs.Standing.{AreIndexed}
 use Rattle.backed_store.specs.Stores.{contents, backing_of, is_dirty}
+use Rattle.backed_store.proofs.Over.{and-left}
 use Rattle.backed_store.specs.declared.backed.BackedStore.{BackedStore}
 use Rattle.backed_store.specs.declared.slots.Slots.{Slots}
 use Rattle.backed_store.specs.declared.queue.PageQueue.{PageQueue}
@@ -21,15 +22,27 @@ never-passes true never = absurd (never refl)
 never-passes false _ = refl
 
 -- a page that is dirty stands among the changes
-pub dirty-stands : (s : Slots) (asking : PageQueue) (unkept : Unkept) (clean : PageSet) (latest : ℕ) → AreIndexed s asking unkept clean latest →
+pub dirty-stands : (s : Slots) (asking : PageQueue) (unkept : Unkept) (clean : PageSet) (latest : ℕ) →
+    AreIndexed s asking unkept clean latest →
     (p : ℕ) → IsTrue (marks.is_dirty (state_of (mark_at s p))) → IsTrue (has_at unkept.changes (number_of (mark_at s p)) p)
 dirty-stands s asking unkept clean latest all p is =
     let room : has_room (mark_at s p) ≡ true = all.dirty p is in
     let same : (number_of (mark_at s p) == number_of (mark_at s p)) ≡ true = grind (arith, nat_tests) in
     all.changes (number_of (mark_at s p)) p ∙ rw (room, same) refl
 
+-- a page that owes a change stands among the changes, with an older one
+pub owing-stands : (s : Slots) (asking : PageQueue) (unkept : Unkept) (clean : PageSet) (latest : ℕ) →
+    AreIndexed s asking unkept clean latest →
+    (n p : ℕ) → (has_room (mark_at s p) && nat_le (number_of (mark_at s p)) n) ≡ true →
+    IsTrue (has_at unkept.changes (number_of (mark_at s p)) p) × (number_of (mark_at s p) ≤ n)
+owing-stands s asking unkept clean latest all n p owes =
+    let room : has_room (mark_at s p) ≡ true = and-left _ _ owes in
+    let same : (number_of (mark_at s p) == number_of (mark_at s p)) ≡ true = grind (arith, nat_tests) in
+    (all.changes (number_of (mark_at s p)) p ∙ rw (room, same) refl, grind (arith, nat_tests, owes))
+
 -- a page that isn't dirty is as the storage has it
-pub as-kept : (state : State) (bytes : List ℕ) (kept : List ℕ) (k : ℕ) → marks.is_dirty state ≡ false → (IsTrue (is_clean state) → kept ≡ nth_block bytes k) →
+pub as-kept : (state : State) (bytes : List ℕ) (kept : List ℕ) (k : ℕ) → marks.is_dirty state ≡ false → (IsTrue (is_clean state) →
+    kept ≡ nth_block bytes k) →
     (if state.held then nth_block bytes k else kept) ≡ kept
 as-kept state bytes kept k same clean = by_test state.held state.dirty refl refl
   where

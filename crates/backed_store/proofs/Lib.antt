@@ -1,8 +1,10 @@
 pub mod Parted
 pub mod Kept
+pub mod Changed
 pub mod Dealt
 pub mod CutOff
 pub mod Over
 pub mod Known
 pub mod Pairs
 pub mod Fenced
+pub mod Flushing

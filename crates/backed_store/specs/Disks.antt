@@ -4,6 +4,7 @@ use Rattle.block_store.specs.Blocks.{Blocks}
 use Rattle.block_store.specs.Kept as pages
 use Rattle.block_store.specs.Inner.Padding.{length-blocks_in}
 use Rattle.backed_store.specs.Stores as backed
+use Rattle.backed_store.specs.Flushes as flushes
 use Rattle.backed_store.specs.Inner.Whole.{length-contents}
 use Rattle.backed_store.specs.declared.disk.Disk.{Disk}
 use Rattle.backed_store.specs.declared.disk.Disk.TheVariants.{Whole, Backed}
@@ -37,6 +38,16 @@ has_room (Backed s) b = backed.has_room s b
 abbrev pub is_whole : Disk → Bool
 is_whole (Whole s) = true
 is_whole (Backed s) = false
+
+-- the number of its latest change; 0 of one that isn't backed
+abbrev pub latest_of : Disk → ℕ
+latest_of (Whole s) = 0
+latest_of (Backed s) = backed.latest_of s
+
+-- whether page p owes the host's storage change n or an older one; never of one that isn't backed
+abbrev pub owes : Disk → ℕ → ℕ → Bool
+owes (Whole s) n p = false
+owes (Backed s) n p = flushes.owes s n p
 
 pub length-block : (d : Disk) (b : ℕ) → length (blocks_of d b) ≡ 512
 length-block (Whole s) b = length-blocks_in (pages.kept s.pages (b / 8)) (b % 8)

@@ -10,5 +10,6 @@ pub mod Spared
 pub mod Passing
 pub mod Backing
 pub mod Stores
+pub mod Flushes
 pub mod Inner
 pub mod Disks

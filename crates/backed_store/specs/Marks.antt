@@ -1,5 +1,5 @@
 -- What is known of a page.
-use Rattle.std.specs.Prelude.{ℕ, Bool, true, false, ◌&&◌, ◌||◌, not, Option, Some, None}
+use Rattle.std.specs.Prelude.{ℕ, Bool, true, false, ◌&&◌, ◌||◌, not, nat_le, Option, Some, None, if◌then◌else◌}
 use Rattle.backed_store.specs.declared.mark.Mark.{Mark}
 
 -- the state of a page: whether its bytes are in memory, whether they may differ from those that the host's storage has,
@@ -73,6 +73,14 @@ is_rewritten s = s.held && (s.writing && not s.steady)
 abbrev pub has_room : Option Mark → Bool
 has_room None = false
 has_room (Some m) = m.listed || m.writing
+
+-- what is due until the host's storage has the changes of a page up to n: that the host keeps what it was given (1), that
+-- it is given the page first (2), or both, since the page changed too early after it was given (3)
+abbrev pub dues_of : ℕ → Option Mark → ℕ
+dues_of n m =
+    if has_room m && nat_le (number_of m) n
+    then (if (state_of m).writing then (if not (state_of m).steady && nat_le (again_of m) n then 3 else 1) else 2)
+    else 0
 
 -- it may go: it is clean, the host has nothing to do with it, and it isn't about to be changed
 abbrev pub may_go : Option Mark → Bool

@@ -3,7 +3,7 @@ use Rattle.std.specs.Prelude.{◌≡◌, ◌≢◌, ℕ, ◌==◌, false, List, 
 use Rattle.backed_store.specs.declared.cache.Cache.{Cache}
 use Rattle.backed_store.specs.declared.page_range.PageRange.{PageRange}
 use Rattle.backed_store.specs.Marks.{state_of, is_clean, is_dirty, is_rewritten, is_reading, may_go}
-use Rattle.backed_store.specs.Caches.{mark_at, state_at, bytes_at, number_at, again_at, IsKept}
+use Rattle.backed_store.specs.Caches.{mark_at, state_at, bytes_at, number_at, again_at, OwesNoMore, IsKept}
 use Rattle.backed_store.specs.Spared.{is_spared}
 
 -- a page that may go went, and no other
@@ -16,6 +16,7 @@ pub record IsEvicted (ranges : List PageRange) (old new : Cache) (page : ℕ) : 
   pub bytes : (p : ℕ) → p ≢ page → IsTrue (state_at old p).held → bytes_at new p ≡ bytes_at old p
   pub numbers : (p : ℕ) → IsTrue (is_dirty (state_at old p)) → number_at new p ≡ number_at old p
   pub again : (p : ℕ) → IsTrue (is_rewritten (state_at old p)) → again_at new p ≡ again_at old p
+  pub owing : OwesNoMore old new
 
 -- each page is as before
 pub record IsPassed (old new : Cache) : Type 0 where

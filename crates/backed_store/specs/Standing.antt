@@ -4,7 +4,7 @@ use Rattle.backed_store.specs.declared.slots.Slots.{Slots}
 use Rattle.backed_store.specs.declared.queue.PageQueue.{PageQueue}
 use Rattle.backed_store.specs.declared.page_set.PageSet.{PageSet}
 use Rattle.backed_store.specs.declared.unkept.Unkept.{Unkept}
-use Rattle.backed_store.specs.Marks.{state_of, is_clean, is_dirty, is_wanted, is_listed, has_room, number_of, again_of}
+use Rattle.backed_store.specs.Marks.{state_of, is_clean, is_dirty, is_rewritten, is_wanted, is_listed, has_room, number_of, again_of}
 use Rattle.backed_store.specs.Slots.{mark_at}
 use Rattle.backed_store.specs.Queues.{stands}
 use Rattle.backed_store.specs.Sets.{has, has_at}
@@ -18,3 +18,6 @@ pub record AreIndexed (slots : Slots) (asking : PageQueue) (unkept : Unkept) (cl
   pub idle : (p : ℕ) → has clean p ≡ is_clean (state_of (mark_at slots p))
   pub numbers : (p : ℕ) → number_of (mark_at slots p) ≤ latest
   pub again : (p : ℕ) → again_of (mark_at slots p) ≤ latest
+  -- what the host was given is in memory, and what changed since is no older than what it was given for
+  pub given : (p : ℕ) → IsTrue (state_of (mark_at slots p)).writing → IsTrue (state_of (mark_at slots p)).held
+  pub later : (p : ℕ) → IsTrue (is_rewritten (state_of (mark_at slots p))) → number_of (mark_at slots p) ≤ again_of (mark_at slots p)

@@ -1,5 +1,5 @@
 -- A backed store.
-use Rattle.std.specs.Prelude.{◌≡◌, ℕ, ◌+◌, ◌*◌, ◌/◌, ◌%◌, ◌<◌, Bool, List, IsTrue, if◌then◌else◌}
+use Rattle.std.specs.Prelude.{◌≡◌, ℕ, ◌+◌, ◌*◌, ◌/◌, ◌%◌, ◌^◌, ◌<◌, ◌≤◌, Bool, List, IsTrue, if◌then◌else◌}
 use Rattle.block_store.specs.Blocks.{Blocks, nth_block}
 use Rattle.backed_store.specs.Marks as marks
 use Rattle.backed_store.specs.Marks.{State}
@@ -63,6 +63,19 @@ number_of s p = number_at s.cache p
 abbrev pub again_of : BackedStore → ℕ → ℕ
 again_of s p = again_at s.cache p
 
+-- the number of the latest change
+abbrev pub latest_of : BackedStore → ℕ
+latest_of s = s.cache.latest
+
+-- what is due of page p until the host's storage has its changes up to n: 0 where it has them
+abbrev pub dues : BackedStore → ℕ → ℕ → ℕ
+dues s n p = marks.dues_of n (mark_at s.cache p)
+
+-- changes are numbered on, and of those that were numbered before no more is due
+pub record OwesNoMore (old new : BackedStore) : Type 0 where
+  pub latest : latest_of old ≤ latest_of new
+  pub dues : (n p : ℕ) → n ≤ latest_of old → n + 1 < 2 ^ 64 → dues new n p ≤ dues old n p
+
 -- page p owes the host's storage the same changes, if it was dirty
 pub record IsOwed (old new : BackedStore) (p : ℕ) : Type 0 where
   pub dirty : IsTrue (is_dirty old p) → IsTrue (is_dirty new p)
@@ -84,3 +97,5 @@ pub record IsHost (old new : BackedStore) : Type 0 where
   pub given : (b : ℕ) → (host_of new).given b ≡ (host_of old).given b
   pub kept : (b : ℕ) → (host_of new).kept b ≡ (host_of old).kept b
   pub owed : (p : ℕ) → IsOwed old new p
+  pub writing : (p : ℕ) → is_writing new p ≡ is_writing old p
+  pub owing : OwesNoMore old new

@@ -34,7 +34,8 @@ pub struct BackedStore {
 impl BackedStore {
     ghost use Rattle.std.specs.Prelude.{false, min};
     ghost use Rattle.block_store.specs.Pages.{blocks_in};
-    ghost use Rattle.backed_store.specs.Stores.{contents, backing_of, holds};
+    ghost use Rattle.backed_store.specs.Flushes.{KeepsFlushes};
+    ghost use Rattle.backed_store.specs.Stores.{contents, backing_of, holds, OwesNoMore};
     ghost use Rattle.backed_store.specs.Backing.{cut};
 
     /// Makes a store of so many blocks, of which the host's storage has this content. No page is in memory. At most
@@ -65,6 +66,8 @@ impl BackedStore {
         ensures blocks { (b : ℕ) → contents self.new b ≡ cut (min self.old.capacity blocks) (contents self.old) b }
         ensures backing { (b : ℕ) → backing_of self.new b ≡ cut (min self.old.capacity blocks) (backing_of self.old) b }
         ensures held { (b : ℕ) → b < min self.old.capacity blocks → holds self.new b ≡ holds self.old b }
+        ensures owing { OwesNoMore self.old self.new }
+        ensures flushes { KeepsFlushes self.old self.new }
     {
         let left = self.capacity.min(blocks);
         self.cache.cut(left);

@@ -39,7 +39,7 @@ impl Cache {
     ghost use Rattle.block_store.specs.Blocks.{block_count, nth_block, overwritten, filled};
     ghost use Rattle.block_store.specs.declared.readiness.Readiness.TheVariants.{Ready, Full};
     ghost use Rattle.backed_store.specs.Marks.{is_coming, is_listed, is_rewritten, has_room, changed};
-    ghost use Rattle.backed_store.specs.Caches.{mark_at, state_at, bytes_at, number_at, again_at, IsKept};
+    ghost use Rattle.backed_store.specs.Caches.{mark_at, state_at, bytes_at, number_at, again_at, OwesNoMore, IsKept};
 
     /// Makes a cache of no page. Takes no memory.
     pub(crate) fn new(alloc: Global, budget: usize) -> Cache
@@ -185,7 +185,7 @@ impl Cache {
         ensures room { (p : ℕ) → IsTrue (has_room (mark_at self.old p)) → IsTrue (has_room (mark_at self.new p)) }
         ensures budget { self.new.budget ≡ self.old.budget }
     {
-        if let Some(mark) = self.slots.touch(page) {
+        if let Some(mark) = self.note(page) {
             if mark.held {
                 return Readiness::Ready;
             }
@@ -230,6 +230,7 @@ impl Cache {
         ensures keeps_room { (p : ℕ) → has_room (mark_at self.new p) ≡ has_room (mark_at self.old p) }
         ensures numbers { (p : ℕ) → number_at self.new p ≡ number_at self.old p }
         ensures again { (p : ℕ) → IsTrue (is_rewritten (state_at self.old p)) → again_at self.new p ≡ again_at self.old p }
+        ensures owing { OwesNoMore self.old self.new }
         ensures budget { self.new.budget ≡ self.old.budget }
     {
         let number = self.latest.saturating_add(1);
@@ -248,6 +249,7 @@ impl Cache {
         ensures keeps_room { (p : ℕ) → has_room (mark_at self.new p) ≡ has_room (mark_at self.old p) }
         ensures numbers { (p : ℕ) → number_at self.new p ≡ number_at self.old p }
         ensures again { (p : ℕ) → IsTrue (is_rewritten (state_at self.old p)) → again_at self.new p ≡ again_at self.old p }
+        ensures owing { OwesNoMore self.old self.new }
         ensures budget { self.new.budget ≡ self.old.budget }
     {
         let number = self.latest.saturating_add(1);

@@ -14,7 +14,7 @@ pub struct GivenPage {
 pub enum Dealing {
     /// The host was given the page to write.
     Given(GivenPage),
-    /// The host wrote the page as it was last given it.
+    /// The host wrote the page as it was last given it, so that a crash leaves it.
     Kept(u64),
     /// The host cut its storage off at a block: from there on it has zeros.
     Cut(u64),

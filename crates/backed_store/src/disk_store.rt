@@ -77,12 +77,12 @@ impl Store for Disk {
 }
 
 impl Disk {
-    ghost use Rattle.std.specs.Prelude.{◌≡◌, ℕ, ◌+◌, ◌*◌, ◌^◌, ◌<◌, ◌≤◌, length, IfOk, IfSome, OnErr, IsTrue, nat_lt, min, if◌then◌else◌};
+    ghost use Rattle.std.specs.Prelude.{◌≡◌, ℕ, ◌+◌, ◌*◌, ◌^◌, ◌<◌, ◌≤◌, length, IfOk, IfSome, OnErr, IsTrue, IsFalse, false, nat_lt, min, if◌then◌else◌};
     ghost use Rattle.block_store.specs.Blocks.{run, zero_block};
     ghost use Rattle.block_store.specs.Drafts.{edges_draft, prepared_draft};
     ghost use Rattle.block_store.specs.Inner.Drafts.{IsAsCopied};
     ghost use Rattle.block_store.specs.Pages.{covered};
-    ghost use Rattle.backed_store.specs.Disks.{size_of, blocks_of, holds, is_coming, has_room, is_whole};
+    ghost use Rattle.backed_store.specs.Disks.{size_of, blocks_of, holds, is_coming, has_room, is_whole, latest_of, owes};
 
     /// Returns true if it isn't backed: all its blocks are in memory, now and later, and can be written over.
     #[inline(always)]
@@ -94,6 +94,29 @@ impl Disk {
         match self {
             Disk::Whole(_) => true,
             Disk::Backed(_) => false,
+        }
+    }
+
+    /// Returns the number of the latest change of its blocks, for which a flush that begins now waits. 0 where it isn't backed.
+    pub fn latest_change(&self) -> u64
+        ensures { result ≡ latest_of self.now }
+    {
+        match self {
+            Disk::Whole(_) => 0,
+            Disk::Backed(store) => store.latest_change(),
+        }
+    }
+
+    /// Returns true if the host's storage has each change up to a number, so that a flush that waits for these is over.
+    /// Always where the disk isn't backed: it waits for nothing.
+    pub fn is_flushed(&self, number: u64) -> bool
+        ensures yes { IsTrue result → (p : ℕ) → owes self.now number p ≡ false }
+        ensures no { IsFalse result → (p : ℕ) × IsTrue (owes self.now number p) }
+        ensures whole { IsTrue (is_whole self.now) → IsTrue result }
+    {
+        match self {
+            Disk::Whole(_) => true,
+            Disk::Backed(store) => store.is_flushed(number),
         }
     }
 

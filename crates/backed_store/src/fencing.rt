@@ -1,18 +1,19 @@
 //! Changes that the host's storage may lack.
 
-ghost use Rattle.std.specs.Prelude.{◌≡◌, ℕ, ◌+◌, ◌/◌, ◌^◌, ◌<◌, ◌≤◌, false, IsTrue, IfSome, IfNone};
+ghost use Rattle.std.specs.Prelude.{◌≡◌, ℕ, ◌+◌, ◌/◌, ◌^◌, ◌<◌, ◌≤◌, not, false, IsTrue, IsFalse, IfSome, IfNone};
 ghost use Rattle.block_store.specs.Blocks.{is_within};
 ghost use Rattle.backed_store.specs.Marks as marks;
 ghost use Rattle.backed_store.specs.Caches.{mark_at};
-ghost use Rattle.backed_store.specs.Stores.{contents, backing_of, is_dirty, number_of};
+ghost use Rattle.backed_store.specs.Stores.{contents, backing_of, is_dirty, number_of, latest_of};
+ghost use Rattle.backed_store.specs.Flushes.{owes, IsFlushed};
 
 use crate::backed::BackedStore;
 use crate::numbers::page_of;
 
 impl BackedStore {
-    /// Returns the number of the latest change. A later one has at least this number.
+    /// Returns the number of the latest change. A flush that begins now waits for the changes up to it.
     pub fn latest_change(&self) -> u64
-        ensures latest { result ≡ self.now.cache.latest }
+        ensures latest { result ≡ latest_of self.now }
         ensures all { (p : ℕ) → number_of self.now p ≤ result }
     {
         self.cache.latest
@@ -21,8 +22,8 @@ impl BackedStore {
     /// Returns a page of which the host's storage may lack a change of this number or an older one; `None` where it has them
     /// all. A page that is about to be changed counts as changed.
     pub fn find_unkept_change(&self, number: u64) -> Option<u64>
-        ensures room { IfSome result (λ page. IsTrue (marks.has_room (mark_at self.now.cache page))) }
-        ensures old { IfSome result (λ page. number_of self.now page ≤ number) }
+        ensures some { IfSome result (λ page. IsTrue (owes self.now number page)) }
+        ensures flushed { IfNone result (IsFlushed self.now number) }
         ensures none { IfNone result ((p : ℕ) → number_of self.now p ≤ number → is_dirty self.now p ≡ false) }
         ensures kept { IfNone result ((b : ℕ) → number_of self.now (b / 8) ≤ number → contents self.now b ≡ backing_of self.now b) }
     {
@@ -33,6 +34,26 @@ impl BackedStore {
             return None;
         }
         Some(page)
+    }
+
+    /// Returns true if the host's storage has each change up to this number: then a flush that waits for these is over. It
+    /// looks at the oldest change alone.
+    pub fn is_flushed(&self, number: u64) -> bool
+        ensures yes { IsTrue result → IsFlushed self.now number }
+        ensures no { IsFalse result → (p : ℕ) × IsTrue (owes self.now number p) }
+    {
+        self.find_unkept_change(number).is_none()
+    }
+
+    /// Returns true if the host's storage has each change of a page up to this number. A page that is about to be changed
+    /// counts as changed.
+    pub fn has_kept(&self, page: u64, number: u64) -> bool
+        ensures { result ≡ not (owes self.now number page) }
+    {
+        match self.cache.slots.mark(page) {
+            Some(mark) => !(mark.listed || mark.writing) || mark.number > number,
+            None => true,
+        }
     }
 
     /// Returns a page of a range that the host's storage may lack as it is; `None` where it has all blocks of the range. A page

@@ -2,7 +2,7 @@
 
 ghost use Rattle.std.specs.Prelude.{◌≡◌, ◌≢◌, ℕ, ◌<◌, ◌&&◌, true, false, None, IsTrue, IsFalse, IfSome, IfNone, OnOk, OnErr, is_some, length, if◌then◌else◌, ◌==◌};
 ghost use Rattle.backed_store.specs.Marks.{is_coming, is_wanted, is_reading, has_room, loaded};
-ghost use Rattle.backed_store.specs.Caches.{mark_at, state_at, bytes_at, number_at, again_at, IsKept};
+ghost use Rattle.backed_store.specs.Caches.{mark_at, state_at, bytes_at, number_at, again_at, OwesNoMore, IsKept};
 ghost use Rattle.backed_store.specs.Queues.{queue_len};
 
 use crate::cache::Cache;
@@ -112,6 +112,7 @@ impl Cache {
         ensures states { OnOk result ((p : ℕ) → state_at self.new p ≡ (if p == page then loaded (state_at self.old p) else state_at self.old p)) }
         ensures here { OnOk result (bytes_at self.new page ≡ bytes.now) }
         ensures others { OnOk result ((p : ℕ) → p ≢ page → IsTrue (state_at self.old p).held → bytes_at self.new p ≡ bytes_at self.old p) }
+        ensures owing { OwesNoMore self.old self.new }
         ensures err { OnErr result (IsKept self.old self.new) }
         ensures coming { (p : ℕ) → IsTrue (is_coming (mark_at self.old p)) → IsTrue (is_coming (mark_at self.new p)) }
         ensures room { (p : ℕ) → IsTrue (has_room (mark_at self.old p)) → IsTrue (has_room (mark_at self.new p)) }

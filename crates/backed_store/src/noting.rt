@@ -7,20 +7,23 @@ ghost use Rattle.backed_store.specs.Stores.{holds, is_coming, has_room, IsSame, 
 
 use crate::backed::BackedStore;
 use crate::cache::Cache;
+use crate::mark::Mark;
 use crate::numbers::page_of;
 
 /// Of so many reads in place one looks its page up. A page that is read often is met all the same.
 const NOTED: u32 = 8;
 
 impl Cache {
-    /// Notes that a page was used, if it has a slot.
-    fn note(&mut self, page: u64)
+    /// Notes that a page was used, and returns its mark, if it has a slot.
+    #[inline(always)]
+    pub(crate) fn note(&mut self, page: u64) -> Option<Mark>
+        ensures result { result ≡ mark_at self.new page }
         ensures kept { IsKept self.old self.new }
         ensures coming { (p : ℕ) → marks.is_coming (mark_at self.new p) ≡ marks.is_coming (mark_at self.old p) }
         ensures room { (p : ℕ) → marks.has_room (mark_at self.new p) ≡ marks.has_room (mark_at self.old p) }
         ensures budget { self.new.budget ≡ self.old.budget }
     {
-        let _mark = self.slots.touch(page);
+        self.slots.touch(page)
     }
 }
 
@@ -36,7 +39,7 @@ impl BackedStore {
     {
         self.reads = self.reads.wrapping_add(1);
         if self.reads % NOTED == 0 {
-            self.cache.note(page_of(block));
+            let _mark = self.cache.note(page_of(block));
         }
     }
 }

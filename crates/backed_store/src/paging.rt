@@ -1,9 +1,10 @@
 //! Pages that come and go.
 
-ghost use Rattle.std.specs.Prelude.{◌≡◌, ◌≢◌, ℕ, ◌*◌, ◌/◌, ◌^◌, ◌<◌, ◌&&◌, not, true, false, length, IsTrue, IsFalse, IfOk, OnOk, OnErr, IfSome, IfNone, if◌then◌else◌};
+ghost use Rattle.std.specs.Prelude.{◌≡◌, ◌≢◌, ℕ, ◌*◌, ◌/◌, ◌^◌, ◌<◌, ◌≤◌, ◌&&◌, not, true, false, length, IsTrue, IsFalse, IfOk, OnOk, OnErr, IfSome, IfNone, if◌then◌else◌};
 ghost use Rattle.backed_store.specs.Backing.{with_page};
 ghost use Rattle.backed_store.specs.Spared.{is_spared};
-ghost use Rattle.backed_store.specs.Stores.{contents, holds, is_coming, has_room, is_wanted, is_reading, is_writing, is_dirty, is_rewritten, may_go, number_of, again_of, host_of, backing_of, IsPageOf, IsSame, IsHost, IsOwed};
+ghost use Rattle.backed_store.specs.Flushes.{owes, KeepsFlushes};
+ghost use Rattle.backed_store.specs.Stores.{contents, holds, is_coming, has_room, is_wanted, is_reading, is_writing, is_dirty, is_rewritten, may_go, number_of, again_of, dues, host_of, backing_of, IsPageOf, IsSame, IsHost, IsOwed, OwesNoMore};
 
 use crate::backed::BackedStore;
 use crate::dealing::{Dealing, GivenPage};
@@ -89,6 +90,11 @@ impl BackedStore {
         ensures none { IfOk result (λ given. IfNone given ((p : ℕ) → IsTrue (is_dirty self.new p) → IsTrue (is_writing self.new p))) }
         ensures kept { (b : ℕ) → backing_of self.new b ≡ backing_of self.old b }
         ensures owed { (p : ℕ) → IsOwed self.old self.new p }
+        ensures owing { OwesNoMore self.old self.new }
+        // The host has only to keep it then.
+        ensures less { IfOk result (λ given. IfSome given (λ g. (n : ℕ) → dues self.new n g.page ≤ 1)) }
+        ensures idle { IfOk result (λ given. IfNone given ((n p : ℕ) → IsTrue (owes self.new n p) → IsTrue (is_writing self.new p))) }
+        ensures flushes { KeepsFlushes self.old self.new }
         ensures held { (b : ℕ) → holds self.new b ≡ holds self.old b }
     {
         if self.cache.unkept.unwritten.len() == 0 {
@@ -107,9 +113,10 @@ impl BackedStore {
         }
     }
 
-    /// Notes that the host's write of a page is over: its storage gives the page back as it was given, or the write
-    /// failed. The page is clean where it was kept and didn't change meanwhile; else it is to be written again. `NoMemory`
-    /// where memory was refused: the host says it again later.
+    /// Notes that the host's write of a page is over: its storage gives the page back as it was given, after a crash too, or
+    /// the write failed. A host may sync several writes at once, and then say so of each. The page is clean where it was kept
+    /// and didn't change meanwhile; else it is to be written again. `NoMemory` where memory was refused: the host says it again
+    /// later.
     pub fn written(&mut self, page: u64, kept: bool) -> Result<(), NoMemory>
         ensures same { IsSame self.old self.new }
         ensures given { (b : ℕ) → (host_of self.new).given b ≡ (host_of self.old).given b }
@@ -124,6 +131,12 @@ impl BackedStore {
         ensures earlier { OnOk result (IsFalse kept → IsTrue (is_dirty self.old page) → number_of self.new page ≡ number_of self.old page) }
         ensures others { OnOk result ((p : ℕ) → p ≢ page → IsOwed self.old self.new p) }
         ensures owed { OnErr result ((p : ℕ) → IsOwed self.old self.new p) }
+        ensures owing { OnOk result (IsTrue kept → OwesNoMore self.old self.new) }
+        ensures paid { OnOk result (IsTrue kept → IsTrue (is_writing self.old page) → (n : ℕ) → 0 < dues self.old n page →
+            dues self.new n page < dues self.old n page) }
+        ensures due { OnOk result ((n p : ℕ) → p ≢ page → dues self.new n p ≡ dues self.old n p) }
+        ensures unpaid { OnErr result (OwesNoMore self.old self.new) }
+        ensures flushes { KeepsFlushes self.old self.new }
         ensures held { (b : ℕ) → holds self.new b ≡ holds self.old b }
     {
         let Some(mark) = self.cache.slots.mark(page) else {

@@ -1,8 +1,8 @@
 //! Pages that the host writes.
 
-ghost use Rattle.std.specs.Prelude.{◌≡◌, ◌≢◌, ℕ, ◌<◌, ◌≤◌, ◌&&◌, not, true, false, None, IsTrue, IsFalse, IfSome, IfNone, OnOk, OnErr, is_some, length, if◌then◌else◌, ◌==◌};
-ghost use Rattle.backed_store.specs.Marks.{is_dirty, is_writing, is_rewritten, given, answered};
-ghost use Rattle.backed_store.specs.Caches.{mark_at, state_at, bytes_at, number_at, again_at, IsKept};
+ghost use Rattle.std.specs.Prelude.{◌≡◌, ◌≢◌, ℕ, ◌<◌, ◌≤◌, nat_le, ◌&&◌, not, true, false, None, IsTrue, IsFalse, IfSome, IfNone, OnOk, OnErr, is_some, length, if◌then◌else◌, ◌==◌};
+ghost use Rattle.backed_store.specs.Marks.{is_dirty, is_writing, is_rewritten, is_listed, dues_of, given, answered};
+ghost use Rattle.backed_store.specs.Caches.{mark_at, state_at, bytes_at, number_at, again_at, OwesNoMore, IsKept};
 ghost use Rattle.backed_store.specs.Queues.{queue_len};
 
 use crate::cache::Cache;
@@ -20,6 +20,9 @@ impl Cache {
         ensures kept { IfNone result (IsKept self.old self.new) }
         ensures numbers { (p : ℕ) → IsTrue (is_dirty (state_at self.old p)) → number_at self.new p ≡ number_at self.old p }
         ensures again { (p : ℕ) → IsTrue (is_rewritten (state_at self.old p)) → again_at self.new p ≡ again_at self.old p }
+        ensures owing { OwesNoMore self.old self.new }
+        ensures less { IfSome result (λ taken. IsTrue taken.1 → (n : ℕ) → dues_of n (mark_at self.new taken.0) ≤ 1) }
+        ensures none_listed { IfNone result ((p : ℕ) → is_listed (mark_at self.new p) ≡ false) }
         ensures len { IfSome result (λ taken. queue_len self.new.unkept.unwritten < queue_len self.old.unkept.unwritten) }
         ensures budget { self.new.budget ≡ self.old.budget }
     {
@@ -48,6 +51,9 @@ impl Cache {
         ensures again { (p : ℕ) → IsTrue (is_rewritten (state_at self.old p)) → again_at self.new p ≡ again_at self.old p }
         ensures bytes { (p : ℕ) → IsTrue (state_at self.old p).held → bytes_at self.new p ≡ bytes_at self.old p }
         ensures none { IfNone result ((p : ℕ) → IsTrue (is_dirty (state_at self.new p)) → IsTrue (is_writing (state_at self.new p))) }
+        ensures owing { OwesNoMore self.old self.new }
+        ensures less { IfSome result (λ page. (n : ℕ) → dues_of n (mark_at self.new page) ≤ 1) }
+        ensures none_listed { IfNone result ((p : ℕ) → is_listed (mark_at self.new p) ≡ false) }
         ensures budget { self.new.budget ≡ self.old.budget }
     {
         while let Some((page, now)) = self.take_unwritten() {
@@ -66,6 +72,9 @@ impl Cache {
         ensures numbers { OnOk result ((p : ℕ) → p ≢ page → number_at self.new p ≡ number_at self.old p) }
         ensures again { OnOk result ((p : ℕ) → p ≢ page → again_at self.new p ≡ again_at self.old p) }
         ensures err { OnErr result (IsKept self.old self.new) }
+        ensures owing { OwesNoMore self.old self.new }
+        ensures paid { OnOk result ((n : ℕ) → dues_of n (mark_at self.new page) ≡ 0) }
+        ensures others { OnOk result ((p : ℕ) → p ≢ page → mark_at self.new p ≡ mark_at self.old p) }
         ensures budget { self.new.budget ≡ self.old.budget }
     {
         self.clean.insert(page)?;
@@ -96,6 +105,9 @@ impl Cache {
         ensures numbers { OnOk result ((p : ℕ) → p ≢ page → number_at self.new p ≡ number_at self.old p) }
         ensures again { OnOk result ((p : ℕ) → again_at self.new p ≡ again_at self.old p) }
         ensures err { OnErr result (IsKept self.old self.new) }
+        ensures others { OnOk result ((p : ℕ) → p ≢ page → mark_at self.new p ≡ mark_at self.old p) }
+        ensures here { OnOk result ((n : ℕ) → dues_of n (mark_at self.new page) ≡ (if nat_le number n then 2 else 0)) }
+        ensures latest { self.new.latest ≡ self.old.latest }
         ensures budget { self.new.budget ≡ self.old.budget }
     {
         let Some(mark) = self.slots.mark(page) else {
@@ -130,6 +142,10 @@ impl Cache {
         ensures numbers { OnOk result ((p : ℕ) → p ≢ page → number_at self.new p ≡ number_at self.old p) }
         ensures again { OnOk result ((p : ℕ) → p ≢ page → again_at self.new p ≡ again_at self.old p) }
         ensures err { OnErr result (IsKept self.old self.new) }
+        ensures owing { OnOk result (IsTrue kept → OwesNoMore self.old self.new) }
+        ensures paid { OnOk result (IsTrue kept → (n : ℕ) → 0 < dues_of n (mark_at self.old page) → dues_of n (mark_at self.new page) < dues_of n (mark_at self.old page)) }
+        ensures due { OnOk result ((n p : ℕ) → p ≢ page → dues_of n (mark_at self.new p) ≡ dues_of n (mark_at self.old p)) }
+        ensures latest { self.old.latest ≤ self.new.latest }
         ensures budget { self.new.budget ≡ self.old.budget }
     {
         let Some(mark) = self.slots.mark(page) else {

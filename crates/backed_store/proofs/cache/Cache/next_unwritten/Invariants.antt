@@ -1,6 +1,6 @@
 use Rattle.std.proofs.Common.{◌≡◌, ℕ, IsTrue}
 use Rattle.backed_store.specs.Marks.{is_dirty, is_rewritten}
-use Rattle.backed_store.specs.Caches.{state_at, bytes_at, number_at, again_at}
+use Rattle.backed_store.specs.Caches.{state_at, bytes_at, number_at, again_at, OwesNoMore}
 use Rattle.backed_store.specs.Queues.{queue_len}
 use Rattle.backed_store.proofs.cache.Cache.next_unwritten.Given as goal
 
@@ -11,6 +11,7 @@ invariant-loop-page l = record {
   bytes : (p : ℕ) → IsTrue (state_at l.fn.self p).held → bytes_at l.self p ≡ bytes_at l.fn.self p;
   numbers : (p : ℕ) → IsTrue (is_dirty (state_at l.fn.self p)) → number_at l.self p ≡ number_at l.fn.self p;
   again : (p : ℕ) → IsTrue (is_rewritten (state_at l.fn.self p)) → again_at l.self p ≡ again_at l.fn.self p;
+  owing : OwesNoMore l.fn.self l.self;
   budget : l.self.budget ≡ l.fn.self.budget;
 }
 
