@@ -1,13 +1,14 @@
 //! The pages that a command needs before it runs.
 
-ghost use Rattle.std.specs.Prelude.{◌≡◌, ◌≢◌, ◌≤◌, ◌*◌, ◌&&◌, ℕ, None, length, IsTrue};
+ghost use Rattle.std.specs.Prelude.{◌≡◌, ◌≢◌, ◌≤◌, ◌*◌, ◌&&◌, ℕ, false, None, is_some, length, IsTrue};
 ghost use Rattle.cdb.specs.Need.{need_of};
 ghost use Rattle.block_store.specs.declared.readiness.Readiness.TheVariants.{Ready, Full};
+ghost use Rattle.command_model.specs.Capacity.{is_in_range};
 ghost use Rattle.command_model.specs.Data.{data_of};
 ghost use Rattle.command_model.specs.Attention.{met};
 ghost use Rattle.command_model.specs.UnmapList.{descriptors_in, descriptors, is_named, are_in_range};
 ghost use Rattle.command_model.specs.Replies.{unmap_answer};
-ghost use Rattle.block_commands.specs.Inner.Ready.{IsReady, is_inside, is_read_wide, is_changed_wide, is_near_wide, is_near_to, is_near_any, is_done};
+ghost use Rattle.block_commands.specs.Inner.Ready.{IsReady, needs, needs_wide, is_inside, is_read_wide, is_changed_wide, is_near_wide, is_near_to, is_near_any, is_done};
 
 use crate::attention::met_attention;
 use crate::capacity::is_in_range;
@@ -21,6 +22,7 @@ use cdb::{Command, WideCommand, need};
 fn to_read<S: Store>(store: &mut S, lba: u64, blocks: u32) -> Readiness
     ensures ready { result ≡ Ready → (b : ℕ) → IsTrue (is_inside (S.size store.old) lba blocks b) → IsTrue (S.is_held store.new b) }
     ensures asked { result ≢ Full → (b : ℕ) → IsTrue (is_inside (S.size store.old) lba blocks b) → IsTrue (S.is_coming store.new b) }
+    ensures idle { is_in_range (S.size store.old) lba blocks ≡ false → result ≡ Ready }
     ensures whole { IsTrue (S.is_whole store.old) → result ≡ Ready }
     ensures kind { S.is_whole store.new ≡ S.is_whole store.old }
     ensures blocks { (b : ℕ) → S.block_at store.new b ≡ S.block_at store.old b }
@@ -40,6 +42,7 @@ fn to_write<S: Store>(store: &mut S, lba: u64, blocks: u32) -> Readiness
     ensures room { result ≢ Full → (b : ℕ) → IsTrue (is_inside (S.size store.old) lba blocks b) → IsTrue (S.has_room store.new b) }
     ensures near { result ≡ Ready → (b : ℕ) → IsTrue (is_near_to (S.size store.old) lba blocks b) → IsTrue (S.is_held store.new b) }
     ensures near_asked { result ≢ Full → (b : ℕ) → IsTrue (is_near_to (S.size store.old) lba blocks b) → IsTrue (S.is_coming store.new b) }
+    ensures idle { is_in_range (S.size store.old) lba blocks ≡ false → result ≡ Ready }
     ensures whole { IsTrue (S.is_whole store.old) → result ≡ Ready }
     ensures kind { S.is_whole store.new ≡ S.is_whole store.old }
     ensures blocks { (b : ℕ) → S.block_at store.new b ≡ S.block_at store.old b }
@@ -115,6 +118,7 @@ fn to_read_and_write<S: Store>(store: &mut S, lba: u64, blocks: u32) -> Readines
     ensures room { result ≢ Full → (b : ℕ) → IsTrue (is_inside (S.size store.old) lba blocks b) → IsTrue (S.has_room store.new b) }
     ensures near { result ≡ Ready → (b : ℕ) → IsTrue (is_near_to (S.size store.old) lba blocks b) → IsTrue (S.is_held store.new b) }
     ensures near_asked { result ≢ Full → (b : ℕ) → IsTrue (is_near_to (S.size store.old) lba blocks b) → IsTrue (S.is_coming store.new b) }
+    ensures idle { is_in_range (S.size store.old) lba blocks ≡ false → result ≡ Ready }
     ensures whole { IsTrue (S.is_whole store.old) → result ≡ Ready }
     ensures kind { S.is_whole store.new ≡ S.is_whole store.old }
     ensures blocks { (b : ℕ) → S.block_at store.new b ≡ S.block_at store.old b }
@@ -135,6 +139,7 @@ fn to_run_wide<S: Store>(store: &mut S, command: &WideCommand) -> Readiness
     ensures room { result ≢ Full → (b : ℕ) → IsTrue (is_changed_wide (S.size store.old) command.now b) → IsTrue (S.has_room store.new b) }
     ensures near { result ≡ Ready → (b : ℕ) → IsTrue (is_near_wide (S.size store.old) command.now b) → IsTrue (S.is_held store.new b) }
     ensures near_asked { result ≢ Full → (b : ℕ) → IsTrue (is_near_wide (S.size store.old) command.now b) → IsTrue (S.is_coming store.new b) }
+    ensures idle { needs_wide (S.size store.old) command.now ≡ false → result ≡ Ready }
     ensures whole { IsTrue (S.is_whole store.old) → result ≡ Ready }
     ensures kind { S.is_whole store.new ≡ S.is_whole store.old }
     ensures blocks { (b : ℕ) → S.block_at store.new b ≡ S.block_at store.old b }
@@ -153,7 +158,8 @@ fn to_run_wide<S: Store>(store: &mut S, command: &WideCommand) -> Readiness
 
 /// Makes a store ready for a command: makes room for what the command may write over, and asks the host for each page
 /// that it needs in memory and that isn't there, all of them at once. The blocks stay as they are. `Ready` where
-/// [`exec`](crate::exec) may run; a store whose blocks are all in memory always is.
+/// [`exec`](crate::exec) may run. A store whose blocks are all in memory always is; so is any store for a command that needs
+/// no block, since it names none or is refused.
 pub fn make_ready<S: Store>(
     store: &mut S,
     command: &Command,
@@ -165,6 +171,8 @@ pub fn make_ready<S: Store>(
         IsReady (S.is_held store.new) (S.has_room store.new) (S.size store.new) command.now (data_of command.now out.now) }
     ensures asked { result ≢ Full → met command.now facts.now.pending ≡ None →
         IsReady (S.is_coming store.new) (S.has_room store.new) (S.size store.new) command.now (data_of command.now out.now) }
+    ensures idle { needs (S.size store.old) command.now ≡ false → result ≡ Ready }
+    ensures met { IsTrue (is_some (met command.now facts.now.pending)) → result ≡ Ready }
     ensures whole { IsTrue (S.is_whole store.old) → result ≡ Ready }
     ensures kind { S.is_whole store.new ≡ S.is_whole store.old }
     ensures blocks { (b : ℕ) → S.block_at store.new b ≡ S.block_at store.old b }
