@@ -27,7 +27,6 @@ QUIET = {
     "foundation": 10,
     "scsi_codec": 34,
     "cdb": 35,
-    "sense": 10,
     "request_intake": 44,
     "event_queue": 22,
 }

@@ -1,2 +1,5 @@
 pub mod Conditions
+pub mod Descriptor
 pub mod Fixed
+pub mod Format
+pub mod Reading

@@ -1,20 +1,37 @@
 //! Sense data: what a device reports beside CHECK CONDITION, as a sense key, an additional sense
-//! code with its qualifier, and the 18 bytes of the fixed format (SPC-4 §4.5.3).
+//! code with its qualifier, and their bytes: the 18 of the fixed format (SPC-4 §4.5.3), or the 8 or 20 of the descriptor
+//! format (SPC-4 §4.5.2).
 //!
 //! # Proved
 //!
-//! The layout is the standard's: 18 bytes, and what is read is what was written.
+//! The layouts are the standard's. Both formats say the same key, code, qualifier and information.
 #![tactic(auto)]
 
-ghost use Rattle.std.specs.Prelude.{◌≡◌};
+ghost use Rattle.std.specs.Prelude.{◌≡◌, ◌≤◌, length};
 ghost use Rattle.sense.specs.Conditions.{miscompare, unit_attention};
+ghost use Rattle.sense.specs.Descriptor.{descriptor, descriptor_header, information_descriptor};
 ghost use Rattle.sense.specs.Fixed.{fixed};
+ghost use Rattle.sense.specs.Format.{bytes_in};
 
 pub mod laws;
+
+use arrayvec::ArrayVec;
 
 /// The bytes of sense data in the fixed format, as this device gives it: 8 and the 10 that byte 7
 /// counts.
 pub const FIXED_SENSE_BYTES: usize = 18;
+
+/// The most bytes of sense data, as this device gives it: those of the descriptor format with an information descriptor.
+pub const MOST_SENSE_BYTES: usize = 20;
+
+/// The bytes of the descriptor format before its sense data descriptors.
+const DESCRIPTOR_HEADER_BYTES: usize = 8;
+
+/// The bytes of an information sense data descriptor.
+const INFORMATION_BYTES: usize = 12;
+
+/// The bytes of sense data, in one format or the other. They stand in place, so that making them takes no memory.
+pub type SenseBytes = ArrayVec<u8, MOST_SENSE_BYTES>;
 
 /// The sense key ILLEGAL REQUEST: a field of the CDB or of the parameter list is refused.
 pub const ILLEGAL_REQUEST: u8 = 0x05;
@@ -33,6 +50,18 @@ const CURRENT_FIXED_VALID: u8 = 0xf0;
 
 /// The number of bytes that follow byte 7.
 const ADDITIONAL_SENSE_LENGTH: u8 = 0x0a;
+
+/// The response code of current sense data in the descriptor format (SPC-4 §4.5.2).
+const CURRENT_DESCRIPTOR: u8 = 0x72;
+
+/// The formats of sense data (SPC-4 §4.5.1).
+#[derive(Clone, Copy, Debug, PartialEq, Eq)]
+pub enum SenseFormat {
+    /// The fixed format, of response code 70h (SPC-4 §4.5.3).
+    Fixed,
+    /// The descriptor format, of response code 72h (SPC-4 §4.5.2).
+    Descriptor,
+}
 
 /// Sense data, by its meaning (SPC-4 §4.5). CHECK CONDITION and REQUEST SENSE carry it.
 #[derive(Clone, Copy, Debug, PartialEq, Eq)]
@@ -162,4 +191,73 @@ impl Sense {
         bytes[13] = self.ascq;
         bytes
     }
+
+    /// Returns the sense data in the descriptor format (SPC-4 §4.5.2), of current information.
+    pub fn to_descriptor(&self) -> SenseBytes
+        ensures { result.items ≡ descriptor self.now }
+    {
+        match self.information {
+            None => in_place(&descriptor_header(self, 0)),
+            Some(information) => {
+                let mut bytes = [0; MOST_SENSE_BYTES];
+                bytes[..DESCRIPTOR_HEADER_BYTES].copy_from_slice(&descriptor_header(
+                    self,
+                    INFORMATION_BYTES as u8,
+                ));
+                bytes[DESCRIPTOR_HEADER_BYTES..].copy_from_slice(&information_descriptor(
+                    information,
+                ));
+                in_place(&bytes)
+            }
+        }
+    }
+
+    /// Returns the sense data in this format, of current information.
+    pub fn to_bytes(&self, format: SenseFormat) -> SenseBytes
+        ensures { result.items ≡ bytes_in format self.now }
+    {
+        match format {
+            SenseFormat::Fixed => in_place(&self.to_fixed()),
+            SenseFormat::Descriptor => self.to_descriptor(),
+        }
+    }
+}
+
+/// Makes the first bytes of the descriptor format, before sense data descriptors of so many bytes.
+fn descriptor_header(sense: &Sense, following: u8) -> [u8; DESCRIPTOR_HEADER_BYTES]
+    ensures { result ≡ descriptor_header sense.now following }
+{
+    [
+        CURRENT_DESCRIPTOR,
+        sense.key,
+        sense.asc,
+        sense.ascq,
+        0,
+        0,
+        0,
+        following,
+    ]
+}
+
+/// Makes an information sense data descriptor (SPC-4 §4.5.2.2).
+fn information_descriptor(information: u32) -> [u8; INFORMATION_BYTES]
+    ensures { result ≡ information_descriptor information }
+{
+    let mut bytes = [0; INFORMATION_BYTES];
+    bytes[1] = 0x0a;
+    bytes[2] = 0x80;
+    bytes[4..].copy_from_slice(&u64::from(information).to_be_bytes());
+    bytes
+}
+
+/// Returns a copy of the bytes.
+fn in_place(from: &[u8]) -> SenseBytes
+    requires { length from.now ≤ MOST_SENSE_BYTES }
+    ensures { result.items ≡ from.now }
+{
+    let mut bytes = ArrayVec::new();
+    let Ok(()) = bytes.try_extend_from_slice(from) else {
+        unreachable!()
+    };
+    bytes
 }

@@ -54,6 +54,36 @@ fn fixed_format(rt: HostRuntime) {
     all_hold(&rt, &rows);
 }
 
+/// Sense data, and its bytes in the descriptor format.
+struct Descriptor(Sense, &'static [u8]);
+
+impl Row for Descriptor {
+    fn holds(&self) -> bool {
+        self.0.to_descriptor().as_slice() == self.1
+    }
+}
+
+static DESCRIPTOR: [Descriptor; 3] = [
+    Descriptor(Sense::NO_SENSE, b"\x72\x00\x00\x00\x00\x00\x00\x00"),
+    Descriptor(Sense::INVALID_OPCODE, b"\x72\x05\x20\x00\x00\x00\x00\x00"),
+    Descriptor(
+        Sense::LOGICAL_UNIT_NOT_SUPPORTED,
+        b"\x72\x05\x25\x00\x00\x00\x00\x00",
+    ),
+];
+
+#[test]
+fn descriptor_format(rt: HostRuntime) {
+    all_hold(&rt, &DESCRIPTOR);
+    let attention = Sense::unit_attention(0x29, 0x03).to_descriptor();
+    assert!(rt; attention.as_slice() == [0x72, 0x06, 0x29, 0x03, 0, 0, 0, 0].as_slice());
+    let miscompare = Sense::miscompare(0x0102_0304).to_descriptor();
+    let wanted = [
+        0x72, 0x0e, 0x1d, 0, 0, 0, 0, 0x0c, 0x00, 0x0a, 0x80, 0x00, 0, 0, 0, 0, 1, 2, 3, 4,
+    ];
+    assert!(rt; miscompare.as_slice() == wanted.as_slice());
+}
+
 /// Sense data of an illegal request, and its additional sense code.
 struct Illegal(Sense, u8);
 
