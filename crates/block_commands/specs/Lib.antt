@@ -4,7 +4,7 @@ pub use Rattle.command_model.specs.Data
 pub use Rattle.command_model.specs.PlainReply
 pub use Rattle.command_model.specs.Statuses
 pub use Rattle.sense.specs.Conditions
-pub use Rattle.sense.specs.Fixed
+pub use Rattle.sense.specs.Format
 pub use Rattle.command_model.specs.Attention
 pub use Rattle.command_model.specs.Capacity
 pub use Rattle.command_model.specs.Comparing

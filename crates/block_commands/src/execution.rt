@@ -92,9 +92,9 @@ fn run<S: Store>(
 {
     match *command {
         Command::TestUnitReady => Ok(Vec::new(alloc)),
-        Command::RequestSense { allocation } => {
+        Command::RequestSense { format, allocation } => {
             let sense = facts.pending.unwrap_or(Sense::NO_SENSE);
-            Ok(cut(alloc, &sense.to_fixed(), allocation)?)
+            Ok(cut(alloc, sense.to_bytes(format).as_slice(), allocation)?)
         }
         Command::Read { lba, blocks } => read(room, store, lba, blocks),
         Command::Write { lba, blocks } => without_data(alloc, write(store, lba, blocks, bytes)),

@@ -2,6 +2,7 @@
 
 ghost use Rattle.std.specs.Prelude.{◌≡◌, ◌≢◌, ◌∷◌, ◌⊎◌, ℕ, ◌+◌, ◌*◌, ◌<◌, ◌≤◌, [], List, length, slice_index, IsTrue, IsFalse, Some, None};
 ghost use Rattle.sense.specs.declared.Sense.{Sense};
+ghost use Rattle.sense.specs.declared.SenseFormat.{SenseFormat};
 ghost use Rattle.sense.specs.Conditions.{miscompare};
 ghost use Rattle.cdb.specs.declared.commands.InquiryData.{InquiryData};
 ghost use Rattle.cdb.specs.declared.commands.SelectReport.{SelectReport};
@@ -147,7 +148,7 @@ pub fn attention_is_left()
 /// Every other command but REQUEST SENSE is answered with the attention, and isn't run.
 pub fn attention_is_met()
     ensures { (facts : Facts) (command : Command) (bytes : List ℕ) (blocks : Blocks) (attention : Sense) →
-        IsTrue (takes command) → ((allocation : ℕ) → command ≢ Command.RequestSense allocation) →
+        IsTrue (takes command) → ((format : SenseFormat) (allocation : ℕ) → command ≢ Command.RequestSense format allocation) →
         reply_of (record facts { pending = Some attention }) command bytes blocks ≡ refusal attention }
 {}
 

@@ -1,17 +1,16 @@
 -- Opcodes that the narrow profile lacks, in the wide one.
-use Rattle.std.proofs.Common.{arith, ◌≢◌, ◌≡◌, ℕ, List, Bool, Option, Some, None, refl, sym, ap, ◌∙◌, rules}
-use Rattle.std.specs.Prelude.{◌++◌, ◌∷◌, ◌==◌}
+use Rattle.std.proofs.Common.{arith, ◌≢◌, ◌≡◌, ℕ, List, Some, None, refl, sym, ap, ◌∙◌}
+use Rattle.std.specs.Prelude.{◌∷◌, ◌==◌}
 use Rattle.std.specs.List.{find}
 use Rattle.std.proofs.lemmas.Bool.Decides.{nat_tests}
 use Rattle.std.proofs.lemmas.List.Folds.{find-append}
 use Rattle.cdb.specs.Fields.{byte}
-use Rattle.cdb.specs.Profile.{Row, narrow_rows, inquiry_row}
+use Rattle.cdb.specs.Profile.{Row, narrow_rows, inquiry_row, sense_row}
 use Rattle.cdb.specs.WideProfile.{wide_rows}
 use Rattle.cdb.specs.Decoding.{row_of, command_by, command}
 use Rattle.cdb.proofs.Rows.{narrow_none}
 use Rattle.cdb.specs.declared.profile.Profile.{Profile}
 use Rattle.cdb.specs.declared.profile.Profile.TheVariants.{Narrow, Wide}
-use Rattle.cdb.specs.declared.commands.Command.{Command}
 use Rattle.cdb.specs.declared.commands.Command.TheVariants.{Unknown}
 
 -- an opcode that the narrow profile lacks is none of its opcodes
@@ -21,15 +20,15 @@ other x k row is lacks same =
     cc
 
 own_none : (x : ℕ) →
-    x ≢ 0x12 → x ≢ 0x15 → x ≢ 0x1a → x ≢ 0x1b → x ≢ 0x1d → x ≢ 0x1e → x ≢ 0x2e → x ≢ 0x2f → x ≢ 0x34 → x ≢ 0x55 → x ≢ 0x5a
+    x ≢ 0x12 → x ≢ 0x03 → x ≢ 0x15 → x ≢ 0x1a → x ≢ 0x1b → x ≢ 0x1d → x ≢ 0x1e → x ≢ 0x2e → x ≢ 0x2f → x ≢ 0x34 → x ≢ 0x55 → x ≢ 0x5a
     → x ≢ 0x8b → x ≢ 0x8e → x ≢ 0x8f → x ≢ 0x90 → x ≢ 0x93 → x ≢ 0x9e → x ≢ 0xa3 → x ≢ 0xae → x ≢ 0xaf
-    → find (λ row. row.opcode == x) (inquiry_row Wide ∷ wide_rows) ≡ None
-own_none x a1 a15 a2 a3 a4 a5 a6 a7 a8 a55 a9 b8b b1 b2 b3 b93 b4 a163 b5 b6 = grind (arith, nat_tests)
+    → find (λ row. row.opcode == x) (inquiry_row Wide ∷ sense_row Wide ∷ wide_rows) ≡ None
+own_none x a1 a3s a15 a2 a3 a4 a5 a6 a7 a8 a55 a9 b8b b1 b2 b3 b93 b4 a163 b5 b6 = grind (arith, nat_tests)
 
-wide_none : (x : ℕ) → find (λ row. row.opcode == x) (inquiry_row Wide ∷ wide_rows) ≡ None → row_of Narrow x ≡ None →
+wide_none : (x : ℕ) → find (λ row. row.opcode == x) (inquiry_row Wide ∷ sense_row Wide ∷ wide_rows) ≡ None → row_of Narrow x ≡ None →
     row_of Wide x ≡ None
 wide_none x own narrow =
-    find-append (λ row. row.opcode == x) (inquiry_row Wide ∷ wide_rows) narrow_rows ∙ rw (own, narrow) refl
+    find-append (λ row. row.opcode == x) (inquiry_row Wide ∷ sense_row Wide ∷ wide_rows) narrow_rows ∙ rw (own, narrow) refl
 
 pub by_narrow : (cdb : List ℕ) → row_of Narrow (byte 0 cdb) ≡ None → Unknown ≡ command Narrow cdb
 unfolding command
@@ -42,7 +41,7 @@ pub by_none_at : (cdb : List ℕ) → row_of Narrow (byte 0 cdb) ≡ None →
 unfolding command
 by_none_at cdb lacks a15 a2 a3 a4 a5 a6 a7 a8 a55 a9 b8b b1 b2 b3 a163 b5 b6 =
     let x = byte 0 cdb in
-    let own = own_none x (other x 0x12 _ refl lacks) a15 a2 a3 a4 a5 a6 a7 a8 a55 a9 b8b b1 b2 b3 (other x 0x93 _ refl lacks) (other x 0x9e _ refl lacks) a163 b5 b6 in
+    let own = own_none x (other x 0x12 _ refl lacks) (other x 0x03 _ refl lacks) a15 a2 a3 a4 a5 a6 a7 a8 a55 a9 b8b b1 b2 b3 (other x 0x93 _ refl lacks) (other x 0x9e _ refl lacks) a163 b5 b6 in
     sym (ap (λ found. command_by found cdb) (wide_none x own lacks))
 
 none_either : (profile : Profile) (cdb : List ℕ) → Unknown ≡ command Narrow cdb → Unknown ≡ command Wide cdb →

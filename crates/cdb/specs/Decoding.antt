@@ -2,7 +2,7 @@
 use Rattle.std.specs.Prelude.{ℕ, ◌==◌, Bool, List, ◌∷◌, ◌++◌, if◌then◌else◌, Option, None, Some, find}
 use Rattle.std.specs.List.{list_any}
 use Rattle.cdb.specs.Fields.{byte, bit}
-use Rattle.cdb.specs.Profile.{Row, narrow_rows, inquiry_row}
+use Rattle.cdb.specs.Profile.{Row, narrow_rows, inquiry_row, sense_row}
 use Rattle.cdb.specs.WideProfile.{wide_rows}
 use Rattle.cdb.specs.declared.profile.Profile.{Profile}
 use Rattle.cdb.specs.declared.profile.Profile.TheVariants.{Narrow, Wide}
@@ -17,7 +17,7 @@ any tests = list_any (λ test. test) tests
 -- one's
 abbrev pub rows : Profile → List Row
 rows Narrow = narrow_rows
-rows Wide = inquiry_row Wide ∷ (wide_rows ++ narrow_rows)
+rows Wide = inquiry_row Wide ∷ sense_row Wide ∷ (wide_rows ++ narrow_rows)
 
 -- the row of an opcode
 abbrev pub row_of : Profile → ℕ → Option Row

@@ -38,7 +38,7 @@ wide_need (OrWrite count lba) = bytes_out (512 * count)
 
 abbrev pub need_of : Command → Transfer
 need_of TestUnitReady = no_bytes
-need_of (RequestSense allocation) = bytes_in allocation
+need_of (RequestSense format allocation) = bytes_in allocation
 need_of (Read lba blocks) = bytes_in (512 * blocks)
 need_of (Write lba blocks) = bytes_out (512 * blocks)
 need_of (Inquiry what allocation) = bytes_in allocation

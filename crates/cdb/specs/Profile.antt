@@ -2,6 +2,8 @@
 -- commands of 6 bytes that SBC-3 leaves out, SBC-2.
 use Rattle.std.specs.Prelude.{ℕ, ◌+◌, ◌*◌, ◌^◌, ◌==◌, Bool, ◌&&◌, not, List, [], ◌∷◌, if◌then◌else◌, Option, find, unwrap_or, option_map, is_none}
 use Rattle.cdb.specs.Fields.{byte, bits, bit, number, is_set, is_over}
+use Rattle.sense.specs.declared.SenseFormat.{SenseFormat}
+use Rattle.sense.specs.declared.SenseFormat.TheVariants as format
 use Rattle.cdb.specs.declared.profile.Profile.{Profile}
 use Rattle.cdb.specs.declared.profile.Profile.TheVariants.{Narrow, Wide}
 use Rattle.cdb.specs.declared.commands.Command.{Command}
@@ -77,6 +79,22 @@ inquiry_meaning profile cdb = Inquiry (data_asked profile (bit 1 0 cdb) (byte 2 
 abbrev pub inquiry_row : Profile → Row
 inquiry_row profile = row 0x12 5 (inquiry_causes profile) (inquiry_meaning profile)
 
+-- the format of sense data that DESC asks for, SPC-4 §6.39
+abbrev pub format_asked : Bool → SenseFormat
+format_asked desc = if desc then format.Descriptor else format.Fixed
+
+-- REQUEST SENSE: of the narrow profile DESC
+abbrev pub sense_causes : Profile → List ℕ → List Bool
+sense_causes Narrow cdb = bit 1 0 cdb ∷ []
+sense_causes Wide cdb = []
+
+abbrev pub sense_meaning : List ℕ → Command
+sense_meaning cdb = RequestSense (format_asked (bit 1 0 cdb)) (byte 4 cdb)
+
+-- SPC-4 §6.39
+abbrev pub sense_row : Profile → Row
+sense_row profile = row 0x03 5 (sense_causes profile) sense_meaning
+
 -- SELECT REPORT 00h, 01h and 02h, SPC-4 §6.33 (another is a cause)
 abbrev pub select_report : ℕ → SelectReport
 select_report select =
@@ -103,10 +121,8 @@ abbrev pub narrow_rows : List Row
 narrow_rows =
     -- TEST UNIT READY, SPC-4 §6.47
     row 0x00 5 never (λ cdb. TestUnitReady)
-    -- REQUEST SENSE, SPC-4 §6.39: DESC
-    ∷ row 0x03 5
-    (λ cdb. bit 1 0 cdb ∷ [])
-    (λ cdb. RequestSense (byte 4 cdb))
+    -- REQUEST SENSE, SPC-4 §6.39
+    ∷ sense_row Narrow
     -- READ (6), SBC-2 §5.5
     ∷ row 0x08 5 never (λ cdb. Read (lba_6 cdb) (length_6 cdb))
     -- WRITE (6), SBC-2 §5.24

@@ -1,6 +1,7 @@
 //! The commands, and the limits of the device on their fields.
 
 use crate::wide_commands::WideCommand;
+use sense::SenseFormat;
 use std::mem::size_of;
 
 /// The bytes of the CDB field of a request (VIRTIO 1.2 §5.6.6.1). A shorter CDB stands at its
@@ -25,6 +26,8 @@ pub enum Command {
     TestUnitReady,
     /// REQUEST SENSE (SPC-4 §6.39).
     RequestSense {
+        /// The format of the sense data: of the narrow profile the fixed one.
+        format: SenseFormat,
         /// The most bytes to return, 0 to 255.
         allocation: u32,
     },

@@ -2,7 +2,7 @@
 
 ghost use Rattle.std.specs.Prelude.{◌≡◌, ◌<◌, ◌≤◌, ◌==◌, [], ◌∷◌, if◌then◌else◌, unwrap_or, IfSome};
 ghost use Rattle.cdb.specs.Fields.{bit, bits, byte, is_over, is_set};
-ghost use Rattle.cdb.specs.Profile.{inquiry_causes, inquiry_meaning, page_of, protect};
+ghost use Rattle.cdb.specs.Profile.{inquiry_causes, inquiry_meaning, page_of, protect, sense_causes, sense_meaning};
 ghost use Rattle.cdb.specs.Decoding.{any, command};
 ghost use Rattle.cdb.specs.Inner.Decoding.{fields_of, same_causes, same_meaning, service_causes, service_meaning, unless};
 ghost use Rattle.cdb.specs.Need.{need_of};
@@ -20,6 +20,7 @@ use crate::profile::Profile;
 use crate::wide_commands::WideCommand;
 use crate::wide_decoding::{decode_other, service_action_in_16};
 use byteorder::{BigEndian, ByteOrder};
+use sense::SenseFormat;
 
 /// The service action of SERVICE ACTION IN (16) that is READ CAPACITY (16) (SBC-3 §5.16).
 pub(crate) const READ_CAPACITY_16: u8 = 0x10;
@@ -57,7 +58,7 @@ fn decode_6(profile: Profile, cdb: &[u8; CDB_BYTES]) -> Command
 {
     let fields = match cdb[0] {
         opcodes::TEST_UNIT_READY => Some(Command::TestUnitReady),
-        opcodes::REQUEST_SENSE => request_sense(cdb),
+        opcodes::REQUEST_SENSE => request_sense(profile, cdb),
         opcodes::READ_6 => Some(Command::Read {
             lba: lba_6(cdb),
             blocks: length_6(cdb),
@@ -150,15 +151,21 @@ pub(crate) fn under_control(
 }
 
 /// Decodes REQUEST SENSE; `None` where its fields are refused. So with each command below.
-fn request_sense(cdb: &[u8; CDB_BYTES]) -> Option<Command>
-    ensures meaning { result ≡ fields_of Profile.Narrow 0x03 cdb.now }
+fn request_sense(profile: Profile, cdb: &[u8; CDB_BYTES]) -> Option<Command>
+    ensures meaning { result ≡ unless (sense_causes profile cdb.now) (sense_meaning cdb.now) }
     ensures data_out { IfSome result (λ c. (need_of c).out ≤ 1048576) }
 {
     let descriptor_format = has_bit(cdb[1], 0);
-    if descriptor_format {
+    if descriptor_format && profile == Profile::Narrow {
         return None;
     }
+    let format = if descriptor_format {
+        SenseFormat::Descriptor
+    } else {
+        SenseFormat::Fixed
+    };
     Some(Command::RequestSense {
+        format,
         allocation: u32::from(cdb[4]),
     })
 }

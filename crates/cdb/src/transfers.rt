@@ -35,7 +35,7 @@ pub fn need(command: &Command) -> Transfer
             from_driver(2 * u32::from(blocks) * BLOCK_BYTES)
         }
         Command::Unmap { list_length } => from_driver(u32::from(list_length)),
-        Command::RequestSense { allocation }
+        Command::RequestSense { allocation, .. }
         | Command::Inquiry { allocation, .. }
         | Command::ReadCapacity16 { allocation }
         | Command::ReportLuns { allocation, .. } => from_device(allocation),

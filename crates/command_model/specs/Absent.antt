@@ -28,7 +28,7 @@ absent_bad opcode =
     logical_unit_not_supported
 
 abbrev pub absent_answer : Command → Answer
-absent_answer (RequestSense allocation) = Ok (take allocation (fixed logical_unit_not_supported))
+absent_answer (RequestSense format allocation) = Ok (take allocation (fixed logical_unit_not_supported))
 absent_answer (Inquiry what allocation) = absent_inquiry what allocation
 absent_answer (Bad opcode) = Err (absent_bad opcode)
 absent_answer _ = Err logical_unit_not_supported

@@ -19,7 +19,7 @@ takes _ = true
 
 -- whether it is reported in place of the command's own answer
 abbrev pub is_stopped : Command → Bool
-is_stopped (RequestSense allocation) = false
+is_stopped (RequestSense format allocation) = false
 is_stopped command = takes command
 
 -- the attention that is reported in place of the command's own answer, if any

@@ -2,6 +2,7 @@ pub use Rattle.cdb.specs.Need
 pub use Rattle.block_store.specs.Blocks
 pub use Rattle.sense.specs.Conditions
 pub use Rattle.sense.specs.Fixed
+pub use Rattle.sense.specs.Format
 pub mod Absent
 pub mod Data
 pub mod PlainReply

@@ -13,7 +13,7 @@ use Rattle.command_model.specs.Wide.{wide_wants}
 -- where no attention stops the command, in a unit of so many blocks
 abbrev pub wants : ℕ → Command → Bool
 wants blocks TestUnitReady = false
-wants blocks (RequestSense allocation) = nat_lt 0 allocation
+wants blocks (RequestSense format allocation) = nat_lt 0 allocation
 wants blocks (Read lba count) = nat_lt 0 count && is_in_range blocks lba count
 wants blocks (Write lba count) = is_in_range blocks lba count
 wants blocks (Inquiry what allocation) = nat_lt 0 allocation

@@ -3,7 +3,7 @@
 use Rattle.std.specs.Prelude.{ℕ, ◌==◌, ◌||◌, nat_lt, List, [], length, take, Option, Some, None, Ok, Err, if◌then◌else◌, unwrap_or}
 use Rattle.sense.specs.declared.Sense.{Sense}
 use Rattle.sense.specs.Conditions.{no_sense, parameter_list_length_error, invalid_opcode, lba_out_of_range, invalid_field_in_cdb, invalid_field_in_parameter_list}
-use Rattle.sense.specs.Fixed.{fixed}
+use Rattle.sense.specs.Format.{bytes_in}
 use Rattle.cdb.specs.declared.commands.Command.{Command}
 use Rattle.cdb.specs.declared.commands.Command.TheVariants.{TestUnitReady, RequestSense, Read, Write, Inquiry, ReadCapacity10, ReadCapacity16, SynchronizeCache, WriteSame, Unmap, CompareAndWrite, ReportLuns, Wide, Bad, Unknown}
 use Rattle.block_store.specs.Blocks.{Blocks, run}
@@ -40,9 +40,9 @@ identity_told facts = told_by facts.profile facts.identity
 abbrev pub answer_of : Facts → Command → List ℕ → Blocks → Answer
 -- SPC-4 §6.47
 answer_of facts TestUnitReady bytes blocks = done
--- SPC-4 §6.39: the oldest attention, or that there is nothing to report
-answer_of facts (RequestSense allocation) bytes blocks =
-    Ok (take allocation (fixed (unwrap_or facts.pending no_sense)))
+-- SPC-4 §6.39: the oldest attention, or that there is nothing to report, in the format that DESC asks for
+answer_of facts (RequestSense format allocation) bytes blocks =
+    Ok (take allocation (bytes_in format (unwrap_or facts.pending no_sense)))
 -- SBC-3 §5.11
 answer_of facts (Read lba count) bytes blocks = within facts.capacity lba count (Ok (run blocks lba count))
 -- SBC-3 §5.33

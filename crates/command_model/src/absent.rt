@@ -41,7 +41,7 @@ pub fn exec_absent(command: &Command) -> AbsentReply
     ensures room { array_vec_len result.payload ≤ (need_of command.now).into }
 {
     match *command {
-        Command::RequestSense { allocation } => {
+        Command::RequestSense { allocation, .. } => {
             returned(&Sense::LOGICAL_UNIT_NOT_SUPPORTED.to_fixed(), allocation)
         }
         Command::Inquiry {

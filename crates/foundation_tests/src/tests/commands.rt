@@ -3,6 +3,7 @@
 use super::named_blocks::ROWS as NAMED_BLOCKS;
 use super::{Row, all_hold};
 use cdb::{CDB_BYTES, Command, InquiryData, Profile, SelectReport, Transfer, decode, need};
+use sense::SenseFormat;
 
 /// The bytes of a command block, what it asks for, and how many bytes it needs of the driver and for it.
 pub(super) struct Asks(
@@ -29,19 +30,28 @@ static ROWS: [Asks; 19] = [
     // REQUEST SENSE.
     Asks(
         b"\x03\x00\x00\x00\x12\x00",
-        Command::RequestSense { allocation: 18 },
+        Command::RequestSense {
+            format: SenseFormat::Fixed,
+            allocation: 18,
+        },
         0,
         18,
     ),
     Asks(
         b"\x03\xfe\xff\xff\xff\xfb",
-        Command::RequestSense { allocation: 255 },
+        Command::RequestSense {
+            format: SenseFormat::Fixed,
+            allocation: 255,
+        },
         0,
         255,
     ),
     Asks(
         b"\x03\x00\x00\x00\x00\x00",
-        Command::RequestSense { allocation: 0 },
+        Command::RequestSense {
+            format: SenseFormat::Fixed,
+            allocation: 0,
+        },
         0,
         0,
     ),
