@@ -31,7 +31,8 @@ TEST_UNIT_READY, UNMAP, CAPACITY_10, CAPACITY_16 = 0x00, 0x42, 0x25, 0x9e
 KNOWN = (*RANGED, INQUIRY, REPORT_LUNS, REQUEST_SENSE, TEST_UNIT_READY, UNMAP, CAPACITY_10, CAPACITY_16)
 
 # Those besides of the wide profile that this model has.
-WIDE = OR_WRITE
+FORMAT_UNIT = 0x04
+WIDE = (*OR_WRITE, FORMAT_UNIT)
 
 # Where the control byte stands, by an opcode's group; its bit 2 is NACA (SAM-5 §5.2).
 CONTROL, NACA = {0: 5, 1: 9, 2: 9, 4: 15, 5: 11}, 4
@@ -83,6 +84,8 @@ def is_bad(cdb, is_wide=False):
         return cdb[1] & 0x1f != 0x10
     if code in (REQUEST_SENSE, UNMAP):
         return bool(cdb[1] & 1)
+    if code == FORMAT_UNIT:
+        return bool(cdb[1] & 0xc7) or cdb[1] & 0x18 == 8
     if code in WRITE_SAME:
         return bool(cdb[1] & (0xf7 if code == 0x93 and not is_wide else 0xf6)) or not 0 < range_of(cdb)[1] <= MOST_SAME
     if code in (0x08, 0x0a) or code not in (*READ, *WRITE, *COMPARE, *OR_WRITE):
@@ -95,6 +98,8 @@ def need(cdb, is_wide=False):
     code = cdb[0]
     if not is_known(cdb, is_wide) or is_bad(cdb, is_wide) or has_no_data_out(cdb):
         return 0, 0
+    if code == FORMAT_UNIT:
+        return (8 if cdb[1] & 0x20 else 4) if cdb[1] & 0x10 else 0, 0
     if code in (*READ, *WRITE, *COMPARE, *OR_WRITE):
         size = BLOCK * range_of(cdb)[1]
         return (0, size) if code in READ else (2 * size, 0) if code in COMPARE else (size, 0)
@@ -309,6 +314,8 @@ class Disk:
             return "", b"", 0
         if code == UNMAP:
             return self.unmap(cdb, out)
+        if code == FORMAT_UNIT:
+            return self.format(out[:need(cdb, True)[0]])
         if code == INQUIRY:
             if cdb[1] & 1:
                 raise NotModelled("a page of INQUIRY")
@@ -350,6 +357,13 @@ class Disk:
             return f"{MISCOMPARE}@{unequal}", b"", 0
         self.write(lba, out[half:2 * half])
         return "", b"", 2 * half
+
+    def format(self, header):
+        """FORMAT UNIT: of the parameter list FOV and IMMED alone are taken (SBC-3 §5.3.2)."""
+        if header and (header[0] & 7 or header[1] & 0x7d or any(header[2:4] if len(header) == 4 else header[3:])):
+            return BAD_LIST, b"", 0
+        self.blocks.clear()
+        return "", b"", len(header)
 
     def unmap(self, cdb, out):
         """UNMAP: all ranges are looked at before any is zeroed."""

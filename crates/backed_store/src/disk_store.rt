@@ -74,6 +74,13 @@ impl Store for Disk {
             Disk::Backed(store) => store.zero_blocks(first, count),
         }
     }
+
+    fn zero_all(&mut self) -> Result<(), NoMemory> {
+        match self {
+            Disk::Whole(store) => store.zero_all(),
+            Disk::Backed(store) => store.zero_all(),
+        }
+    }
 }
 
 impl Disk {

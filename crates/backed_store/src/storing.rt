@@ -63,4 +63,9 @@ impl Store for BackedStore {
     fn zero_blocks(&mut self, first: u64, count: u32) {
         self.fill(first, count as usize, &ZEROS);
     }
+
+    // The host's storage has pages that aren't in memory.
+    fn zero_all(&mut self) -> Result<(), NoMemory> {
+        Err(NoMemory)
+    }
 }

@@ -21,6 +21,18 @@ decides_03 a b is_a is_b h =
     let same : command_by (row_of Wide 0x03) a ≡ command_by (row_of Wide 0x03) b = rw (e0, e1, e2) refl in
     ap (λ x. command_by (row_of Wide x) a) is_a ∙ same ∙ sym (ap (λ x. command_by (row_of Wide x) b) is_b)
 
+decides_04 : (a b : List ℕ) → byte 0 a ≡ 0x04 → byte 0 b ≡ 0x04 → Agree (Field.Bits 5 2 2 ∷ Field.Bits 1 7 6 ∷ Field.Bits 1 5 5 ∷ Field.Bits 1 4 4 ∷ Field.Bits 1 3 3 ∷ Field.Bits 1 2 0 ∷ []) a b → command Wide a ≡ command Wide b
+unfolding command
+decides_04 a b is_a is_b h =
+    let e0 : bits 5 2 2 a ≡ bits 5 2 2 b = h.0 in
+    let e1 : bits 1 7 6 a ≡ bits 1 7 6 b = h.1.0 in
+    let e2 : bits 1 5 5 a ≡ bits 1 5 5 b = h.1.1.0 in
+    let e3 : bits 1 4 4 a ≡ bits 1 4 4 b = h.1.1.1.0 in
+    let e4 : bits 1 3 3 a ≡ bits 1 3 3 b = h.1.1.1.1.0 in
+    let e5 : bits 1 2 0 a ≡ bits 1 2 0 b = h.1.1.1.1.1.0 in
+    let same : command_by (row_of Wide 0x04) a ≡ command_by (row_of Wide 0x04) b = rw (e0, e1, e2, e3, e4, e5) refl in
+    ap (λ x. command_by (row_of Wide x) a) is_a ∙ same ∙ sym (ap (λ x. command_by (row_of Wide x) b) is_b)
+
 decides_08 : (a b : List ℕ) → byte 0 a ≡ 0x08 → byte 0 b ≡ 0x08 → Agree (Field.Bits 5 2 2 ∷ Field.Bits 1 4 0 ∷ Field.Number 2 3 ∷ Field.Whole 4 ∷ []) a b → command Wide a ≡ command Wide b
 unfolding command
 decides_08 a b is_a is_b h =
@@ -394,7 +406,7 @@ decides_a3_0d a b is_a is_b action_a action_b h =
     ap (λ x. command_by (row_of Wide x) a) is_a ∙ same ∙ sym (ap (λ x. command_by (row_of Wide x) b) is_b)
 
 pub plain_decide : OfEach PlainDecides plain_commands
-plain_decide = (decides_00, (decides_03, (decides_08, (decides_0a, (decides_12, (decides_15, (decides_1a, (decides_1b, (decides_1d, (decides_1e, (decides_25, (decides_28, (decides_2a, (decides_2e, (decides_2f, (decides_34, (decides_35, (decides_41, (decides_42, (decides_55, (decides_5a, (decides_88, (decides_89, (decides_8a, (decides_8b, (decides_8e, (decides_8f, (decides_90, (decides_91, (decides_93, (decides_a0, (decides_a8, (decides_aa, (decides_ae, (decides_af, tt)))))))))))))))))))))))))))))))))))
+plain_decide = (decides_00, (decides_03, (decides_04, (decides_08, (decides_0a, (decides_12, (decides_15, (decides_1a, (decides_1b, (decides_1d, (decides_1e, (decides_25, (decides_28, (decides_2a, (decides_2e, (decides_2f, (decides_34, (decides_35, (decides_41, (decides_42, (decides_55, (decides_5a, (decides_88, (decides_89, (decides_8a, (decides_8b, (decides_8e, (decides_8f, (decides_90, (decides_91, (decides_93, (decides_a0, (decides_a8, (decides_aa, (decides_ae, (decides_af, tt))))))))))))))))))))))))))))))))))))
 
 pub action_decide : OfEach ActionDecides action_commands
 action_decide = (decides_9e_10, (decides_9e_12, (decides_a3_0c, (decides_a3_0d, tt))))

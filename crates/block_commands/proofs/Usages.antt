@@ -11,9 +11,9 @@ use Rattle.command_model.specs.Codes.{Field, plain_usage, plain_commands, usage_
 
 -- an opcode that is none of these has none
 pub plain_none : (x : ℕ) →
-    x ≢ 0x00 → x ≢ 0x03 → x ≢ 0x08 → x ≢ 0x0a → x ≢ 0x12 → x ≢ 0x15 → x ≢ 0x1a → x ≢ 0x1b → x ≢ 0x1d → x ≢ 0x1e → x ≢ 0x25 → x ≢ 0x28 → x ≢ 0x2a → x ≢ 0x2e → x ≢ 0x2f → x ≢ 0x34 → x ≢ 0x35 → x ≢ 0x41 → x ≢ 0x42 → x ≢ 0x55 → x ≢ 0x5a → x ≢ 0x88 → x ≢ 0x89 → x ≢ 0x8a → x ≢ 0x8b → x ≢ 0x8e → x ≢ 0x8f → x ≢ 0x90 → x ≢ 0x91 → x ≢ 0x93 → x ≢ 0xa0 → x ≢ 0xa8 → x ≢ 0xaa → x ≢ 0xae → x ≢ 0xaf → None ≡ plain_usage x
+    x ≢ 0x00 → x ≢ 0x03 → x ≢ 0x04 → x ≢ 0x08 → x ≢ 0x0a → x ≢ 0x12 → x ≢ 0x15 → x ≢ 0x1a → x ≢ 0x1b → x ≢ 0x1d → x ≢ 0x1e → x ≢ 0x25 → x ≢ 0x28 → x ≢ 0x2a → x ≢ 0x2e → x ≢ 0x2f → x ≢ 0x34 → x ≢ 0x35 → x ≢ 0x41 → x ≢ 0x42 → x ≢ 0x55 → x ≢ 0x5a → x ≢ 0x88 → x ≢ 0x89 → x ≢ 0x8a → x ≢ 0x8b → x ≢ 0x8e → x ≢ 0x8f → x ≢ 0x90 → x ≢ 0x91 → x ≢ 0x93 → x ≢ 0xa0 → x ≢ 0xa8 → x ≢ 0xaa → x ≢ 0xae → x ≢ 0xaf → None ≡ plain_usage x
 unfolding plain_usage
-plain_none x a0 a1 a2 a3 a4 a5 a6 a7 a8 a9 a10 a11 a12 a13 a14 a15 a16 a17 a18 a19 a20 a21 a22 a23 a24 a25 a26 a27 a28 a29 a30 a31 a32 a33 a34 = grind (arith, nat_tests)
+plain_none x a0 a1 a2 a3 a4 a5 a6 a7 a8 a9 a10 a11 a12 a13 a14 a15 a16 a17 a18 a19 a20 a21 a22 a23 a24 a25 a26 a27 a28 a29 a30 a31 a32 a33 a34 a35 = grind (arith, nat_tests)
 
 some_found : {A B : Type 0} (f : A → B) (p : A → Bool) (xs : List A) → is_some (option_map f (find p xs)) ≡ list_any p xs
 some_found f p [] = refl

@@ -19,6 +19,7 @@ mod execution;
 mod extents;
 mod facts;
 mod failure;
+mod format_unit;
 mod in_place;
 mod inquiry;
 pub mod laws;

@@ -11,6 +11,7 @@ ghost use Rattle.block_commands.specs.Inner.Ready.{is_changed_wide, is_near_wide
 use crate::codes::operation_codes;
 use crate::data::{cut, without_data};
 use crate::failure::Failure;
+use crate::format_unit::format_unit;
 use crate::mode_lists::mode_select;
 use crate::modes::{is_saved, mode_data};
 use crate::or_write::or_write;
@@ -83,6 +84,7 @@ pub(crate) fn wide<S: Store>(
         WideCommand::OrWrite { blocks, lba } => {
             without_data(alloc, or_write(alloc, store, lba, blocks, bytes))
         }
+        WideCommand::FormatUnit { list } => without_data(alloc, format_unit(store, list, bytes)),
     }
 }
 

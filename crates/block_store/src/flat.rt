@@ -109,4 +109,9 @@ impl Store for FlatStore {
     fn zero_blocks(&mut self, first: u64, count: u32) {
         put_zeros(&mut self.bytes, first as usize, count as usize);
     }
+
+    // Its bytes would have to be walked.
+    fn zero_all(&mut self) -> Result<(), NoMemory> {
+        Err(NoMemory)
+    }
 }

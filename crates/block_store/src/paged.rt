@@ -136,7 +136,7 @@ impl PagedStore {
 }
 
 impl Store for PagedStore {
-    ghost use Rattle.std.specs.Prelude.{◌/◌, ◌%◌, true};
+    ghost use Rattle.std.specs.Prelude.{◌/◌, ◌%◌, true, IsOk};
     ghost use Rattle.block_store.specs.Kept.{kept, blocks_of};
     ghost use Rattle.block_store.specs.Inner.Padding.{length-blocks_in};
 
@@ -193,5 +193,14 @@ impl Store for PagedStore {
 
     fn zero_blocks(&mut self, first: u64, count: u32) {
         self.pages.clear(self.alloc, first, count as usize);
+    }
+
+    fn zero_all(&mut self) -> Result<(), NoMemory>
+        ensures zeros { (b : ℕ) → blocks_of self.new.pages b ≡ zero_block }
+        ensures size { self.new.capacity ≡ self.old.capacity }
+        ensures takes_no_memory { IsOk result }
+    {
+        self.pages = Pages::new(self.alloc);
+        Ok(())
     }
 }

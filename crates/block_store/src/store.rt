@@ -1,7 +1,7 @@
 //! The trait of a store of blocks.
 
 ghost use Rattle.std.specs.Prelude.{◌≡◌, ◌≢◌, ℕ, ◌+◌, ◌*◌, ◌%◌, ◌<◌, ◌≤◌, ◌++◌, Bool, IsTrue, List, length, vec_len, vec_capacity, OnOk, OnErr};
-ghost use Rattle.block_store.specs.Blocks.{block_count, overwritten, filled, zeroed, run, is_within};
+ghost use Rattle.block_store.specs.Blocks.{block_count, overwritten, filled, zeroed, run, is_within, zero_block};
 ghost use Rattle.block_store.specs.Inner.Pages.{is_beside};
 ghost use Rattle.block_store.specs.declared.readiness.Readiness.TheVariants.{Ready, Full};
 
@@ -120,6 +120,13 @@ pub trait Store {
         ensures blocks { (b : ℕ) → block_at self.new b ≡ zeroed (block_at self.old) first count b }
         ensures held { (b : ℕ) → IsTrue (is_held self.old b) → IsTrue (is_held self.new b) }
         ensures keeps_room { (b : ℕ) → IsTrue (has_room self.old b) → IsTrue (has_room self.new b) }
+        ensures size { size self.new ≡ size self.old };
+
+    /// Puts zeros into every block, at once: it takes longer the more was written, and not the more blocks there are. A store
+    /// that can't do so refuses, and nothing is changed. Takes no memory.
+    fn zero_all(&mut self) -> Result<(), NoMemory>
+        ensures ok { OnOk result ((b : ℕ) → block_at self.new b ≡ zero_block) }
+        ensures err { OnErr result ((b : ℕ) → block_at self.new b ≡ block_at self.old b) }
         ensures size { size self.new ≡ size self.old };
 
     // A block has 512 bytes.

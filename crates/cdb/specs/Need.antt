@@ -5,7 +5,9 @@ use Rattle.cdb.specs.declared.transfers.Transfer.{Transfer}
 use Rattle.cdb.specs.declared.commands.Command.{Command}
 use Rattle.cdb.specs.declared.commands.Command.TheVariants.{TestUnitReady, RequestSense, Read, Write, Inquiry, ReadCapacity10, ReadCapacity16, SynchronizeCache, WriteSame, Unmap, CompareAndWrite, ReportLuns, Wide, Bad, Unknown}
 use Rattle.cdb.specs.declared.wide_commands.WideCommand.{WideCommand}
-use Rattle.cdb.specs.declared.wide_commands.WideCommand.TheVariants.{ModeSense, ModeSelect, ReportTaskManagement, ReportOperationCodes, GetLbaStatus, Verify, WriteZeros, OrWrite}
+use Rattle.cdb.specs.declared.wide_commands.WideCommand.TheVariants.{ModeSense, ModeSelect, ReportTaskManagement, ReportOperationCodes, GetLbaStatus, Verify, WriteZeros, OrWrite, FormatUnit}
+use Rattle.cdb.specs.declared.wide_commands.FormatList.{FormatList}
+use Rattle.cdb.specs.declared.wide_commands.FormatList.TheVariants.{NoList, ShortHeader, LongHeader}
 use Rattle.cdb.specs.declared.wide_commands.VerifyData.{VerifyData}
 use Rattle.cdb.specs.declared.wide_commands.VerifyData.TheVariants.{EachBlock, OneBlock}
 
@@ -25,6 +27,12 @@ abbrev pub sent_blocks : VerifyData → ℕ → ℕ
 sent_blocks EachBlock count = count
 sent_blocks OneBlock count = min count 1
 
+-- of a FORMAT UNIT: the header of its parameter list, SBC-3 §5.3.2
+abbrev pub header_bytes : FormatList → ℕ
+header_bytes NoList = 0
+header_bytes ShortHeader = 4
+header_bytes LongHeader = 8
+
 -- of a command of the wide profile alone
 abbrev pub wide_need : WideCommand → Transfer
 wide_need (ModeSense request) = bytes_in request.allocation
@@ -35,6 +43,7 @@ wide_need (ReportOperationCodes asked allocation) = bytes_in allocation
 wide_need (Verify sent count lba) = bytes_out (512 * sent_blocks sent count)
 wide_need (WriteZeros count lba) = no_bytes
 wide_need (OrWrite count lba) = bytes_out (512 * count)
+wide_need (FormatUnit list) = bytes_out (header_bytes list)
 
 abbrev pub need_of : Command → Transfer
 need_of TestUnitReady = no_bytes

@@ -5,7 +5,9 @@ use Rattle.cdb.specs.Fields.{byte, bits, bit, number, is_set, is_over}
 use Rattle.cdb.specs.Profile.{Row, row, never, protect}
 use Rattle.cdb.specs.declared.commands.Command.{Command}
 use Rattle.cdb.specs.declared.commands.Command.TheVariants.{TestUnitReady, Write, ReadCapacity16, SynchronizeCache, WriteSame, Wide}
-use Rattle.cdb.specs.declared.wide_commands.WideCommand.TheVariants.{ModeSense, ModeSelect, ReportTaskManagement, ReportOperationCodes, GetLbaStatus, Verify, WriteZeros, OrWrite}
+use Rattle.cdb.specs.declared.wide_commands.WideCommand.TheVariants.{ModeSense, ModeSelect, ReportTaskManagement, ReportOperationCodes, GetLbaStatus, Verify, WriteZeros, OrWrite, FormatUnit}
+use Rattle.cdb.specs.declared.wide_commands.FormatList.{FormatList}
+use Rattle.cdb.specs.declared.wide_commands.FormatList.TheVariants.{NoList, ShortHeader, LongHeader}
 use Rattle.cdb.specs.declared.wide_commands.CodesAsked.{CodesAsked}
 use Rattle.cdb.specs.declared.wide_commands.CodesAsked.TheVariants.{AllCommands, OneCommand, OneServiceAction}
 use Rattle.cdb.specs.declared.wide_commands.VerifyData.TheVariants.{EachBlock, OneBlock}
@@ -123,10 +125,21 @@ maintenance_meaning cdb =
     then Wide (ReportOperationCodes (codes_asked (bits 2 2 0 cdb) (byte 3 cdb) (number 4 5 cdb)) (number 6 9 cdb))
     else Wide (ReportTaskManagement (bit 2 7 cdb) (number 6 9 cdb))
 
+-- FORMAT UNIT, SBC-3 §5.3: FMTPINFO; DEFECT LIST FORMAT; CMPLST without FMTDATA
+abbrev pub format_causes : List ℕ → List Bool
+format_causes cdb =
+    is_set (bits 1 7 6 cdb) ∷ is_set (bits 1 2 0 cdb) ∷ (bit 1 3 cdb && not (bit 1 4 cdb)) ∷ []
+
+-- the parameter list by FMTDATA and LONGLIST
+abbrev pub format_list : Bool → Bool → FormatList
+format_list has_list is_long = if has_list then (if is_long then LongHeader else ShortHeader) else NoList
+
 abbrev pub wide_rows : List Row
 wide_rows =
+    -- FORMAT UNIT, SBC-3 §5.3
+    row 0x04 5 format_causes (λ cdb. Wide (FormatUnit (format_list (bit 1 4 cdb) (bit 1 5 cdb))))
     -- MODE SELECT (6), SPC-4 §6.9
-    row 0x15 5 select_causes (λ cdb. Wide (ModeSelect Six (byte 4 cdb)))
+    ∷ row 0x15 5 select_causes (λ cdb. Wide (ModeSelect Six (byte 4 cdb)))
     -- MODE SENSE (6), SPC-4 §6.11: DBD is bit 3 of byte 1
     ∷ row 0x1a 5 mode_causes
     (λ cdb. mode_sense_of Six (if bit 1 3 cdb then Absent else Short) (byte 4 cdb) cdb)

@@ -25,6 +25,6 @@ pub use decoding::decode;
 pub use profile::Profile;
 pub use transfers::{Transfer, need};
 pub use wide_commands::{
-    CodesAsked, ModeDescriptor, ModeForm, ModePages, ModeRequest, ModeValues, VerifyData,
-    WideCommand,
+    CodesAsked, FormatList, ModeDescriptor, ModeForm, ModePages, ModeRequest, ModeValues,
+    VerifyData, WideCommand,
 };

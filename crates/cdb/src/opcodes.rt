@@ -42,6 +42,8 @@ pub(crate) const WRITE_12: u8 = 0xaa;
 
 // Those of the wide profile alone.
 
+pub(crate) const FORMAT_UNIT: u8 = 0x04;
+
 pub(crate) const MODE_SELECT_6: u8 = 0x15;
 
 pub(crate) const MODE_SENSE_6: u8 = 0x1a;

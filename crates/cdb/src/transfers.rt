@@ -1,9 +1,9 @@
 //! The data that a command moves.
 
 ghost use Rattle.std.specs.Prelude.{◌≡◌, ◌≤◌};
-ghost use Rattle.cdb.specs.Need.{bytes_in, bytes_out, need_of, sent_blocks, wide_need};
+ghost use Rattle.cdb.specs.Need.{bytes_in, bytes_out, header_bytes, need_of, sent_blocks, wide_need};
 
-use crate::{Command, VerifyData, WideCommand};
+use crate::{Command, FormatList, VerifyData, WideCommand};
 
 /// The bytes of a logical block.
 const BLOCK_BYTES: u32 = 512;
@@ -63,6 +63,7 @@ fn wide_need(command: &WideCommand) -> Transfer
         ),
         WideCommand::WriteZeros { .. } => Transfer { out: 0, into: 0 },
         WideCommand::OrWrite { blocks, .. } => from_driver(u32::from(blocks) * BLOCK_BYTES),
+        WideCommand::FormatUnit { list } => from_driver(header_bytes(list)),
     }
 }
 
@@ -74,6 +75,17 @@ fn sent_blocks(sent: VerifyData, blocks: u16) -> u32
     match sent {
         VerifyData::EachBlock => u32::from(blocks),
         VerifyData::OneBlock => u32::from(blocks.min(1)),
+    }
+}
+
+/// Returns how many bytes the parameter list of a FORMAT UNIT has.
+fn header_bytes(list: FormatList) -> u32
+    ensures { result ≡ header_bytes list }
+{
+    match list {
+        FormatList::NoList => 0,
+        FormatList::ShortHeader => 4,
+        FormatList::LongHeader => 8,
     }
 }
 

@@ -58,6 +58,23 @@ pub enum WideCommand {
         /// The first block.
         lba: u64,
     },
+    /// FORMAT UNIT (SBC-3 §5.3).
+    FormatUnit {
+        /// The parameter list that is sent.
+        list: FormatList,
+    },
+}
+
+/// The parameter list of a FORMAT UNIT: the bits FMTDATA and LONGLIST (SBC-3 §5.3). A unit takes no list of defects, so it
+/// is a header alone.
+#[derive(Clone, Copy, PartialEq, Eq)]
+pub enum FormatList {
+    /// None: FMTDATA is 0.
+    NoList,
+    /// A header of 4 bytes.
+    ShortHeader,
+    /// A header of 8 bytes: LONGLIST is 1.
+    LongHeader,
 }
 
 /// The commands that a REPORT SUPPORTED OPERATION CODES tells of: the field REPORTING OPTIONS (SPC-4 §6.35).

@@ -4,7 +4,7 @@ ghost use Rattle.std.specs.Prelude.{◌≡◌, ◌<◌, ◌≤◌, ◌∷◌, �
 ghost use Rattle.std.specs.List.{list_any};
 ghost use Rattle.cdb.specs.Fields.{bit, bits, byte, is_over, is_set};
 ghost use Rattle.cdb.specs.Profile.{protect};
-ghost use Rattle.cdb.specs.WideProfile.{codes_asked, mode_causes, mode_pages_of, mode_sense_of, mode_values, select_causes, subpages, verified, verified_causes};
+ghost use Rattle.cdb.specs.WideProfile.{codes_asked, format_list, mode_causes, mode_pages_of, mode_sense_of, mode_values, select_causes, subpages, verified, verified_causes};
 ghost use Rattle.cdb.specs.Decoding.{command, row_of};
 ghost use Rattle.cdb.specs.Inner.Decoding.{fields_of, unless};
 ghost use Rattle.cdb.specs.Need.{need_of};
@@ -17,8 +17,8 @@ use crate::fields::{
 use crate::opcodes;
 use crate::profile::Profile;
 use crate::wide_commands::{
-    CodesAsked, ModeDescriptor, ModeForm, ModePages, ModeRequest, ModeValues, VerifyData,
-    WideCommand,
+    CodesAsked, FormatList, ModeDescriptor, ModeForm, ModePages, ModeRequest, ModeValues,
+    VerifyData, WideCommand,
 };
 use byteorder::{BigEndian, ByteOrder};
 
@@ -75,6 +75,7 @@ fn wide_6(cdb: &[u8; CDB_BYTES]) -> Command
     ensures data_out { (need_of result).out ≤ 1048576 }
 {
     let fields = match cdb[0] {
+        opcodes::FORMAT_UNIT => format_unit(cdb),
         opcodes::MODE_SELECT_6 => mode_select(cdb, ModeForm::Six, u16::from(cdb[4])),
         opcodes::MODE_SENSE_6 => mode_sense_6(cdb),
         opcodes::START_STOP_UNIT => start_stop_unit(cdb),
@@ -157,6 +158,36 @@ fn write_and_verify(cdb: &[u8; CDB_BYTES], blocks: Blocks) -> Option<Command>
         return None;
     }
     write(cdb, blocks)
+}
+
+/// Decodes FORMAT UNIT. A unit keeps no list of defects, so it has but one format of it, of which it takes none.
+fn format_unit(cdb: &[u8; CDB_BYTES]) -> Option<Command>
+    ensures meaning { result ≡ fields_of Profile.Wide 0x04 cdb.now }
+    ensures data_out { IfSome result (λ c. (need_of c).out ≤ 1048576) }
+{
+    let protection = cdb[1] >> 6;
+    let defect_format = low_bits(cdb[1], 3);
+    let has_list = has_bit(cdb[1], 4);
+    let complete_list = has_bit(cdb[1], 3);
+    if protection != 0 || defect_format != 0 || (complete_list && !has_list) {
+        return None;
+    }
+    Some(Command::Wide(WideCommand::FormatUnit {
+        list: format_list(has_list, has_bit(cdb[1], 5)),
+    }))
+}
+
+/// Returns the parameter list of a FORMAT UNIT, by FMTDATA and LONGLIST.
+fn format_list(has_list: bool, is_long: bool) -> FormatList
+    ensures { result ≡ format_list has_list is_long }
+{
+    if !has_list {
+        FormatList::NoList
+    } else if is_long {
+        FormatList::LongHeader
+    } else {
+        FormatList::ShortHeader
+    }
 }
 
 /// Decodes ORWRITE (16), of these blocks.

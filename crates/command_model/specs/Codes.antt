@@ -37,6 +37,8 @@ plain_commands =
     (0x00, [])
     -- REQUEST SENSE: DESC, allocation length
     ∷ (0x03, Field.Bits 1 0 0 ∷ Field.Whole 4 ∷ [])
+    -- FORMAT UNIT: FMTPINFO, LONGLIST, FMTDATA, CMPLST, DEFECT LIST FORMAT
+    ∷ (0x04, Field.Bits 1 7 6 ∷ Field.Bits 1 5 5 ∷ Field.Bits 1 4 4 ∷ Field.Bits 1 3 3 ∷ Field.Bits 1 2 0 ∷ [])
     -- READ (6): address, length
     ∷ (0x08, Field.Bits 1 4 0 ∷ Field.Number 2 3 ∷ Field.Whole 4 ∷ [])
     -- WRITE (6)

@@ -4,7 +4,7 @@ use Rattle.std.specs.List.{zip}
 use Rattle.cdb.specs.declared.commands.Command.{Command}
 use Rattle.cdb.specs.declared.commands.Command.TheVariants.{Write, WriteSame, Unmap, CompareAndWrite, Wide}
 use Rattle.cdb.specs.declared.wide_commands.WideCommand.{WideCommand}
-use Rattle.cdb.specs.declared.wide_commands.WideCommand.TheVariants.{WriteZeros, OrWrite}
+use Rattle.cdb.specs.declared.wide_commands.WideCommand.TheVariants.{WriteZeros, OrWrite, FormatUnit}
 use Rattle.block_store.specs.Blocks.{Blocks, nth_block, zero_block, is_within}
 use Rattle.command_model.specs.Statuses.{good}
 use Rattle.command_model.specs.Comparing.{to_write}
@@ -19,10 +19,12 @@ abbrev pub or_bytes : List ℕ → List ℕ → List ℕ
 or_bytes old sent = map (λ pair. bit_or pair.0 pair.1) (zip old sent)
 
 -- what a command of the wide profile alone gives block b, which has the old bytes, where it ends with GOOD, if it covers
--- b: WRITE SAME with NDOB zeros (SBC-3 §5.44), ORWRITE the OR of the block and its slice of the data (SBC-3 §5.5)
+-- b: WRITE SAME with NDOB zeros (SBC-3 §5.44), ORWRITE the OR of the block and its slice of the data (SBC-3 §5.5), FORMAT
+-- UNIT zeros to each (SBC-3 §5.3)
 abbrev pub wide_given : WideCommand → List ℕ → ℕ → List ℕ → Option (List ℕ)
 wide_given (WriteZeros count lba) bytes b old = where_covered (is_within lba count b) zero_block
 wide_given (OrWrite count lba) bytes b old = where_covered (is_within lba count b) (or_bytes old (nth_block bytes (b - lba)))
+wide_given (FormatUnit list) bytes b old = Some zero_block
 wide_given _ bytes b old = None
 
 -- the same of a command with this data: WRITE its slice of the data (SBC-3 §5.33), WRITE SAME the one block of data

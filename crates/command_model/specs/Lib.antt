@@ -14,6 +14,7 @@ pub mod Codes
 pub mod Comparing
 pub mod Effects
 pub mod Facts
+pub mod Formatting
 pub mod Identity
 pub mod Inquiry
 pub mod Luns

@@ -4,12 +4,13 @@ use Rattle.std.specs.Prelude.{ℕ, ◌-◌, Bool, true, false, ◌&&◌, nat_lt,
 use Rattle.std.specs.Int.{w32, w64, to_be_bytes}
 use Rattle.sense.specs.Conditions.{lba_out_of_range}
 use Rattle.cdb.specs.declared.wide_commands.WideCommand.{WideCommand}
-use Rattle.cdb.specs.declared.wide_commands.WideCommand.TheVariants.{ModeSense, ModeSelect, ReportTaskManagement, ReportOperationCodes, GetLbaStatus, Verify, WriteZeros, OrWrite}
+use Rattle.cdb.specs.declared.wide_commands.WideCommand.TheVariants.{ModeSense, ModeSelect, ReportTaskManagement, ReportOperationCodes, GetLbaStatus, Verify, WriteZeros, OrWrite, FormatUnit}
 use Rattle.block_store.specs.Blocks.{Blocks, run}
 use Rattle.command_model.specs.Data.{Answer, done}
 use Rattle.command_model.specs.Capacity.{is_in_range, within}
 use Rattle.command_model.specs.Comparing.{to_verify, first_unequal, compared}
 use Rattle.command_model.specs.Codes.{codes_answer}
+use Rattle.command_model.specs.Formatting.{format_answer}
 use Rattle.command_model.specs.Modes.{mode_answer}
 use Rattle.command_model.specs.ModeLists.{select_answer}
 
@@ -42,6 +43,8 @@ wide_answer capacity (Verify sent count lba) bytes blocks =
 wide_answer capacity (WriteZeros count lba) bytes blocks = within capacity lba count done
 -- SBC-3 §5.5
 wide_answer capacity (OrWrite count lba) bytes blocks = within capacity lba count done
+-- SBC-3 §5.3
+wide_answer capacity (FormatUnit list) bytes blocks = format_answer list bytes
 
 -- whether it may be refused memory
 abbrev pub wide_wants : ℕ → WideCommand → Bool
@@ -53,3 +56,5 @@ wide_wants capacity (ReportOperationCodes asked allocation) = nat_lt 0 allocatio
 wide_wants capacity (Verify sent count lba) = nat_lt 0 count && is_in_range capacity lba count
 wide_wants capacity (WriteZeros count lba) = false
 wide_wants capacity (OrWrite count lba) = is_in_range capacity lba count
+-- a disk whose pages come and go can't do it at once
+wide_wants capacity (FormatUnit list) = true

@@ -239,6 +239,7 @@ impl Changes {
             WideCommand::OrWrite { blocks, lba } => {
                 self.note(lba, u64::from(blocks), capacity, place)
             }
+            WideCommand::FormatUnit { .. } => self.note(0, capacity, capacity, place),
             _ => {}
         }
     }
