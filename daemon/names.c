@@ -10,8 +10,8 @@
 enum { MOST_EXPONENT = 15, LEAST_RATE = 0x401, MOST_RATE = 0xfffe, WHY = 300 };
 
 // The words, by their places in `named` of a disk.
-static const char *const words[] = {"vendor=", "product=", "revision=", "serial=", "naa=", "physical-block-exp=", "rotation-rate="};
-enum { VENDOR, PRODUCT, REVISION, SERIAL, NAA, EXPONENT, RATE, WORDS };
+static const char *const words[] = {"vendor=", "product=", "revision=", "serial=", "naa=", "physical-block-exp=", "rotation-rate=", "sense="};
+enum { VENDOR, PRODUCT, REVISION, SERIAL, NAA, EXPONENT, RATE, SENSE, WORDS };
 
 static bool is_printable(const char *text, size_t length) {
   for (size_t i = 0; i < length; i++)
@@ -36,6 +36,17 @@ static bool take_number(const char *text, size_t length, unsigned *found) {
   return length && length <= 5;
 }
 
+// Takes the name of a format of sense data.
+static bool take_format(uint8_t *format, const char *text, size_t length) {
+  static const char *const formats[] = {[VSCSI_SENSE_FIXED] = "fixed", [VSCSI_SENSE_DESCRIPTOR] = "descriptor"};
+  for (uint8_t i = 0; i < sizeof formats / sizeof *formats; i++) {
+    if (length != strlen(formats[i]) || strncmp(text, formats[i], length)) continue;
+    *format = i;
+    return true;
+  }
+  return false;
+}
+
 static bool take_value(struct vscsi_identity *names, int which, const char *text, size_t length) {
   unsigned value;
   switch (which) {
@@ -48,6 +59,7 @@ static bool take_value(struct vscsi_identity *names, int which, const char *text
       if (!take_number(text, length, &value) || value > MOST_EXPONENT) return false;
       names->physical_exponent = (uint8_t)value;
       return true;
+    case SENSE: return take_format(&names->sense_format, text, length);
     default:
       if (!take_number(text, length, &value) || (value > 1 && (value < LEAST_RATE || value > MOST_RATE))) return false;
       names->rotation_rate = (uint16_t)(value ? value : VSCSI_RATE_NOT_REPORTED);
@@ -62,7 +74,8 @@ static const char *const wanted[] = {"1 to 8 printable characters of ASCII, and 
                                      "1 to 20 printable characters of ASCII, and no comma",
                                      "16 hexadecimal digits, of which the first is 3 or 5",
                                      "a number from 0 to 15",
-                                     "0, 1, or a number from 1025 to 65534"};
+                                     "0, 1, or a number from 1025 to 65534",
+                                     "fixed or descriptor"};
 
 enum named names_take(struct disk *disk, const char *word, size_t length, char *why, size_t room) {
   for (int which = 0; which < WORDS; which++) {

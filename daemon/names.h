@@ -8,7 +8,8 @@
 
 enum named { NAMED_NOT, NAMED_WELL, NAMED_WRONGLY };
 
-// Takes one word of a disk, of so many characters: serial=, naa=, vendor=, product=, revision=, physical-block-exp= or rotation-rate=.
+// Takes one word of a disk, of so many characters: serial=, naa=, vendor=, product=, revision=, physical-block-exp=, rotation-rate=
+// or sense=.
 // Returns NAMED_NOT where it is none of these, and NAMED_WRONGLY, and says why, where its value isn't one, or it was there already.
 enum named names_take(struct disk *disk, const char *word, size_t length, char *why, size_t room);
 

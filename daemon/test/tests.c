@@ -287,7 +287,9 @@ static void test_words(void) {
                                       "0:0=1M,profile=wide,naa=0000000000000000", "0:0=1M,profile=wide,physical-block-exp=16",
                                       "0:0=1M,profile=wide,physical-block-exp=", "0:0=1M,profile=wide,rotation-rate=2",
                                       "0:0=1M,profile=wide,rotation-rate=1024", "0:0=1M,profile=wide,rotation-rate=65535",
-                                      "0:0=1M,profile=wide,rotation-rate=-1"};
+                                      "0:0=1M,profile=wide,rotation-rate=-1", "0:0=1M,profile=wide,sense=", "0:0=1M,profile=wide,sense=fix",
+                                      "0:0=1M,profile=wide,sense=descriptors", "0:0=1M,profile=narrow,sense=descriptor",
+                                      "0:0=1M,profile=wide,sense=fixed,sense=descriptor"};
   static const char *const refused[] = {"0:0=1M,file=/", "0:0=1M,file=/nowhere/x", "0:0=file=/nowhere/x", "0:0=1M,file=/nowhere/x,snapshot"};
   char why[300];
   struct disks disks = {0};
@@ -312,6 +314,9 @@ static void test_words(void) {
   MUST(names->physical_exponent == 3 && names->rotation_rate == VSCSI_RATE_NOT_REPORTED && !*names->product && !*names->revision);
   MUST(!disks_add(&disks, "0:1=1M,naa=3123456789abcdef", why, sizeof why) && strstr(why, "another disk"));
   MUST(disks_add(&disks, "0:1=1M,profile=wide,rotation-rate=65534", why, sizeof why) && disks.disks[1].names.rotation_rate == 65534);
+  MUST(disks.disks[1].names.sense_format == VSCSI_SENSE_FIXED);
+  MUST(disks_add(&disks, "0:2=1M,sense=descriptor,profile=wide", why, sizeof why) && disks.disks[2].names.sense_format == VSCSI_SENSE_DESCRIPTOR);
+  MUST(disks_add(&disks, "0:3=1M,profile=wide,sense=fixed", why, sizeof why) && disks.disks[3].names.sense_format == VSCSI_SENSE_FIXED);
   disks_close(&disks);
   MUST(disks_add(&disks, "1:1=512", why, sizeof why) && !disks_are_whole(&disks) && !disks_add(&disks, "1:1=512", why, sizeof why));
   MUST(disks_add(&disks, "1:0=4G", why, sizeof why) && disks_are_whole(&disks) && disks.disks[0].lun == 0 && disks.disks[0].blocks == 4 << 21);

@@ -82,7 +82,7 @@ static void causes(void) {
 
 // That the second unit may not say this of itself, whatever its profile.
 static void unnamed(int line, struct vscsi_identity said) {
-  identities[0] = (struct vscsi_identity){.reserved = 0};
+  identities[0] = (struct vscsi_identity){.sense_format = VSCSI_SENSE_FIXED};
   identities[1] = said;
   config.profiles = wide, config.identities = identities, refused(line, VSCSI_CAUSE_UNIT_IDENTITY, 1, 0);
   config.identities = identities, refused(line, VSCSI_CAUSE_UNIT_IDENTITY, 1, 0);
@@ -101,7 +101,7 @@ static void names(void) {
   unnamed(__LINE__, (struct vscsi_identity){.physical_exponent = 16});
   unnamed(__LINE__, (struct vscsi_identity){.rotation_rate = 2});
   unnamed(__LINE__, (struct vscsi_identity){.rotation_rate = 0x400});
-  unnamed(__LINE__, (struct vscsi_identity){.reserved = 1});
+  unnamed(__LINE__, (struct vscsi_identity){.sense_format = 2});
   config.profiles = wide, config.identities = two, refused(__LINE__, VSCSI_CAUSE_UNIT_NAA, 0, 0);
   units[1].lun = 1, config.profiles = wide, config.identities = two, refused(__LINE__, VSCSI_CAUSE_NO_LUN_0, 1, 0);
 }
@@ -155,6 +155,40 @@ static void each_name(void) {
   begin();
 }
 
+// That a target refuses an opcode that no unit knows with this sense data, and zeros behind it. It is the n-th request of queue 2.
+static void refuses(int line, struct vscsi *device, uint8_t target, uint16_t n, const uint8_t *sense, uint8_t length) {
+  const struct {
+    uint64_t addr;
+    uint32_t length;
+    uint16_t flags, next;
+  } parts[2] = {{0x8000, 51, 1, 1}, {0x9000, 108, 2, 0}};
+  const uint8_t request[51] = {1, target, 0x40, 0, [19] = 0xc0}, index[2] = {(uint8_t)(n + 1)}, head[2] = {0};
+  uint8_t wanted[108] = {length, [10] = 2}, response[108];
+  memcpy(wanted + 12, sense, length);
+  IS(vscsi_poke(device, 0x8000, request, sizeof request), VSCSI_DONE);
+  IS(vscsi_poke(device, area(2), parts, sizeof parts), VSCSI_DONE);
+  IS(vscsi_poke(device, area(2) + 0x404 + 2 * n, head, 2), VSCSI_DONE);
+  IS(vscsi_poke(device, area(2) + 0x402, index, 2), VSCSI_DONE);
+  IS(vscsi_serve(device, 1u << 2, UINT64_MAX, 0, 0), VSCSI_DONE);
+  IS(vscsi_peek(device, 0x9000, response, sizeof response), VSCSI_DONE);
+  check(line, memcmp(response, wanted, sizeof wanted), 0);
+}
+
+// That each unit sends sense data in its own format (SPC-4 4.5.2, 4.5.3), and that there is no third one.
+static void each_format(void) {
+  static const uint8_t fixed[18] = {0x70, 0, 5, [7] = 10, [12] = 0x20}, descriptor[8] = {0x72, 5, 0x20};
+  struct vscsi device = {0};
+  begin(), units[1].calm = 1, config.profiles = wide, config.identities = identities;
+  identities[0] = (struct vscsi_identity){.sense_format = VSCSI_SENSE_FIXED};
+  identities[1] = (struct vscsi_identity){.sense_format = VSCSI_SENSE_DESCRIPTOR};
+  IS(vscsi_create(&device, &config, 0), VSCSI_DONE);
+  refuses(__LINE__, &device, 0, 0, fixed, sizeof fixed);
+  refuses(__LINE__, &device, 4, 1, descriptor, sizeof descriptor);
+  refuses(__LINE__, &device, 0, 2, fixed, sizeof fixed);
+  IS(vscsi_destroy(&device), VSCSI_DONE);
+  config.profiles = 0, refused(__LINE__, VSCSI_CAUSE_UNIT_IDENTITY, 1, 0);
+}
+
 // Returns the status of a MODE SENSE (6) of a target, which is the n-th request of queue 2. No other call of these tests sends one.
 static uint8_t senses_modes(struct vscsi *device, uint8_t target, uint16_t n) {
   const struct {
@@ -198,7 +232,7 @@ static void each_profile(void) {
 static void older(void) {
   struct vscsi device = {0};
   begin();
-  identities[0] = (struct vscsi_identity){.reserved = 1};
+  identities[0] = (struct vscsi_identity){.sense_format = 2};
   config.identities = identities, config.size = offsetof(struct vscsi_config, identities);
   IS(vscsi_create(&device, &config, 0), VSCSI_DONE);
   IS(vscsi_destroy(&device), VSCSI_DONE);
@@ -232,7 +266,7 @@ static void older_live(void) {
   live.size = offsetof(struct vscsi_live_config, identities);
   IS(vscsi_live_create(&device, &live, 0, &fault), VSCSI_BAD_CONFIG);
   live.profiles = wide;
-  identities[0] = (struct vscsi_identity){.reserved = 1};
+  identities[0] = (struct vscsi_identity){.sense_format = 2};
   live.identities = identities;
   IS(vscsi_live_create(&device, &live, 0, 0), VSCSI_DONE);
   IS(vscsi_live_destroy(&device), VSCSI_DONE);
@@ -680,6 +714,7 @@ int main(void) {
   each_profile();
   names();
   each_name();
+  each_format();
   older();
   older_live();
   sizes();

@@ -2,6 +2,7 @@
 use Rattle.std.proofs.Common.{◌≡◌, ℕ, zero, suc, ◌+◌, ◌*◌, ◌<◌, ◌≤◌, true, false, Bool, List, ◌++◌, length, if◌then◌else◌, refl, ap, ◌∙◌, arith, Option, None, Some, Ok, Err, inl, inr, unwrap_or}
 use Rattle.std.proofs.lemmas.Bool.Decides.{leb_tells}
 use Rattle.sense.specs.declared.Sense.{Sense}
+use Rattle.sense.specs.declared.SenseFormat.{SenseFormat}
 use Rattle.cdb.specs.declared.commands.Command.{Command}
 use Rattle.cdb.specs.declared.commands.Command.TheVariants.{Read, Write, CompareAndWrite, Wide}
 use Rattle.cdb.specs.declared.wide_commands.WideCommand.{WideCommand}
@@ -15,7 +16,7 @@ use Rattle.command_model.specs.Capacity.{within}
 use Rattle.command_model.specs.Comparing.{to_compare, to_verify, first_unequal, compared}
 use Rattle.command_model.specs.Effects.{block_after, where_covered}
 use Rattle.command_model.specs.Facts.{Facts}
-use Rattle.command_model.specs.Replies.{answer_of, reported}
+use Rattle.command_model.specs.Replies.{answer_of, format_told, reported}
 use Rattle.sense.specs.Conditions.{lba_out_of_range}
 
 -- blocks that agree below a number give the same run below it
@@ -34,12 +35,12 @@ within-same blocks lba count a b same =
       | inr outside ↦ rw outside.0 refl
     ]
 
-wide_answer-agree : (capacity : ℕ) (command : WideCommand) (bytes : List ℕ) (p q : Blocks) → ((b : ℕ) → b < capacity → p b ≡ q b) →
-    wide_answer capacity command bytes p ≡ wide_answer capacity command bytes q
-wide_answer-agree capacity (Verify sent count lba) bytes p q agree =
+wide_answer-agree : (format : SenseFormat) (capacity : ℕ) (command : WideCommand) (bytes : List ℕ) (p q : Blocks) → ((b : ℕ) → b < capacity → p b ≡ q b) →
+    wide_answer format capacity command bytes p ≡ wide_answer format capacity command bytes q
+wide_answer-agree format capacity (Verify sent count lba) bytes p q agree =
     within-same capacity lba count _ _
     (λ below. ap (λ l. compared (first_unequal (run (to_verify sent bytes) 0 count) l)) (run-agree p q lba count capacity below agree))
-wide_answer-agree capacity _ bytes p q agree = refl
+wide_answer-agree format capacity _ bytes p q agree = refl
 
 pub answer_of-agree : (facts : Facts) (command : Command) (bytes : List ℕ) (p q : Blocks) → ((b : ℕ) → b < facts.capacity → p b ≡ q b) →
     answer_of facts command bytes p ≡ answer_of facts command bytes q
@@ -48,7 +49,7 @@ answer_of-agree facts (Read lba count) bytes p q agree =
 answer_of-agree facts (CompareAndWrite lba count) bytes p q agree =
     within-same facts.capacity lba count _ _
     (λ below. ap (λ l. compared (first_unequal (to_compare count bytes) l)) (run-agree p q lba count facts.capacity below agree))
-answer_of-agree facts (Wide command) bytes p q agree = wide_answer-agree facts.capacity command bytes p q agree
+answer_of-agree facts (Wide command) bytes p q agree = wide_answer-agree (format_told facts) facts.capacity command bytes p q agree
 answer_of-agree facts _ bytes p q agree = refl
 
 -- no attention stopped what ended with GOOD

@@ -4,9 +4,9 @@ ghost use Rattle.std.specs.Prelude.{◌≡◌, ◌≤◌, ◌+◌, ◌<◌, ◌^
 ghost use Rattle.std.specs.Result.{ForOk};
 ghost use Rattle.cdb.specs.Need.{need_of};
 ghost use Rattle.command_model.specs.Data.{data_of};
-ghost use Rattle.command_model.specs.PlainReply.{plain_of};
+ghost use Rattle.command_model.specs.PlainReply.{plain_of, refusal, sent_in};
 ghost use Rattle.command_model.specs.Effects.{block_after, given};
-ghost use Rattle.block_commands.specs.Inner.Told.{facts_of};
+ghost use Rattle.block_commands.specs.Inner.Told.{facts_of, sense_told};
 ghost use Rattle.command_model.specs.Memory.{may_want, wants};
 ghost use Rattle.command_model.specs.Replies.{reply_of, answer_of};
 ghost use Rattle.command_model.specs.Attention.{met};
@@ -62,11 +62,11 @@ pub fn exec<S: Store>(
     ensures capacity { S.size store.new ≡ S.size store.old }
 {
     if let Some(attention) = met_attention(command, facts.pending) {
-        return Ok(Reply::refusal(alloc, attention));
+        return Ok(refused(alloc, facts, attention));
     }
     let bytes = &out[..need(command).out as usize];
     let answer = run(alloc, room, store, command, bytes, facts);
-    replied(alloc, command, answer)
+    replied(alloc, facts, command, answer)
 }
 
 /// Runs a command that no attention stops, on exactly the data that it needs. After an error nothing
@@ -134,25 +134,33 @@ fn run<S: Store>(
         Command::ReportLuns { select, allocation } => {
             Ok(lun_list(alloc, listed_luns(select, &facts.luns), allocation)?)
         }
-        Command::Wide(command) => wide(alloc, store, &command, bytes),
+        Command::Wide(command) => wide(alloc, store, facts.format_told(), &command, bytes),
         Command::Bad { .. } => Err(Failure::Refused(Sense::INVALID_FIELD_IN_CDB)),
         Command::Unknown => Err(Failure::Refused(Sense::INVALID_OPCODE)),
     }
+}
+
+/// Returns the reply to a command that is refused with this sense data, in the format that the unit tells.
+fn refused(alloc: Global, facts: &UnitFacts, sense: Sense) -> Reply
+    ensures { plain_of result ≡ sent_in (sense_told facts.now) (refusal sense) }
+{
+    Reply::refusal(alloc, sense.in_format(facts.format_told()))
 }
 
 /// Returns the reply to a command that gave this data, or was refused.
 #[inline(always)]
 fn replied(
     alloc: Global,
+    facts: &UnitFacts,
     command: &Command,
     answer: Result<Vec<u8>, Failure>,
 ) -> Result<Reply, NoMemory>
     requires { ForOk answer (λ bytes. (need_of command.now).out + vec_len bytes < 2 ^ 32) }
-    ensures { Replies (λ bytes. bytes.items) command.now answer result }
+    ensures { Replies (λ bytes. bytes.items) (sense_told facts.now) command.now answer result }
 {
     match answer {
         Ok(payload) => Ok(Reply::success(command, payload)),
-        Err(Failure::Refused(sense)) => Ok(Reply::refusal(alloc, sense)),
+        Err(Failure::Refused(sense)) => Ok(refused(alloc, facts, sense)),
         Err(Failure::WantOfMemory) => Err(NoMemory),
     }
 }

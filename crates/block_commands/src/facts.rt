@@ -6,7 +6,7 @@ ghost use Rattle.scsi_codec.specs.Lun.{number_of};
 use cdb::Profile;
 use command_model::Identity;
 use scsi_codec::Address;
-use sense::Sense;
+use sense::{Sense, SenseFormat};
 
 /// The facts of its logical unit that a command is told, apart from the blocks.
 #[derive(Drop)]
@@ -31,6 +31,7 @@ pub struct UnitFacts {
 impl UnitFacts {
     ghost use Rattle.std.specs.Prelude.{◌≡◌};
     ghost use Rattle.command_model.specs.Identity.{told_by};
+    ghost use Rattle.block_commands.specs.Inner.Told.{sense_told};
 
     /// Returns what the unit tells of what its configuration says of it.
     pub(crate) fn identity_told(&self) -> Identity
@@ -39,6 +40,16 @@ impl UnitFacts {
         match self.profile {
             Profile::Narrow => Identity::PLAIN,
             Profile::Wide => self.identity,
+        }
+    }
+
+    /// Returns the format of the sense data that the unit sends beside a status.
+    pub(crate) fn format_told(&self) -> SenseFormat
+        ensures { result ≡ sense_told self.now }
+    {
+        match self.profile {
+            Profile::Narrow => SenseFormat::Fixed,
+            Profile::Wide => self.identity.sense_format,
         }
     }
 }

@@ -2,7 +2,7 @@
 
 ghost use Rattle.std.specs.Prelude.{◌≡◌, ◌≤◌, ◌+◌, ◌*◌, ◌/◌, ◌%◌, ◌<◌, ◌++◌, length, nat_lt, take, IfOk, OnErr, IsTrue};
 ghost use Rattle.arrayvec.specs.ArrayVec.{array_vec_len};
-ghost use Rattle.command_model.specs.Inquiry.{serial, serial_of, serial_page, identification_page, naa_designator, t10_designator, extended_page, limits_page, characteristics_page, standard_of, supported_pages, inquiry_data};
+ghost use Rattle.command_model.specs.Inquiry.{serial, serial_of, serial_page, identification_page, naa_designator, t10_designator, extended_page, most_sense, limits_page, characteristics_page, standard_of, supported_pages, inquiry_data};
 ghost use Rattle.command_model.specs.StandardData.{wide_standard_data};
 
 use crate::data::cut;
@@ -10,6 +10,7 @@ use arrayvec::ArrayVec;
 use cdb::{InquiryData, Profile};
 use command_model::{Identity, standard_data};
 use scsi_codec::Address;
+use sense::SenseFormat;
 use std::alloc::{AllocError, Global};
 
 /// Byte 0 of the standard data of a block device that is there.
@@ -55,7 +56,9 @@ pub(crate) fn inquiry(
             let page = identification_page(identity, &serial_of(identity, address));
             cut(alloc, page.as_slice(), allocation)
         }
-        InquiryData::ExtendedInquiry => cut(alloc, &extended_page(), allocation),
+        InquiryData::ExtendedInquiry => {
+            cut(alloc, &extended_page(identity.sense_format), allocation)
+        }
         InquiryData::BlockLimits => cut(alloc, &limits_page(), allocation),
         InquiryData::BlockDeviceCharacteristics => {
             cut(
@@ -123,14 +126,24 @@ fn supported_pages(alloc: Global, profile: Profile, allocation: u32) -> Result<V
     }
 }
 
+/// Returns the most bytes of sense data beside a status.
+fn most_sense(format: SenseFormat) -> u8
+    ensures { result ≡ most_sense format }
+{
+    match format {
+        SenseFormat::Fixed => 18,
+        SenseFormat::Descriptor => 20,
+    }
+}
+
 /// Makes the page Extended INQUIRY Data.
 #[tactic(auto, unfolding(command_model::specs::Inquiry::extended_page))]
-fn extended_page() -> [u8; 64]
-    ensures { result ≡ extended_page }
+fn extended_page(format: SenseFormat) -> [u8; 64]
+    ensures { result ≡ extended_page format }
 {
     let mut page = [0; 64];
     page[..6].copy_from_slice(&[0x00, 0x86, 0x00, 0x3c, 0x00, 0x07]);
-    page[13] = 0x12;
+    page[13] = most_sense(format);
     page
 }
 

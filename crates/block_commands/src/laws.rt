@@ -11,7 +11,7 @@ ghost use Rattle.cdb.specs.Fields.{byte, number};
 ghost use Rattle.cdb.specs.declared.profile.Profile.{Profile};
 ghost use Rattle.cdb.specs.Need.{need_of};
 ghost use Rattle.block_store.specs.Blocks.{Blocks, run, zero_block};
-ghost use Rattle.command_model.specs.PlainReply.{success, refusal};
+ghost use Rattle.command_model.specs.PlainReply.{success, refusal, sent_in};
 ghost use Rattle.command_model.specs.Statuses.{good, check_condition};
 ghost use Rattle.command_model.specs.Attention.{takes};
 ghost use Rattle.command_model.specs.Capacity.{is_in_range};
@@ -20,7 +20,7 @@ ghost use Rattle.command_model.specs.Comparing.{to_compare};
 ghost use Rattle.command_model.specs.Effects.{block_after};
 ghost use Rattle.command_model.specs.Facts.{Facts};
 ghost use Rattle.command_model.specs.Inquiry.{limits_page};
-ghost use Rattle.command_model.specs.Replies.{reply_of};
+ghost use Rattle.command_model.specs.Replies.{format_told, reply_of};
 ghost use Rattle.command_model.specs.UnmapList.{blocks_named, descriptors, are_in_range, is_named};
 
 use block_store::written_is_read_back;
@@ -82,7 +82,8 @@ pub fn compared_first()
         k < length (to_compare count bytes) → k < length (run blocks lba count) →
         ((j : ℕ) → j < k → slice_index (to_compare count bytes) j ≡ slice_index (run blocks lba count) j) →
         slice_index (to_compare count bytes) k ≢ slice_index (run blocks lba count) k →
-        reply_of facts (Command.CompareAndWrite lba count) bytes blocks ≡ refusal (miscompare k) }
+        reply_of facts (Command.CompareAndWrite lba count) bytes blocks
+        ≡ sent_in (format_told facts) (refusal (miscompare k)) }
 {}
 
 /// UNMAP is all or nothing: where it is GOOD, each range of its list lies below the capacity, the
@@ -148,8 +149,10 @@ pub fn attention_is_left()
 /// Every other command but REQUEST SENSE is answered with the attention, and isn't run.
 pub fn attention_is_met()
     ensures { (facts : Facts) (command : Command) (bytes : List ℕ) (blocks : Blocks) (attention : Sense) →
-        IsTrue (takes command) → ((format : SenseFormat) (allocation : ℕ) → command ≢ Command.RequestSense format allocation) →
-        reply_of (record facts { pending = Some attention }) command bytes blocks ≡ refusal attention }
+        IsTrue (takes command)
+        → ((format : SenseFormat) (allocation : ℕ) → command ≢ Command.RequestSense format allocation) →
+        reply_of (record facts { pending = Some attention }) command bytes blocks
+        ≡ sent_in (format_told facts) (refusal attention) }
 {}
 
 /// REPORT SUPPORTED OPERATION CODES tells of exactly the opcodes that a unit of the wide profile knows.

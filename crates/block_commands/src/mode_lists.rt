@@ -10,7 +10,7 @@ use crate::compare::first_unequal;
 use crate::modes::{caching, control, descriptor_length, error_recovery, exceptions};
 use block_store::BLOCK_BYTES;
 use cdb::{ModeDescriptor, ModeForm};
-use sense::Sense;
+use sense::{Sense, SenseFormat};
 
 /// The bytes of a page before what its page length counts.
 const PAGE_HEADER_BYTES: usize = 2;
@@ -18,8 +18,8 @@ const PAGE_HEADER_BYTES: usize = 2;
 /// Takes a parameter list that changes nothing. Refuses every other with the first cause in the order of its bytes:
 /// PARAMETER LIST LENGTH ERROR where it ends within its header, its block descriptor or a page, else INVALID FIELD IN
 /// PARAMETER LIST.
-pub(crate) fn mode_select(form: ModeForm, list: &[u8]) -> Result<(), Sense>
-    ensures { Ends (select_answer form list.now) result }
+pub(crate) fn mode_select(format: SenseFormat, form: ModeForm, list: &[u8]) -> Result<(), Sense>
+    ensures { Ends (select_answer format form list.now) result }
 {
     if list.is_empty() {
         return Ok(());
@@ -31,12 +31,16 @@ pub(crate) fn mode_select(form: ModeForm, list: &[u8]) -> Result<(), Sense>
         return Err(Sense::INVALID_FIELD_IN_PARAMETER_LIST);
     }
     let descriptor = descriptor_of(is_long(form, list), descriptor_bytes(form, list));
-    take_described(descriptor, &list[header_length(form)..])
+    take_described(format, descriptor, &list[header_length(form)..])
 }
 
 /// Takes what follows the header, where that announces this block descriptor.
-fn take_described(descriptor: Option<ModeDescriptor>, bytes: &[u8]) -> Result<(), Sense>
-    ensures { Ends (described_answer descriptor bytes.now) result }
+fn take_described(
+    format: SenseFormat,
+    descriptor: Option<ModeDescriptor>,
+    bytes: &[u8],
+) -> Result<(), Sense>
+    ensures { Ends (described_answer format descriptor bytes.now) result }
 {
     let Some(descriptor) = descriptor else {
         return Err(Sense::INVALID_FIELD_IN_PARAMETER_LIST);
@@ -48,19 +52,19 @@ fn take_described(descriptor: Option<ModeDescriptor>, bytes: &[u8]) -> Result<()
     if !has_block_length(descriptor, bytes) {
         return Err(Sense::INVALID_FIELD_IN_PARAMETER_LIST);
     }
-    take_pages(bytes.len(), &bytes[end..])
+    take_pages(format, bytes.len(), &bytes[end..])
 }
 
 /// Takes at most so many pages, in any order.
-fn take_pages(most: usize, list: &[u8]) -> Result<(), Sense>
-    ensures { Ends (pages_answer most list.now) result }
+fn take_pages(format: SenseFormat, most: usize, list: &[u8]) -> Result<(), Sense>
+    ensures { Ends (pages_answer format most list.now) result }
 {
     let mut rest = list;
     for taken in 0..most {
         if rest.is_empty() {
             return Ok(());
         }
-        match behind_page(rest) {
+        match behind_page(format, rest) {
             Ok(later) => rest = later,
             Err(sense) => return Err(sense),
         }
@@ -69,8 +73,9 @@ fn take_pages(most: usize, list: &[u8]) -> Result<(), Sense>
 }
 
 /// Returns what stands behind the first page of a list.
-fn behind_page(list: &[u8]) -> Result<&[u8], Sense>
-    ensures { MatchResult result (λ rest. behind_page list.now ≡ Ok rest.now) (λ sense. behind_page list.now ≡ Err sense) }
+fn behind_page(format: SenseFormat, list: &[u8]) -> Result<&[u8], Sense>
+    ensures { MatchResult result (λ rest. behind_page format list.now ≡ Ok rest.now)
+        (λ sense. behind_page format list.now ≡ Err sense) }
 {
     if list.len() < PAGE_HEADER_BYTES {
         return Err(Sense::PARAMETER_LIST_LENGTH_ERROR);
@@ -82,7 +87,7 @@ fn behind_page(list: &[u8]) -> Result<&[u8], Sense>
     if list.len() < end {
         return Err(Sense::PARAMETER_LIST_LENGTH_ERROR);
     }
-    if !begins_with_page(list) {
+    if !begins_with_page(format, list) {
         return Err(Sense::INVALID_FIELD_IN_PARAMETER_LIST);
     }
     Ok(&list[end..])
@@ -97,12 +102,12 @@ fn is_page(code: u8) -> bool
 
 /// Returns true if a list begins with a page as MODE SENSE gives it.
 #[tactic(auto, unfolding(command_model::specs::ModeLists::begins_with_page))]
-fn begins_with_page(list: &[u8]) -> bool
-    ensures { result ≡ begins_with_page list.now }
+fn begins_with_page(format: SenseFormat, list: &[u8]) -> bool
+    ensures { result ≡ begins_with_page format list.now }
 {
     begins_with(list, &error_recovery())
         || begins_with(list, &caching())
-        || begins_with(list, &control())
+        || begins_with(list, &control(format))
         || begins_with(list, &exceptions())
 }
 

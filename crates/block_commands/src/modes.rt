@@ -1,10 +1,12 @@
 //! The data of MODE SENSE (SPC-4 §6.11, §7.5, SBC-3 §6.4).
 
 ghost use Rattle.std.specs.Prelude.{◌≡◌, ◌≤◌, ◌++◌, false, true, length, take, IfOk, OnOk};
-ghost use Rattle.command_model.specs.Modes.{block_descriptor, descriptor_length, is_mask, is_saved, long_lba, mode_data, mode_header, page_list};
+ghost use Rattle.command_model.specs.Modes.{block_descriptor, descriptor_length, is_mask, d_sense, is_saved, long_lba, mode_data, mode_header, page_list};
+ghost use Rattle.sense.specs.declared.SenseFormat.{SenseFormat as ASenseFormat};
 
 use block_store::BLOCK_BYTES;
 use cdb::{ModeDescriptor, ModeForm, ModePages, ModeRequest, ModeValues};
+use sense::SenseFormat;
 use std::alloc::{AllocError, Global};
 
 /// The most bytes that are returned: a header, a block descriptor and all pages.
@@ -21,10 +23,10 @@ const CACHING: [u8; 20] = [
     0x08, 0x12, 0, 0, 0, 0, 0, 0, 0, 0, 0, 0, 0, 0, 0, 0, 0, 0, 0, 0,
 ];
 
-/// Control: SIMPLE commands may be reordered.
-const CONTROL: [u8; 12] = [0x0a, 0x0a, 0, 0x10, 0, 0, 0, 0, 0, 0, 0, 0];
+/// D_SENSE, in byte 2 of Control: sense data are sent in the descriptor format.
+const D_SENSE: u8 = 0x04;
 
-/// The mask of what can be changed of it.
+/// The mask of what can be changed of Control.
 const CONTROL_MASK: [u8; 12] = [0x0a, 0x0a, 0, 0, 0, 0, 0, 0, 0, 0, 0, 0];
 
 /// Informational Exceptions Control: DEXCPT.
@@ -36,15 +38,16 @@ const EXCEPTIONS_MASK: [u8; 12] = [0x1c, 0x0a, 0, 0, 0, 0, 0, 0, 0, 0, 0, 0];
 /// Returns the mode parameter list that a MODE SENSE asks for, cut to the allocation length.
 pub(crate) fn mode_data(
     alloc: Global,
+    format: SenseFormat,
     request: &ModeRequest,
     capacity: u64,
 ) -> Result<Vec<u8>, AllocError>
-    ensures { IfOk result (λ bytes. bytes.items ≡ take request.now.allocation (mode_data request.now capacity)) }
+    ensures { IfOk result (λ bytes. bytes.items ≡ take request.now.allocation (mode_data format request.now capacity)) }
 {
     let mut list = Vec::with_capacity(alloc, MOST_BYTES)?;
-    put_header(&mut list, request)?;
+    put_header(&mut list, format, request)?;
     put_descriptor(&mut list, request.descriptor, capacity)?;
-    put_pages(&mut list, is_mask(request.values), request.pages)?;
+    put_pages(&mut list, format, is_mask(request.values), request.pages)?;
     list.truncate(usize::from(request.allocation));
     Ok(list)
 }
@@ -64,21 +67,25 @@ pub(crate) fn is_saved(values: ModeValues) -> bool
 }
 
 /// Appends the header.
-fn put_header(list: &mut Vec<u8>, request: &ModeRequest) -> Result<(), AllocError>
+fn put_header(
+    list: &mut Vec<u8>,
+    format: SenseFormat,
+    request: &ModeRequest,
+) -> Result<(), AllocError>
     ensures { OnOk result (list.new.items ≡ list.old.items
-        ++ mode_header request.now.form request.now.descriptor (length (page_list false request.now.pages))) }
+        ++ mode_header request.now.form request.now.descriptor (length (page_list format false request.now.pages))) }
 {
-    let pages = pages_length(request.pages);
+    let pages = pages_length(format, request.pages);
     match request.form {
         ModeForm::Six => list.extend_from_slice(&header_6(request.descriptor, pages)),
         ModeForm::Ten => list.extend_from_slice(&header_10(request.descriptor, pages)),
     }
 }
 
-/// Returns how many bytes the pages have.
+/// Returns how many bytes the pages have, whatever the format.
 #[tactic(auto, unfolding(command_model::specs::Modes::page_list))]
-fn pages_length(pages: ModePages) -> u8
-    ensures length { result ≡ length (page_list false pages) }
+fn pages_length(format: SenseFormat, pages: ModePages) -> u8
+    ensures length { result ≡ length (page_list format false pages) }
     ensures few { result ≤ 56 }
 {
     match pages {
@@ -178,47 +185,52 @@ fn long_descriptor(capacity: u64) -> [u8; 16]
 }
 
 /// Appends the pages, or the masks of what can be changed of them.
-fn put_pages(list: &mut Vec<u8>, is_mask: bool, pages: ModePages) -> Result<(), AllocError>
-    ensures { OnOk result (list.new.items ≡ list.old.items ++ page_list is_mask pages) }
+fn put_pages(
+    list: &mut Vec<u8>,
+    format: SenseFormat,
+    is_mask: bool,
+    pages: ModePages,
+) -> Result<(), AllocError>
+    ensures { OnOk result (list.new.items ≡ list.old.items ++ page_list format is_mask pages) }
 {
     if is_mask {
-        put_masks(list, pages)
+        put_masks(list, format, pages)
     } else {
-        put_current(list, pages)
+        put_current(list, format, pages)
     }
 }
 
 /// Appends the pages.
 #[tactic(auto, unfolding(command_model::specs::Modes::page_list))]
-fn put_current(list: &mut Vec<u8>, pages: ModePages) -> Result<(), AllocError>
-    ensures { OnOk result (list.new.items ≡ list.old.items ++ page_list false pages) }
+fn put_current(list: &mut Vec<u8>, format: SenseFormat, pages: ModePages) -> Result<(), AllocError>
+    ensures { OnOk result (list.new.items ≡ list.old.items ++ page_list format false pages) }
 {
     match pages {
         ModePages::ErrorRecovery => list.extend_from_slice(&ERROR_RECOVERY),
         ModePages::Caching => list.extend_from_slice(&CACHING),
-        ModePages::Control => list.extend_from_slice(&CONTROL),
+        ModePages::Control => list.extend_from_slice(&control(format)),
         ModePages::InformationalExceptions => list.extend_from_slice(&EXCEPTIONS),
-        ModePages::All => list.extend_from_slice(&all_pages()),
+        ModePages::All => list.extend_from_slice(&all_pages(format)),
     }
 }
 
 /// Returns all pages, by rising code.
 #[tactic(auto, unfolding(command_model::specs::Modes::page_list))]
-fn all_pages() -> [u8; 56]
-    ensures { result ≡ page_list false ModePages.All }
+fn all_pages(format: SenseFormat) -> [u8; 56]
+    ensures { result ≡ page_list format false ModePages.All }
 {
     let mut pages = [0; 56];
     pages[..12].copy_from_slice(&ERROR_RECOVERY);
     pages[12..32].copy_from_slice(&CACHING);
-    pages[32..44].copy_from_slice(&CONTROL);
+    pages[32..44].copy_from_slice(&control(format));
     pages[44..].copy_from_slice(&EXCEPTIONS);
     pages
 }
 
 /// Returns the masks of what can be changed of them.
 #[tactic(auto, unfolding(command_model::specs::Modes::page_list))]
-fn all_masks() -> [u8; 56]
-    ensures { result ≡ page_list true ModePages.All }
+fn all_masks(_format: SenseFormat) -> [u8; 56]
+    ensures { result ≡ page_list _format true ModePages.All }
 {
     let mut masks = [0; 56];
     masks[..12].copy_from_slice(&ERROR_RECOVERY);
@@ -231,7 +243,7 @@ fn all_masks() -> [u8; 56]
 /// Returns the page Read-Write Error Recovery.
 #[tactic(auto, unfolding(command_model::specs::Modes::page_list))]
 pub(crate) fn error_recovery() -> [u8; 12]
-    ensures { result ≡ page_list false ModePages.ErrorRecovery }
+    ensures { (format : ASenseFormat) → result ≡ page_list format false ModePages.ErrorRecovery }
 {
     ERROR_RECOVERY
 }
@@ -239,37 +251,47 @@ pub(crate) fn error_recovery() -> [u8; 12]
 /// Returns the page Caching.
 #[tactic(auto, unfolding(command_model::specs::Modes::page_list))]
 pub(crate) fn caching() -> [u8; 20]
-    ensures { result ≡ page_list false ModePages.Caching }
+    ensures { (format : ASenseFormat) → result ≡ page_list format false ModePages.Caching }
 {
     CACHING
 }
 
-/// Returns the page Control.
+/// Returns the page Control: D_SENSE by the format, and SIMPLE commands may be reordered.
 #[tactic(auto, unfolding(command_model::specs::Modes::page_list))]
-pub(crate) fn control() -> [u8; 12]
-    ensures { result ≡ page_list false ModePages.Control }
+pub(crate) fn control(format: SenseFormat) -> [u8; 12]
+    ensures { result ≡ page_list format false ModePages.Control }
 {
-    CONTROL
+    [0x0a, 0x0a, d_sense(format), 0x10, 0, 0, 0, 0, 0, 0, 0, 0]
+}
+
+/// Returns byte 2 of Control.
+fn d_sense(format: SenseFormat) -> u8
+    ensures { result ≡ d_sense format }
+{
+    match format {
+        SenseFormat::Fixed => 0x00,
+        SenseFormat::Descriptor => D_SENSE,
+    }
 }
 
 /// Returns the page Informational Exceptions Control.
 #[tactic(auto, unfolding(command_model::specs::Modes::page_list))]
 pub(crate) fn exceptions() -> [u8; 12]
-    ensures { result ≡ page_list false ModePages.InformationalExceptions }
+    ensures { (format : ASenseFormat) → result ≡ page_list format false ModePages.InformationalExceptions }
 {
     EXCEPTIONS
 }
 
 /// Appends the masks of what can be changed of them: nothing.
 #[tactic(auto, unfolding(command_model::specs::Modes::page_list))]
-fn put_masks(list: &mut Vec<u8>, pages: ModePages) -> Result<(), AllocError>
-    ensures { OnOk result (list.new.items ≡ list.old.items ++ page_list true pages) }
+fn put_masks(list: &mut Vec<u8>, format: SenseFormat, pages: ModePages) -> Result<(), AllocError>
+    ensures { OnOk result (list.new.items ≡ list.old.items ++ page_list format true pages) }
 {
     match pages {
         ModePages::ErrorRecovery => list.extend_from_slice(&ERROR_RECOVERY),
         ModePages::Caching => list.extend_from_slice(&CACHING),
         ModePages::Control => list.extend_from_slice(&CONTROL_MASK),
         ModePages::InformationalExceptions => list.extend_from_slice(&EXCEPTIONS_MASK),
-        ModePages::All => list.extend_from_slice(&all_masks()),
+        ModePages::All => list.extend_from_slice(&all_masks(format)),
     }
 }

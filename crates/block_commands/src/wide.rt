@@ -19,7 +19,7 @@ use crate::transfer::write_zeros;
 use crate::verify::verify;
 use block_store::Store;
 use cdb::{ModeRequest, WideCommand};
-use sense::Sense;
+use sense::{Sense, SenseFormat};
 use std::alloc::{AllocError, Global};
 
 /// The data of REPORT SUPPORTED TASK MANAGEMENT FUNCTIONS: ABORT TASK, ABORT TASK SET, CLEAR TASK SET, LOGICAL UNIT RESET
@@ -34,11 +34,12 @@ const EXTENDED_TASK_MANAGEMENT: [u8; 16] = [
 /// The bytes that follow byte 3 of the data of GET LBA STATUS.
 const STATUS_LENGTH: u32 = 20;
 
-/// Runs a command of the wide profile alone on the blocks of a unit, on exactly the data that it needs. After an error
-/// nothing is changed.
+/// Runs a command of the wide profile alone on the blocks of a unit, which sends sense data in this format, on exactly the
+/// data that it needs. After an error nothing is changed.
 pub(crate) fn wide<S: Store>(
     alloc: Global,
     store: &mut S,
+    format: SenseFormat,
     command: &WideCommand,
     bytes: &[u8],
 ) -> Result<Vec<u8>, Failure>
@@ -47,7 +48,7 @@ pub(crate) fn wide<S: Store>(
     requires changed { (b : ℕ) → IsTrue (is_changed_wide (S.size store.old) command.now b) → IsTrue (S.has_room store.old b) }
     requires near { (b : ℕ) → IsTrue (is_near_wide (S.size store.old) command.now b) → IsTrue (S.is_held store.old b) }
     ensures answer { Gives (λ bytes. bytes.items)
-        (wide_answer (S.size store.old) command.now bytes.now (S.block_at store.old)) result }
+        (wide_answer format (S.size store.old) command.now bytes.now (S.block_at store.old)) result }
     ensures ok { OnOk result ((b : ℕ) → S.block_at store.new b
         ≡ unwrap_or (wide_given command.now bytes.now b (S.block_at store.old b)) (S.block_at store.old b)) }
     ensures err { OnErr result ((b : ℕ) → S.block_at store.new b ≡ S.block_at store.old b) }
@@ -56,9 +57,9 @@ pub(crate) fn wide<S: Store>(
     ensures want { Wants (wide_wants (S.size store.old) command.now) result }
 {
     match *command {
-        WideCommand::ModeSense(request) => mode_sense(alloc, &request, store.capacity()),
+        WideCommand::ModeSense(request) => mode_sense(alloc, format, &request, store.capacity()),
         WideCommand::ModeSelect { form, .. } => {
-            mode_select(form, bytes)?;
+            mode_select(format, form, bytes)?;
             Ok(Vec::new(alloc))
         }
         WideCommand::ReportTaskManagement {
@@ -89,14 +90,19 @@ pub(crate) fn wide<S: Store>(
 }
 
 /// Returns the data of MODE SENSE (SPC-4 §6.11), unless saved values are asked for.
-fn mode_sense(alloc: Global, request: &ModeRequest, capacity: u64) -> Result<Vec<u8>, Failure>
-    ensures answer { Gives (λ bytes. bytes.items) (mode_answer request.now capacity) result }
+fn mode_sense(
+    alloc: Global,
+    format: SenseFormat,
+    request: &ModeRequest,
+    capacity: u64,
+) -> Result<Vec<u8>, Failure>
+    ensures answer { Gives (λ bytes. bytes.items) (mode_answer format request.now capacity) result }
     ensures room { IfOk result (λ bytes. vec_len bytes ≤ request.now.allocation) }
 {
     if is_saved(request.values) {
         return Err(Failure::Refused(Sense::SAVING_PARAMETERS_NOT_SUPPORTED));
     }
-    Ok(mode_data(alloc, request, capacity)?)
+    Ok(mode_data(alloc, format, request, capacity)?)
 }
 
 /// Returns the task management functions that a unit has, cut to the allocation length (SPC-4 §6.36).

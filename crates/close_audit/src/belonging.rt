@@ -15,6 +15,13 @@ const FIRST: Ticket = Ticket {
     number: 0,
 };
 
+/// Returns whether a unit opened with these names.
+fn is_named_as(spec: &UnitSpec, unit: &UnitState) -> bool
+    ensures { IsTrue result ↔ (unit.now.opening.identity ≡ spec.now.identity) }
+{
+    unit.identity() == spec.identity
+}
+
 /// Returns whether a unit opened with this address, capacity, profile and names, and keeps replies for receipts to be
 /// compared with.
 fn is_opened_as(spec: &UnitSpec, unit: &UnitState) -> bool
@@ -24,7 +31,7 @@ fn is_opened_as(spec: &UnitSpec, unit: &UnitState) -> bool
         && unit.lun() == spec.lun
         && unit.opening_blocks() == spec.blocks
         && unit.profile() == spec.profile
-        && unit.identity() == spec.identity
+        && is_named_as(spec, unit)
         && unit.keeps_replies()
 }
 

@@ -1,12 +1,14 @@
 -- What a configuration may say of a disk, and what of it is told.
 use Rattle.std.specs.Prelude.{ℕ, ◌/◌, ◌==◌, ◌&&◌, ◌||◌, nat_le, Bool, true, List, take, replicate, Option, Some, None, slice_index}
 use Rattle.std.specs.List.{list_all}
+use Rattle.sense.specs.declared.SenseFormat.TheVariants.{Fixed}
 use Rattle.cdb.specs.declared.profile.Profile.{Profile}
 use Rattle.cdb.specs.declared.profile.Profile.TheVariants.{Narrow, Wide}
 use Rattle.command_model.specs.StandardData.{vendor, product, revision}
 use Rattle.command_model.specs.declared.identity.Identity.{Identity}
 
--- the disk of which a configuration says nothing: its serial number is made of its address, and its medium doesn't rotate
+-- the disk of which a configuration says nothing: its serial number is made of its address, its medium doesn't rotate, and
+-- it sends sense data in the fixed format
 abbrev pub plain_identity : Identity
 plain_identity =
     record {
@@ -18,6 +20,7 @@ plain_identity =
       naa = None;
       physical_exponent = 0;
       rotation_rate = 1;
+      sense_format = Fixed;
     }
 
 -- own: what a unit of this profile tells

@@ -2,6 +2,8 @@
 -- §7.8 and SBC-3 §6.6.
 use Rattle.std.specs.Prelude.{ℕ, ◌+◌, ◌/◌, ◌%◌, ◌^◌, ◌==◌, List, [], ◌∷◌, ◌++◌, length, map, replicate, take, codes, Option, Some, None, if◌then◌else◌}
 use Rattle.std.specs.Int.{w16, to_be_bytes}
+use Rattle.sense.specs.declared.SenseFormat.{SenseFormat}
+use Rattle.sense.specs.declared.SenseFormat.TheVariants.{Fixed, Descriptor}
 use Rattle.cdb.specs.declared.profile.Profile.{Profile}
 use Rattle.cdb.specs.declared.profile.Profile.TheVariants.{Narrow, Wide}
 use Rattle.cdb.specs.declared.commands.InquiryData.{InquiryData}
@@ -56,13 +58,19 @@ identification_page vendor number naa =
     (0x00 ∷ 0x83 ∷ 0x00 ∷ length (t10_designator vendor number ++ naa_designator naa) ∷ [])
     ++ t10_designator vendor number ++ naa_designator naa
 
--- page 86h, Extended INQUIRY Data, SPC-4 §7.8.7, 64 bytes: byte 5 with HEADSUP, ORDSUP and SIMPSUP; byte 13, at most
--- 18 bytes of sense
-unfoldable pub extended_page : List ℕ
-extended_page =
+-- the most bytes of sense data beside a status: 18 in the fixed format, SPC-4 §4.5.3; in the descriptor format 8, and 12 of
+-- an information descriptor, §4.5.2
+abbrev pub most_sense : SenseFormat → ℕ
+most_sense Fixed = 18
+most_sense Descriptor = 20
+
+-- page 86h, Extended INQUIRY Data, SPC-4 §7.8.7, 64 bytes: byte 5 with HEADSUP, ORDSUP and SIMPSUP; byte 13, the most
+-- bytes of sense data
+unfoldable pub extended_page : SenseFormat → List ℕ
+extended_page format =
     (0x00 ∷ 0x86 ∷ 0x00 ∷ 0x3c ∷ 0x00 ∷ 0x07 ∷ [])
     ++ replicate 7 0x00
-    ++ (0x12 ∷ [])
+    ++ (most_sense format ∷ [])
     ++ replicate 50 0x00
 
 -- page B0h, Block Limits, SBC-3 §6.6.4, 64 bytes
@@ -101,7 +109,7 @@ inquiry_data profile i SupportedPages target lun = supported_pages profile
 inquiry_data profile i SerialNumber target lun = serial_page (serial_of i target lun)
 inquiry_data profile i DeviceIdentification target lun =
     identification_page i.vendor (serial_of i target lun) i.naa
-inquiry_data profile i ExtendedInquiry target lun = extended_page
+inquiry_data profile i ExtendedInquiry target lun = extended_page i.sense_format
 inquiry_data profile i BlockLimits target lun = limits_page
 inquiry_data profile i BlockDeviceCharacteristics target lun = characteristics_page i.rotation_rate
 inquiry_data profile i LogicalBlockProvisioning target lun = provisioning_page

@@ -3,6 +3,8 @@ use Rattle.std.specs.Prelude.{ℕ, ◌+◌, Bool, true, false, List, [], ◌∷�
 use Rattle.std.specs.List.{flat_map}
 use Rattle.std.specs.Int.{w16, w32, w64, to_be_bytes}
 use Rattle.sense.specs.Conditions.{saving_parameters_not_supported}
+use Rattle.sense.specs.declared.SenseFormat.{SenseFormat}
+use Rattle.sense.specs.declared.SenseFormat.TheVariants.{Fixed, Descriptor}
 use Rattle.cdb.specs.declared.wide_commands.ModeRequest.{ModeRequest}
 use Rattle.cdb.specs.declared.wide_commands.ModeForm.{ModeForm}
 use Rattle.cdb.specs.declared.wide_commands.ModeForm.TheVariants.{Six, Ten}
@@ -23,28 +25,34 @@ error_recovery = (0x01, replicate 10 0x00)
 abbrev pub caching : ℕ × List ℕ
 caching = (0x08, replicate 18 0x00)
 
--- Control, SPC-4 §7.5.8: one task set, sense in the fixed format, and unrestricted reordering of SIMPLE commands in byte 3
-abbrev pub control : ℕ × List ℕ
-control = (0x0a, 0x00 ∷ 0x10 ∷ replicate 8 0x00)
+-- D_SENSE, bit 2 of byte 2 of Control
+abbrev pub d_sense : SenseFormat → ℕ
+d_sense Fixed = 0x00
+d_sense Descriptor = 0x04
+
+-- Control, SPC-4 §7.5.8: one task set, the format of sense data, and unrestricted reordering of SIMPLE commands in byte 3
+abbrev pub control : SenseFormat → ℕ × List ℕ
+control format = (0x0a, d_sense format ∷ 0x10 ∷ replicate 8 0x00)
 
 -- Informational Exceptions Control, SPC-4 §7.5.11: DEXCPT; none is ever reported
 abbrev pub exceptions : ℕ × List ℕ
 exceptions = (0x1c, 0x08 ∷ replicate 9 0x00)
 
-abbrev pub pages_of : ModePages → List (ℕ × List ℕ)
-pages_of ErrorRecovery = error_recovery ∷ []
-pages_of Caching = caching ∷ []
-pages_of Control = control ∷ []
-pages_of InformationalExceptions = exceptions ∷ []
-pages_of All = error_recovery ∷ caching ∷ control ∷ exceptions ∷ []
+-- the pages of a unit that sends sense data in a format
+abbrev pub pages_of : SenseFormat → ModePages → List (ℕ × List ℕ)
+pages_of format ErrorRecovery = error_recovery ∷ []
+pages_of format Caching = caching ∷ []
+pages_of format Control = control format ∷ []
+pages_of format InformationalExceptions = exceptions ∷ []
+pages_of format All = error_recovery ∷ caching ∷ control format ∷ exceptions ∷ []
 
 -- a page as it is returned, SPC-4 §7.5.6: PS is 0; its bytes, or a mask of those that MODE SELECT can change
 abbrev pub page_bytes : Bool → ℕ × List ℕ → List ℕ
 page_bytes is_mask page =
     page.0 ∷ length page.1 ∷ (if is_mask then replicate (length page.1) 0x00 else page.1)
 
-unfoldable pub page_list : Bool → ModePages → List ℕ
-page_list is_mask pages = flat_map (page_bytes is_mask) (pages_of pages)
+unfoldable pub page_list : SenseFormat → Bool → ModePages → List ℕ
+page_list format is_mask pages = flat_map (page_bytes is_mask) (pages_of format pages)
 
 -- what the field PC asks for, SPC-4 §6.11: a mask; what was saved
 abbrev pub is_mask : ModeValues → Bool
@@ -86,14 +94,14 @@ mode_header Ten descriptor pages =
     ++ to_be_bytes w16 (descriptor_length descriptor)
 
 -- the mode parameter list of a unit of so many blocks; a page has as many bytes whatever values of it are asked for
-abbrev pub mode_data : ModeRequest → ℕ → List ℕ
-mode_data request blocks =
-    mode_header request.form request.descriptor (length (page_list false request.pages))
+abbrev pub mode_data : SenseFormat → ModeRequest → ℕ → List ℕ
+mode_data format request blocks =
+    mode_header request.form request.descriptor (length (page_list format false request.pages))
     ++ block_descriptor request.descriptor blocks
-    ++ page_list (is_mask request.values) request.pages
+    ++ page_list format (is_mask request.values) request.pages
 
 -- MODE SENSE, SPC-4 §6.11
-abbrev pub mode_answer : ModeRequest → ℕ → Answer
-mode_answer request blocks =
+abbrev pub mode_answer : SenseFormat → ModeRequest → ℕ → Answer
+mode_answer format request blocks =
     if is_saved request.values then Err saving_parameters_not_supported
-    else Ok (take request.allocation (mode_data request blocks))
+    else Ok (take request.allocation (mode_data format request blocks))

@@ -1,6 +1,9 @@
 -- What a command is answered, as a plain value.
 use Rattle.std.specs.Prelude.{ℕ, ◌+◌, List, [], length, Option, Some, None, Ok, Err}
+use Rattle.std.specs.Option.{option_map}
 use Rattle.sense.specs.declared.Sense.{Sense}
+use Rattle.sense.specs.declared.SenseFormat.{SenseFormat}
+use Rattle.sense.specs.Format.{in_format}
 use Rattle.cdb.specs.declared.commands.Command.{Command}
 use Rattle.cdb.specs.Need.{need_of}
 use Rattle.command_model.specs.Data.{Answer}
@@ -26,6 +29,10 @@ refusal s = record { status = check_condition; sense = Some s; payload = []; mov
 abbrev pub success : Command → List ℕ → PlainReply
 success command bytes =
     record { status = good; sense = None; payload = bytes; moved = (need_of command).out + length bytes }
+
+-- the reply with its sense, if there is any, to be sent in a format
+abbrev pub sent_in : SenseFormat → PlainReply → PlainReply
+sent_in format r = record r { sense = option_map (in_format format) r.sense }
 
 -- the reply where the command gives this data, or is refused with this sense
 abbrev pub replied : Command → Answer → PlainReply

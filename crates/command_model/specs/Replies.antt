@@ -2,13 +2,14 @@
 -- blocks before.
 use Rattle.std.specs.Prelude.{ℕ, ◌==◌, ◌||◌, nat_lt, List, [], length, take, Option, Some, None, Ok, Err, if◌then◌else◌, unwrap_or}
 use Rattle.sense.specs.declared.Sense.{Sense}
+use Rattle.sense.specs.declared.SenseFormat.{SenseFormat}
 use Rattle.sense.specs.Conditions.{no_sense, parameter_list_length_error, invalid_opcode, lba_out_of_range, invalid_field_in_cdb, invalid_field_in_parameter_list}
 use Rattle.sense.specs.Format.{bytes_in}
 use Rattle.cdb.specs.declared.commands.Command.{Command}
 use Rattle.cdb.specs.declared.commands.Command.TheVariants.{TestUnitReady, RequestSense, Read, Write, Inquiry, ReadCapacity10, ReadCapacity16, SynchronizeCache, WriteSame, Unmap, CompareAndWrite, ReportLuns, Wide, Bad, Unknown}
 use Rattle.block_store.specs.Blocks.{Blocks, run}
 use Rattle.command_model.specs.Data.{Answer, done}
-use Rattle.command_model.specs.PlainReply.{PlainReply, refusal, replied}
+use Rattle.command_model.specs.PlainReply.{PlainReply, refusal, replied, sent_in}
 use Rattle.command_model.specs.Attention.{met}
 use Rattle.command_model.specs.Capacity.{within, capacity_10, capacity_16}
 use Rattle.command_model.specs.Comparing.{to_compare, first_unequal, compared}
@@ -35,6 +36,10 @@ unmap_answer blocks bytes =
 -- what the unit tells of what its configuration says of it
 abbrev pub identity_told : Facts → Identity
 identity_told facts = told_by facts.profile facts.identity
+
+-- D_SENSE
+abbrev pub format_told : Facts → SenseFormat
+format_told facts = (identity_told facts).sense_format
 
 -- the answer of a command that no attention stops
 abbrev pub answer_of : Facts → Command → List ℕ → Blocks → Answer
@@ -64,7 +69,7 @@ answer_of facts (CompareAndWrite lba count) bytes blocks =
 -- SPC-4 §6.33
 answer_of facts (ReportLuns select allocation) bytes blocks =
     Ok (take allocation (lun_list (listed select facts.luns)))
-answer_of facts (Wide command) bytes blocks = wide_answer facts.capacity command bytes blocks
+answer_of facts (Wide command) bytes blocks = wide_answer (format_told facts) facts.capacity command bytes blocks
 -- SPC-4 §4.5
 answer_of facts (Bad opcode) bytes blocks = Err invalid_field_in_cdb
 answer_of facts Unknown bytes blocks = Err invalid_opcode
@@ -74,6 +79,8 @@ abbrev pub reported : Option Sense → PlainReply → PlainReply
 reported None reply = reply
 reported (Some attention) reply = refusal attention
 
+-- the reply, its sense in the format that the unit tells, SPC-4 §7.5.8
 abbrev pub reply_of : Facts → Command → List ℕ → Blocks → PlainReply
 reply_of facts command bytes blocks =
-    reported (met command facts.pending) (replied command (answer_of facts command bytes blocks))
+    sent_in (format_told facts)
+    (reported (met command facts.pending) (replied command (answer_of facts command bytes blocks)))

@@ -1,8 +1,9 @@
--- What a command of the wide profile alone is answered in a unit of so many blocks, by the data from the driver and the
--- blocks.
+-- What a command of the wide profile alone is answered in a unit of so many blocks that sends sense data in a format, by the
+-- data from the driver and the blocks.
 use Rattle.std.specs.Prelude.{ℕ, ◌-◌, Bool, true, false, ◌&&◌, nat_lt, List, [], ◌∷◌, ◌++◌, min, replicate, take, Ok, Err, if◌then◌else◌}
 use Rattle.std.specs.Int.{w32, w64, to_be_bytes}
 use Rattle.sense.specs.Conditions.{lba_out_of_range}
+use Rattle.sense.specs.declared.SenseFormat.{SenseFormat}
 use Rattle.cdb.specs.declared.wide_commands.WideCommand.{WideCommand}
 use Rattle.cdb.specs.declared.wide_commands.WideCommand.TheVariants.{ModeSense, ModeSelect, ReportTaskManagement, ReportOperationCodes, GetLbaStatus, Verify, WriteZeros, OrWrite, FormatUnit}
 use Rattle.block_store.specs.Blocks.{Blocks, run}
@@ -28,23 +29,23 @@ task_management_data extended =
     if extended then (0xdc ∷ 0x03 ∷ 0x00 ∷ 0x0c ∷ []) ++ replicate 12 0x00
     else 0xdc ∷ 0x03 ∷ 0x00 ∷ 0x00 ∷ []
 
-abbrev pub wide_answer : ℕ → WideCommand → List ℕ → Blocks → Answer
-wide_answer capacity (ModeSense request) bytes blocks = mode_answer request capacity
-wide_answer capacity (ModeSelect form list_length) bytes blocks = select_answer form bytes
-wide_answer capacity (ReportTaskManagement extended allocation) bytes blocks =
+abbrev pub wide_answer : SenseFormat → ℕ → WideCommand → List ℕ → Blocks → Answer
+wide_answer format capacity (ModeSense request) bytes blocks = mode_answer format request capacity
+wide_answer format capacity (ModeSelect form list_length) bytes blocks = select_answer format form bytes
+wide_answer format capacity (ReportTaskManagement extended allocation) bytes blocks =
     Ok (take allocation (task_management_data extended))
-wide_answer capacity (GetLbaStatus allocation lba) bytes blocks =
+wide_answer format capacity (GetLbaStatus allocation lba) bytes blocks =
     if nat_lt lba capacity then Ok (take allocation (lba_status capacity lba)) else Err lba_out_of_range
-wide_answer capacity (ReportOperationCodes asked allocation) bytes blocks = codes_answer asked allocation
+wide_answer format capacity (ReportOperationCodes asked allocation) bytes blocks = codes_answer asked allocation
 -- SBC-3 §5.29
-wide_answer capacity (Verify sent count lba) bytes blocks =
+wide_answer format capacity (Verify sent count lba) bytes blocks =
     within capacity lba count (compared (first_unequal (run (to_verify sent bytes) 0 count) (run blocks lba count)))
 -- SBC-3 §5.44
-wide_answer capacity (WriteZeros count lba) bytes blocks = within capacity lba count done
+wide_answer format capacity (WriteZeros count lba) bytes blocks = within capacity lba count done
 -- SBC-3 §5.5
-wide_answer capacity (OrWrite count lba) bytes blocks = within capacity lba count done
+wide_answer format capacity (OrWrite count lba) bytes blocks = within capacity lba count done
 -- SBC-3 §5.3
-wide_answer capacity (FormatUnit list) bytes blocks = format_answer list bytes
+wide_answer format capacity (FormatUnit list) bytes blocks = format_answer list bytes
 
 -- whether it may be refused memory
 abbrev pub wide_wants : ℕ → WideCommand → Bool

@@ -3,11 +3,13 @@
 ghost use Rattle.std.specs.Prelude.{◌≡◌};
 ghost use Rattle.command_model.specs.Identity.{is_identity, is_rate, is_naa, are_printable};
 
+use sense::SenseFormat;
+
 /// The most bytes of a serial number that a configuration gives.
 pub const SERIAL_BYTES: usize = 20;
 
-/// Names a disk to a host, and tells what its blocks don't show. A unit of the wide profile tells it by INQUIRY and READ
-/// CAPACITY (16). One of the narrow profile tells [`Identity::PLAIN`].
+/// Names a disk to a host, and tells what its blocks don't show. A unit of the wide profile tells it by INQUIRY, READ
+/// CAPACITY (16) and MODE SENSE. One of the narrow profile tells [`Identity::PLAIN`].
 #[derive(Clone, Copy, Debug, PartialEq, Eq)]
 pub struct Identity {
     /// The T10 VENDOR IDENTIFICATION: printable ASCII, with spaces behind (SPC-4 §6.6.2).
@@ -26,6 +28,8 @@ pub struct Identity {
     pub physical_exponent: u8,
     /// The MEDIUM ROTATION RATE: 0 isn't told, 1 doesn't rotate, else revolutions a minute, 0401h to FFFEh (SBC-3 §6.6.3).
     pub rotation_rate: u16,
+    /// The format of the sense data that it sends beside a status: D_SENSE (SPC-4 §7.5.8).
+    pub sense_format: SenseFormat,
 }
 
 impl Identity {
@@ -39,6 +43,7 @@ impl Identity {
         naa: None,
         physical_exponent: 0,
         rotation_rate: 1,
+        sense_format: SenseFormat::Fixed,
     };
 
     /// Returns true if a unit may have it: its texts are printable, its NAA, exponent and rotation rate the standards'.

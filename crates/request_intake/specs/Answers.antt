@@ -1,7 +1,8 @@
 -- The bytes that answer a request: a response, and the data behind it (VIRTIO 1.2 §5.6.6.1).
 use Rattle.std.specs.Prelude.{ℕ, ◌+◌, ◌-◌, List, [], ◌++◌, Option, None}
 use Rattle.std.specs.Option.{option_map}
-use Rattle.sense.specs.Fixed.{fixed}
+use Rattle.arrayvec.specs.ArrayVec.{ArrayVec}
+use Rattle.sense.specs.Format.{sent}
 use Rattle.sense.specs.declared.Sense.{Sense}
 use Rattle.scsi_codec.specs.Responses.{response_bytes}
 use Rattle.scsi_codec.specs.declared.responses.ResponseCode.{ResponseCode}
@@ -18,11 +19,15 @@ failed c = response_bytes (record { code = c; status = 0; residual = 0; sense = 
 abbrev pub residual_of : ChainLengths → ℕ → ℕ
 residual_of n moved = (n.readable - 51) + (n.writable - 108) - moved
 
+-- the sense field of a response, by the format in which sense data is sent
+abbrev pub sense_data : Sense → ArrayVec ℕ
+sense_data s = record { items = sent s }
+
 -- response OK, with the status of a command
 abbrev pub ok_bytes : ChainLengths → ℕ → Option Sense → ℕ → List ℕ
 ok_bytes n status sense moved =
     response_bytes
-    (record { code = code.Ok; status = status; residual = residual_of n moved; sense = option_map fixed sense })
+    (record { code = code.Ok; status = status; residual = residual_of n moved; sense = option_map sense_data sense })
 
 -- response OK with a reply, and its data behind it
 abbrev pub answer_of_reply : ChainLengths → PlainReply → List ℕ

@@ -1,7 +1,8 @@
 //! The bytes that answer a request.
 
-ghost use Rattle.std.specs.Prelude.{◌≡◌, ◌+◌, ◌≤◌, ◌^◌};
-ghost use Rattle.request_intake.specs.Answers.{ok_bytes};
+ghost use Rattle.std.specs.Prelude.{◌≡◌, ◌+◌, ◌≤◌, ◌^◌, Some};
+ghost use Rattle.scsi_codec.specs.Responses.{response_bytes};
+ghost use Rattle.request_intake.specs.Answers.{ok_bytes, sense_data};
 
 use scsi_codec::{REQUEST_BYTES, RESPONSE_BYTES, Response, ResponseCode, put_response};
 use sense::Sense;
@@ -48,18 +49,37 @@ pub fn put_response_ok(
 {
     let out = lengths.readable.saturating_sub(REQUEST_BYTES as u64);
     let into = lengths.writable - RESPONSE_BYTES as u64;
-    let residual = (out + into).saturating_sub(moved as u64);
-    let sense = match &sense {
-        Some(sense) => Some(sense.to_fixed()),
-        None => None,
-    };
+    let residual = (out + into).saturating_sub(moved as u64) as u32;
+    match &sense {
+        None => put_response(
+            bytes,
+            &Response {
+                code: ResponseCode::Ok,
+                status,
+                residual,
+                sense: None,
+            },
+        ),
+        Some(sense) => put_with_sense(bytes, status, residual, sense),
+    }
+}
+
+/// Puts the bytes of response OK with sense where they are to stand.
+fn put_with_sense(bytes: &mut [u8; RESPONSE_BYTES], status: u8, residual: u32, sense: &Sense)
+    ensures { bytes.new ≡ response_bytes (record {
+      code = ResponseCode.Ok;
+      status = status;
+      residual = residual;
+      sense = Some (sense_data sense.now);
+    }) }
+{
     put_response(
         bytes,
         &Response {
             code: ResponseCode::Ok,
             status,
-            residual: residual as u32,
-            sense,
+            residual,
+            sense: Some(sense.sent()),
         },
     );
 }

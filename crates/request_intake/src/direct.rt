@@ -177,6 +177,7 @@ impl DirectAnswer {
     }
 
     /// Makes CHECK CONDITION with this sense data.
+    #[tactic(auto, using(crate::proofs::Lengths::length_refused))]
     pub fn refused(lengths: &ChainLengths, sense: Sense) -> DirectAnswer
         requires sum { lengths.now.readable + lengths.now.writable ≤ 2 ^ 32 }
         requires room { RESPONSE_BYTES ≤ lengths.now.writable }

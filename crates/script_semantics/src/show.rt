@@ -21,6 +21,36 @@ fn field(response: &[u8; RESPONSE_BYTES], at: usize) -> u32
     ])
 }
 
+/// The response code of sense in the descriptor format (SPC-4, 4.5.2).
+const DESCRIPTOR_FORMAT: u8 = 0x72;
+
+/// The bytes of sense in the descriptor format, as the device gives it with information.
+const INFORMED_BYTES: u32 = 20;
+
+/// Prints sense in the descriptor format (SPC-4, 4.5.2): its key, code and qualifier, and the information, if any.
+fn print_descriptor_sense<W: Write>(
+    out: &mut W,
+    response: &[u8; RESPONSE_BYTES],
+    sense_len: u32,
+) -> Result<(), Stop> {
+    let (key, code, qualifier) = (response[13], response[14], response[15]);
+    written(write!(out, "{key:02x}/{code:02x}/{qualifier:02x}"))?;
+    if sense_len == INFORMED_BYTES {
+        let information = u64::from_be_bytes([
+            response[24],
+            response[25],
+            response[26],
+            response[27],
+            response[28],
+            response[29],
+            response[30],
+            response[31],
+        ]);
+        written(write!(out, "@{information}"))?;
+    }
+    Ok(())
+}
+
 /// Prints the sense of a response: its key, code and qualifier, and the information where the sense
 /// says that it is valid (SPC-4, 4.5.3); `-` where the response has no sense.
 fn print_sense<W: Write>(
@@ -30,6 +60,9 @@ fn print_sense<W: Write>(
 ) -> Result<(), Stop> {
     if sense_len == 0 {
         return written(write!(out, "-"));
+    }
+    if response[12] == DESCRIPTOR_FORMAT {
+        return print_descriptor_sense(out, response, sense_len);
     }
     let (kind, key) = (response[12], response[14]);
     let (code, qualifier) = (response[24], response[25]);

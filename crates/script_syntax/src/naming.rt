@@ -7,10 +7,11 @@ use crate::fault::LineFault;
 use crate::values::number;
 use command_model::{Identity, SERIAL_BYTES};
 use hex::FromHex;
+use sense::SenseFormat;
 
 /// The words that name a disk, each with a value behind it.
-const WORDS: [&str; 7] = [
-    "vendor", "product", "revision", "serial", "naa", "exponent", "rotation",
+const WORDS: [&str; 8] = [
+    "vendor", "product", "revision", "serial", "naa", "exponent", "rotation", "sense",
 ];
 
 /// Returns true if a word names a disk by the value behind it.
@@ -34,6 +35,19 @@ fn field<const N: usize>(text: &str, behind: u8) -> Result<[u8; N], LineFault>
     Ok(field)
 }
 
+/// Reads the name of a format of sense data.
+pub(crate) fn sense_format(word: &str) -> Result<SenseFormat, LineFault>
+    ensures descriptor { IfOk result (λ format. format ≡ SenseFormat.Descriptor → word.now ≡ codes "descriptor") }
+    ensures fixed { IfOk result (λ format. format ≡ SenseFormat.Fixed → word.now ≡ codes "fixed") }
+    ensures fault { IfErr result (λ fault. fault ≡ LineFault.BadValue) }
+{
+    match word {
+        "fixed" => Ok(SenseFormat::Fixed),
+        "descriptor" => Ok(SenseFormat::Descriptor),
+        _ => Err(LineFault::BadValue),
+    }
+}
+
 /// Returns what a disk says of itself once a word with its value is added to it. `BadValue` where no name has that word,
 /// or the value isn't one of it. It isn't known here which texts and numbers the device takes.
 pub(crate) fn named(identity: Identity, word: &str, value: &str) -> Result<Identity, LineFault>
@@ -50,6 +64,11 @@ pub(crate) fn named(identity: Identity, word: &str, value: &str) -> Result<Ident
         i ≡ record identity { physical_exponent = i.physical_exponent }) }
     ensures rotation { word.now ≡ codes "rotation" → IfOk result (λ i.
         i ≡ record identity { rotation_rate = i.rotation_rate }) }
+    ensures sense { word.now ≡ codes "sense" → IfOk result (λ i. i ≡ record identity { sense_format = i.sense_format }) }
+    ensures descriptor { word.now ≡ codes "sense" → IfOk result (λ i.
+        i.sense_format ≡ SenseFormat.Descriptor → value.now ≡ codes "descriptor") }
+    ensures fixed { word.now ≡ codes "sense" → IfOk result (λ i.
+        i.sense_format ≡ SenseFormat.Fixed → value.now ≡ codes "fixed") }
     ensures fault { IfErr result (λ fault. fault ≡ LineFault.BadValue) }
 {
     match word {
@@ -97,6 +116,13 @@ pub(crate) fn named(identity: Identity, word: &str, value: &str) -> Result<Ident
             let rotation_rate = number::<u16>(value)?;
             Ok(Identity {
                 rotation_rate,
+                ..identity
+            })
+        }
+        "sense" => {
+            let sense_format = sense_format(value)?;
+            Ok(Identity {
+                sense_format,
                 ..identity
             })
         }

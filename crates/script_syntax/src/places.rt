@@ -6,7 +6,7 @@ use crate::command::notify;
 use crate::fault::Stop;
 use crate::guest_line::{attribute, command_block};
 use crate::header::{Features, LARGEST_SIZE, profile};
-use crate::naming::{is_naming, named};
+use crate::naming::{is_naming, named, sense_format};
 use crate::ring_place::ring_place;
 use crate::values::{Bytes, LAST_LUN, capacity, name, number, ordinal, unit_pair};
 use command_model::Identity;
@@ -69,6 +69,8 @@ enum Place {
     Serial,
     /// An NAA designator.
     Naa,
+    /// The name of a format of sense data.
+    SenseFormat,
     /// `live`, if anything.
     Live,
     /// `before`.
@@ -118,6 +120,7 @@ impl Place {
             Place::Revision => named(Identity::PLAIN, "revision", word).is_ok(),
             Place::Serial => named(Identity::PLAIN, "serial", word).is_ok(),
             Place::Naa => named(Identity::PLAIN, "naa", word).is_ok(),
+            Place::SenseFormat => sense_format(word).is_ok(),
             Place::Live => word == "live",
             Place::Before => word == "before",
             Place::OutOrIn => word == "out" || word == "in",
@@ -194,6 +197,7 @@ fn naming_place(before: &str, index: usize) -> Place {
         "serial" => Place::Serial,
         "naa" => Place::Naa,
         "exponent" => Place::Number8,
+        "sense" => Place::SenseFormat,
         _ => Place::Number16,
     }
 }

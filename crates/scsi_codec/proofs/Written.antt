@@ -1,7 +1,9 @@
 -- What is written tells what it was written of.
 use Rattle.std.proofs.Common.{rules, ◌≡◌, ℕ, ◌/◌, ◌%◌, ◌<◌, ◌^◌, ◌==◌, cond, List, replicate, Option, Some, None, refl, ap, sym, ◌∙◌, arith}
 use Rattle.std.proofs.lemmas.List.{append_cancel_right}
-use Rattle.scsi_codec.specs.Responses.{response_bytes, response_number, sense_len, sense_area}
+use Rattle.std.specs.Prelude.{◌≤◌, ◌-◌, ◌++◌, IfSome}
+use Rattle.arrayvec.specs.ArrayVec.{ArrayVec, array_vec_len}
+use Rattle.scsi_codec.specs.Responses.{response_bytes, response_number, sense_len, sense_area, IsResponse}
 use Rattle.scsi_codec.specs.declared.responses.Response.{Response}
 use Rattle.scsi_codec.specs.declared.responses.ResponseCode.{ResponseCode}
 use Rattle.scsi_codec.specs.declared.responses.ResponseCode.TheVariants as code
@@ -33,20 +35,27 @@ four_bytes : (x y : ℕ) → x < 2 ^ 32 → y < 2 ^ 32 → x % 256 ≡ y % 256 �
     → x / 65536 % 256 ≡ y / 65536 % 256 → x / 16777216 % 256 ≡ y / 16777216 % 256 → x ≡ y
 four_bytes x y hx hy e0 e1 e2 e3 = omega arith
 
-one_sense : (a b : Option (List ℕ)) → sense_len a ≡ sense_len b → sense_area a ≡ sense_area b → a ≡ b
-one_sense None None len area = refl
-one_sense None (Some y) len area = cc
-one_sense (Some x) None len area = cc
-one_sense (Some x) (Some y) len area = ap Some (append_cancel_right x y (replicate 78 0) area)
+same_items : (x y : ArrayVec ℕ) → x.items ≡ y.items → x ≡ y
+same_items x y e = ap (λ (l : List ℕ). record { items = l }) e
 
-sense_len-low : (a : Option (List ℕ)) → sense_len a % 256 ≡ sense_len a
-sense_len-low None = refl
-sense_len-low (Some x) = refl
+one_sense : (a b : Option (ArrayVec ℕ)) → IfSome a (λ s. 0 < array_vec_len s) → IfSome b (λ s. 0 < array_vec_len s)
+    → sense_len a ≡ sense_len b → sense_area a ≡ sense_area b → a ≡ b
+one_sense None None some_a some_b len area = refl
+one_sense None (Some y) some_a some_b len area = absurd (omega (arith, some_b, len))
+one_sense (Some x) None some_a some_b len area = absurd (omega (arith, some_a, len))
+one_sense (Some x) (Some y) some_a some_b len area =
+    let same : x.items ++ replicate (96 - array_vec_len y) 0 ≡ y.items ++ replicate (96 - array_vec_len y) 0 =
+    sym (ap (λ n. x.items ++ replicate (96 - n) 0) len) ∙ area in
+    ap Some (same_items x y (append_cancel_right x.items y.items (replicate (96 - array_vec_len y) 0) same))
+
+sense_len-low : (a : Option (ArrayVec ℕ)) → IfSome a (λ s. array_vec_len s ≤ 96) → sense_len a % 256 ≡ sense_len a
+sense_len-low None fits = refl
+sense_len-low (Some x) fits = omega (arith, fits)
 
 same_fields : (a b : Response) → a.code ≡ b.code → a.status ≡ b.status → a.residual ≡ b.residual → a.sense ≡ b.sense → a ≡ b
 same_fields a b c s r e = search rules
 
-pub known_by_bytes : (a b : Response) → a.residual < 2 ^ 32 → b.residual < 2 ^ 32 → response_bytes a ≡ response_bytes b → a ≡ b
+pub known_by_bytes : (a b : Response) → IsResponse a → IsResponse b → response_bytes a ≡ response_bytes b → a ≡ b
 known_by_bytes a b ia ib e =
     let number : response_number a.code ≡ response_number b.code = cc in
     let status : a.status ≡ b.status = cc in
@@ -57,5 +66,5 @@ known_by_bytes a b ia ib e =
     let low : sense_len a.sense % 256 ≡ sense_len b.sense % 256 = cc in
     let area : sense_area a.sense ≡ sense_area b.sense = cc in
     same_fields a b (one_code a.code b.code number) status
-    (four_bytes a.residual b.residual ia ib r0 r1 r2 r3)
-    (one_sense a.sense b.sense (sym (sense_len-low a.sense) ∙ low ∙ sense_len-low b.sense) area)
+    (four_bytes a.residual b.residual ia.residual ib.residual r0 r1 r2 r3)
+    (one_sense a.sense b.sense ia.some ib.some (sym (sense_len-low a.sense ia.fits) ∙ low ∙ sense_len-low b.sense ib.fits) area)

@@ -1,5 +1,6 @@
 -- The response to a request, before the data in (VIRTIO 1.2 §5.6.6.1).
-use Rattle.std.specs.Prelude.{ℕ, List, [], ◌∷◌, ◌++◌, replicate, Option, Some, None}
+use Rattle.std.specs.Prelude.{ℕ, ◌-◌, ◌<◌, ◌≤◌, ◌^◌, List, [], ◌∷◌, ◌++◌, replicate, Option, Some, None, IfSome}
+use Rattle.arrayvec.specs.ArrayVec.{ArrayVec, array_vec_len}
 use Rattle.byteorder.specs.Endian.{little_bytes}
 use Rattle.scsi_codec.specs.declared.responses.Response.{Response}
 use Rattle.scsi_codec.specs.declared.responses.ResponseCode.{ResponseCode}
@@ -19,14 +20,14 @@ response_number code.NexusFailure = 8
 response_number code.Failure = 9
 
 -- how many bytes of sense there are
-abbrev pub sense_len : Option (List ℕ) → ℕ
+abbrev pub sense_len : Option (ArrayVec ℕ) → ℕ
 sense_len None = 0
-sense_len (Some sense) = 18
+sense_len (Some sense) = array_vec_len sense
 
 -- sense[96]: the sense, and zeros past it
-abbrev pub sense_area : Option (List ℕ) → List ℕ
+abbrev pub sense_area : Option (ArrayVec ℕ) → List ℕ
 sense_area None = replicate 96 0
-sense_area (Some sense) = sense ++ replicate 78 0
+sense_area (Some sense) = sense.items ++ replicate (96 - array_vec_len sense) 0
 
 -- le32 sense_len, le32 residual, le16 status_qualifier, u8 status, u8 response, sense[96]
 abbrev pub response_bytes : Response → List ℕ
@@ -37,3 +38,9 @@ response_bytes r =
     ++ (r.status ∷ [])
     ++ (response_number r.code ∷ [])
     ++ sense_area r.sense
+
+-- the fields of a response: the residual has 32 bits, and sense has some byte, at most 96
+pub record IsResponse (r : Response) : Type 0 where
+  pub residual : r.residual < 2 ^ 32
+  pub some : IfSome r.sense (λ sense. 0 < array_vec_len sense)
+  pub fits : IfSome r.sense (λ sense. array_vec_len sense ≤ 96)

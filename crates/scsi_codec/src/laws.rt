@@ -1,9 +1,10 @@
 //! Laws that follow from the definitions alone.
 
-ghost use Rattle.std.specs.Prelude.{◌≡◌, ◌<◌, ◌^◌, ◌↔◌, ◌≢◌, ℕ, List, length, Option, Result, Some, IfSome};
+ghost use Rattle.std.specs.Prelude.{◌≡◌, ◌≤◌, ◌<◌, ◌^◌, ◌↔◌, ◌≢◌, ℕ, List, length, Option, Result, Some, IfSome};
 ghost use Rattle.scsi_codec.specs.Lun.{AreBytes, IsAddress, ReadsAddress, written_address, HasReadableForm};
 ghost use Rattle.scsi_codec.specs.Requests.{IsRequest, HoldsRequest, IsRefused, ReadsRequest, reading};
-ghost use Rattle.scsi_codec.specs.Responses.{response_bytes, sense_area};
+ghost use Rattle.scsi_codec.specs.Responses.{response_bytes, sense_area, IsResponse};
+ghost use Rattle.arrayvec.specs.ArrayVec.{array_vec_len};
 ghost use Rattle.scsi_codec.specs.ControlQueue.{IsControl};
 ghost use Rattle.scsi_codec.specs.EventQueue.{IsEvent, event_bytes, no_event, transport_reset, param_change, events_missed};
 ghost use Rattle.scsi_codec.specs.declared.lun.Address.{Address};
@@ -15,7 +16,7 @@ ghost use Rattle.scsi_codec.specs.declared.event_queue.Event.{Event};
 
 use crate::event_queue::{EVENT_BYTES, EVENTS_MISSED, NO_EVENT, PARAM_CHANGE, TRANSPORT_RESET};
 use crate::requests::read_request;
-use crate::responses::{RESPONSE_BYTES, SENSE_AREA_BYTES, SENSE_BYTES};
+use crate::responses::{MOST_SENSE_BYTES, RESPONSE_BYTES, SENSE_AREA_BYTES};
 
 /// Bytes name at most one unit, of a LUN below 16,384.
 pub fn one_address()
@@ -68,12 +69,11 @@ pub fn reading_is(bytes: &[u8], writable_len: u64)
 
 /// A response has 108 bytes, 96 of them for sense, and is known by them.
 pub fn one_response()
-    ensures whole { (r : Response) → IfSome r.sense (λ sense. length sense ≡ SENSE_BYTES)
+    ensures whole { (r : Response) → IfSome r.sense (λ sense. array_vec_len sense ≤ MOST_SENSE_BYTES)
         → length (response_bytes r) ≡ RESPONSE_BYTES }
-    ensures area { (r : Response) → IfSome r.sense (λ sense. length sense ≡ SENSE_BYTES)
+    ensures area { (r : Response) → IfSome r.sense (λ sense. array_vec_len sense ≤ MOST_SENSE_BYTES)
         → length (sense_area r.sense) ≡ SENSE_AREA_BYTES }
-    ensures one { (a b : Response) → a.residual < 2 ^ 32 → b.residual < 2 ^ 32
-        → response_bytes a ≡ response_bytes b → a ≡ b }
+    ensures one { (a b : Response) → IsResponse a → IsResponse b → response_bytes a ≡ response_bytes b → a ≡ b }
 {}
 
 /// The bytes of a chain of the control queue ask for exactly one thing.

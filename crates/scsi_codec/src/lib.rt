@@ -28,6 +28,6 @@ pub use lun::{Address, read_lun, write_lun};
 pub use queue_numbers::{CONTROL_QUEUE, EVENT_QUEUE, FIRST_REQUEST_QUEUE};
 pub use requests::{CDB_BYTES, CodecFault, REQUEST_BYTES, Request, read_request};
 pub use responses::{
-    RESPONSE_BYTES, Response, ResponseCode, SENSE_AREA_BYTES, SENSE_BYTES, put_response,
+    MOST_SENSE_BYTES, RESPONSE_BYTES, Response, ResponseCode, SENSE_AREA_BYTES, put_response,
     write_response,
 };

@@ -1,8 +1,9 @@
 //! Writes the bytes that answer a request.
 
-ghost use Rattle.std.specs.Prelude.{◌≡◌};
+ghost use Rattle.std.specs.Prelude.{◌≡◌, ◌≤◌, ◌-◌, ◌++◌, length, replicate};
 ghost use Rattle.scsi_codec.specs.Responses.{response_bytes};
 
+use arrayvec::ArrayVec;
 use byteorder::{ByteOrder, LittleEndian};
 
 /// The bytes of a response before its data in.
@@ -11,8 +12,8 @@ pub const RESPONSE_BYTES: usize = 108;
 /// The bytes that a response has for sense, as the field `sense_size` has them (VIRTIO 1.2 §5.6.4).
 pub const SENSE_AREA_BYTES: usize = 96;
 
-/// The bytes of sense in fixed format (SPC-4 §4.5.3).
-pub const SENSE_BYTES: usize = 18;
+/// The most bytes of sense in a response: those of the descriptor format with an information descriptor (SPC-4 §4.5.2).
+pub const MOST_SENSE_BYTES: usize = 20;
 
 /// The response to a request, beside the status of its command (VIRTIO 1.2 §5.6.6.1).
 #[derive(Clone, Copy, Debug, PartialEq, Eq)]
@@ -40,7 +41,7 @@ pub enum ResponseCode {
 }
 
 /// A response without its data in (VIRTIO 1.2 §5.6.6.1). Its status qualifier is 0.
-#[derive(Clone, Copy, Debug)]
+#[derive(Debug, Drop)]
 pub struct Response {
     /// The response to the request.
     pub code: ResponseCode,
@@ -48,8 +49,8 @@ pub struct Response {
     pub status: u8,
     /// The number of bytes of the data buffers that were not moved.
     pub residual: u32,
-    /// The sense in fixed format, if there is any.
-    pub sense: Option<[u8; SENSE_BYTES]>,
+    /// The sense, if there is any.
+    pub sense: Option<ArrayVec<u8, MOST_SENSE_BYTES>>,
 }
 
 /// Makes the bytes of a response before its data in. Past the sense they are zeros.
@@ -72,7 +73,16 @@ pub fn put_response(bytes: &mut [u8; RESPONSE_BYTES], response: &Response)
     bytes[10] = response.status;
     bytes[11] = response.code as u8;
     if let Some(sense) = &response.sense {
-        LittleEndian::write_u32(&mut bytes[0..], SENSE_BYTES as u32);
-        bytes[12..12 + SENSE_BYTES].copy_from_slice(sense);
+        LittleEndian::write_u32(&mut bytes[0..], sense.len() as u32);
+        put_sense(&mut bytes[12..], sense.as_slice());
     }
+}
+
+/// Puts sense where a response that has none yet has zeros.
+fn put_sense(area: &mut [u8], sense: &[u8])
+    requires zeros { area.old ≡ replicate 96 0 }
+    requires fits { length sense.now ≤ MOST_SENSE_BYTES }
+    ensures { area.new ≡ sense.now ++ replicate (96 - length sense.now) 0 }
+{
+    area[..sense.len()].copy_from_slice(sense);
 }

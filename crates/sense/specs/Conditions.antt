@@ -2,10 +2,11 @@
 -- additional sense code qualifier, SPC-4 §4.5.
 use Rattle.std.specs.Prelude.{ℕ, None, Some}
 use Rattle.sense.specs.declared.Sense.{Sense}
+use Rattle.sense.specs.declared.SenseFormat.TheVariants.{Fixed}
 
--- the condition of this key, code and qualifier, with no information
+-- the condition of this key, code and qualifier, with no information, to be sent in the fixed format
 abbrev pub condition : ℕ → ℕ → ℕ → Sense
-condition key asc ascq = record { key = key; asc = asc; ascq = ascq; information = None }
+condition key asc ascq = record { key = key; asc = asc; ascq = ascq; format = Fixed; information = None }
 
 -- sense key 0h, NO SENSE
 abbrev pub no_sense : Sense
@@ -43,4 +44,4 @@ unit_attention asc ascq = condition 0x6 asc ascq
 -- sense key eh, MISCOMPARE: MISCOMPARE DURING VERIFY OPERATION, with the offset in bytes of the
 -- first unequal byte as its information
 abbrev pub miscompare : ℕ → Sense
-miscompare offset = record { key = 0xe; asc = 0x1d; ascq = 0x00; information = Some offset }
+miscompare offset = record { key = 0xe; asc = 0x1d; ascq = 0x00; format = Fixed; information = Some offset }

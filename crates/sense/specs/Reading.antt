@@ -1,7 +1,8 @@
 -- What bytes of sense data say, as one reads them that takes either format, SPC-4 §4.5.
-use Rattle.std.specs.Prelude.{ℕ, zero, suc, ◌+◌, ◌/◌, ◌%◌, ◌==◌, ◌&&◌, Bool, true, false, List, drop, slice_index, slice_range, length, nat_lt, Option, None, Some, if◌then◌else◌}
+use Rattle.std.specs.Prelude.{ℕ, zero, suc, ◌+◌, ◌/◌, ◌%◌, ◌==◌, ◌&&◌, Bool, List, drop, slice_index, slice_range, length, nat_lt, Option, None, Some, if◌then◌else◌}
 use Rattle.std.specs.Int.{w32, w64, from_be_bytes}
 use Rattle.sense.specs.declared.Sense.{Sense}
+use Rattle.sense.specs.declared.SenseFormat.TheVariants.{Fixed, Descriptor}
 
 -- a sense data descriptor in which the information field is valid, §4.5.2.2: of descriptor type 00h, with VALID
 abbrev pub is_information : List ℕ → Bool
@@ -23,6 +24,7 @@ read_descriptor bytes =
       key = slice_index bytes 1 % 16;
       asc = slice_index bytes 2;
       ascq = slice_index bytes 3;
+      format = Descriptor;
       information = information_in (slice_index bytes 7) (slice_range bytes 8 (8 + slice_index bytes 7));
     }
 
@@ -33,6 +35,7 @@ read_fixed bytes =
       key = slice_index bytes 2 % 16;
       asc = slice_index bytes 12;
       ascq = slice_index bytes 13;
+      format = Fixed;
       information = if slice_index bytes 0 / 128 == 1 then Some (from_be_bytes w32 (slice_range bytes 3 7)) else None;
     }
 

@@ -2,7 +2,7 @@
 
 ghost use Rattle.std.specs.Prelude.{◌≡◌, ◌<◌, ◌^◌, ℕ, Some, IfSome};
 ghost use Rattle.sense.specs.Conditions.{no_sense, parameter_list_length_error, invalid_opcode, lba_out_of_range, invalid_field_in_cdb, logical_unit_not_supported, invalid_field_in_parameter_list, saving_parameters_not_supported, invalid_message_error};
-ghost use Rattle.sense.specs.Format.{bytes_in};
+ghost use Rattle.sense.specs.Format.{bytes_in, in_format};
 ghost use Rattle.sense.specs.Reading.{read_sense};
 ghost use Rattle.sense.specs.declared.Sense.{Sense as ASense};
 ghost use Rattle.sense.specs.declared.SenseFormat.{SenseFormat as AFormat};
@@ -25,5 +25,5 @@ pub fn constants()
 /// Both formats say the same: the bytes of either read back as the sense data that they were made of.
 pub fn formats_say_the_same()
     ensures { (format : AFormat) (s : ASense) → s.key < 16 → IfSome s.information (λ information. information < 2 ^ 32)
-        → read_sense (bytes_in format s) ≡ Some s }
+        → read_sense (bytes_in format s) ≡ Some (in_format format s) }
 {}

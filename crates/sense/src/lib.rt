@@ -11,7 +11,7 @@ ghost use Rattle.std.specs.Prelude.{◌≡◌, ◌≤◌, length};
 ghost use Rattle.sense.specs.Conditions.{miscompare, unit_attention};
 ghost use Rattle.sense.specs.Descriptor.{descriptor, descriptor_header, information_descriptor};
 ghost use Rattle.sense.specs.Fixed.{fixed};
-ghost use Rattle.sense.specs.Format.{bytes_in};
+ghost use Rattle.sense.specs.Format.{bytes_in, in_format, sent};
 
 pub mod laws;
 
@@ -54,7 +54,7 @@ const ADDITIONAL_SENSE_LENGTH: u8 = 0x0a;
 /// The response code of current sense data in the descriptor format (SPC-4 §4.5.2).
 const CURRENT_DESCRIPTOR: u8 = 0x72;
 
-/// The formats of sense data (SPC-4 §4.5.1).
+/// The formats of sense data (SPC-4 §4.5.1). They say the same ([`laws::formats_say_the_same`]).
 #[derive(Clone, Copy, Debug, PartialEq, Eq)]
 pub enum SenseFormat {
     /// The fixed format, of response code 70h (SPC-4 §4.5.3).
@@ -72,6 +72,8 @@ pub struct Sense {
     pub asc: u8,
     /// The additional sense code qualifier: its detail.
     pub ascq: u8,
+    /// The format in which it is sent beside a status.
+    pub format: SenseFormat,
     /// The information field, if it is valid: of a miscompare the offset in bytes of the first unequal byte.
     pub information: Option<u32>,
 }
@@ -82,6 +84,7 @@ impl Sense {
         key: 0x00,
         asc: 0x00,
         ascq: 0x00,
+        format: SenseFormat::Fixed,
         information: None,
     };
 
@@ -90,6 +93,7 @@ impl Sense {
         key: ILLEGAL_REQUEST,
         asc: 0x1a,
         ascq: 0x00,
+        format: SenseFormat::Fixed,
         information: None,
     };
 
@@ -98,6 +102,7 @@ impl Sense {
         key: ILLEGAL_REQUEST,
         asc: 0x20,
         ascq: 0x00,
+        format: SenseFormat::Fixed,
         information: None,
     };
 
@@ -106,6 +111,7 @@ impl Sense {
         key: ILLEGAL_REQUEST,
         asc: 0x21,
         ascq: 0x00,
+        format: SenseFormat::Fixed,
         information: None,
     };
 
@@ -114,6 +120,7 @@ impl Sense {
         key: ILLEGAL_REQUEST,
         asc: 0x24,
         ascq: 0x00,
+        format: SenseFormat::Fixed,
         information: None,
     };
 
@@ -122,6 +129,7 @@ impl Sense {
         key: ILLEGAL_REQUEST,
         asc: 0x25,
         ascq: 0x00,
+        format: SenseFormat::Fixed,
         information: None,
     };
 
@@ -130,6 +138,7 @@ impl Sense {
         key: ILLEGAL_REQUEST,
         asc: 0x26,
         ascq: 0x00,
+        format: SenseFormat::Fixed,
         information: None,
     };
 
@@ -138,6 +147,7 @@ impl Sense {
         key: ILLEGAL_REQUEST,
         asc: 0x39,
         ascq: 0x00,
+        format: SenseFormat::Fixed,
         information: None,
     };
 
@@ -146,6 +156,7 @@ impl Sense {
         key: ILLEGAL_REQUEST,
         asc: 0x49,
         ascq: 0x00,
+        format: SenseFormat::Fixed,
         information: None,
     };
 
@@ -158,6 +169,7 @@ impl Sense {
             key: MISCOMPARE,
             asc: 0x1d,
             ascq: 0x00,
+            format: SenseFormat::Fixed,
             information: Some(offset),
         }
     }
@@ -171,8 +183,16 @@ impl Sense {
             key: UNIT_ATTENTION,
             asc,
             ascq,
+            format: SenseFormat::Fixed,
             information: None,
         }
+    }
+
+    /// Returns the same, to be sent in this format.
+    pub fn in_format(self, format: SenseFormat) -> Sense
+        ensures { result ≡ in_format format self }
+    {
+        Sense { format, ..self }
     }
 
     /// Returns the sense data in the fixed format (SPC-4 §4.5.3), of current information.
@@ -210,6 +230,13 @@ impl Sense {
                 in_place(&bytes)
             }
         }
+    }
+
+    /// Returns the sense data in the format in which it is sent.
+    pub fn sent(&self) -> SenseBytes
+        ensures { result.items ≡ sent self.now }
+    {
+        self.to_bytes(self.format)
     }
 
     /// Returns the sense data in this format, of current information.

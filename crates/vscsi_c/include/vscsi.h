@@ -135,7 +135,13 @@ struct vscsi_unit {
 /* A rotation rate that is told as not reported (SBC-3, 6.6.3). Since 1.6. */
 #define VSCSI_RATE_NOT_REPORTED 0xffffu
 
-/* What a disk of the wide profile says of itself, by INQUIRY and READ CAPACITY (16). Zeros leave all as it is without it. Texts
+/* The format in which a unit of the wide profile sends sense data beside a status (SPC-4, 4.5). Since 1.7. */
+enum vscsi_sense_format {
+  VSCSI_SENSE_FIXED = 0,     /* 18 bytes; D_SENSE is 0 */
+  VSCSI_SENSE_DESCRIPTOR = 1 /* 8 or 20 bytes; D_SENSE is 1 */
+};
+
+/* What a disk of the wide profile says of itself, by INQUIRY, READ CAPACITY (16) and MODE SENSE. Zeros leave all as it is without it. Texts
  * are printable ASCII, and end with a 0 where they are shorter than their field. Since 1.6. */
 struct vscsi_identity {
   char vendor[8];            /* the T10 vendor identification; empty: VSCSI */
@@ -145,7 +151,7 @@ struct vscsi_identity {
   uint8_t naa[8];            /* an NAA designator of NAA 3h or 5h, which no other unit has; zeros: none */
   uint16_t rotation_rate;    /* 0 and 1: doesn't rotate; 0401h to FFFEh: turns a minute; or VSCSI_RATE_NOT_REPORTED */
   uint8_t physical_exponent; /* a physical block has 2 to this power blocks, 0 to 15 */
-  uint8_t reserved;          /* 0 */
+  uint8_t sense_format;      /* an `enum vscsi_sense_format`. Since 1.7; 0 before */
 };
 
 /* The device that is wanted. Guest memory has 1 to 65,536 pages of 4,096 bytes. Queue 0 is the control queue, queue 1 the

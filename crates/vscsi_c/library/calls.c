@@ -26,6 +26,7 @@ struct wanted_unit {
   uint8_t serial_len;
   uint8_t has_naa;
   uint8_t naa[8];
+  uint8_t sense_format;
 };
 
 /* What the device exports (`src/exports.rt`). */
@@ -113,11 +114,11 @@ static void fill(uint8_t *field, size_t size, const char *text) {
   memcpy(field, text, length);
 }
 
-/* Takes what a unit says of itself. Returns false where no unit may have the last byte, or a narrow one has any. */
+/* Takes what a unit says of itself. Returns false where there is no such format of sense data, or a narrow one says anything. */
 static bool name(struct wanted_unit *unit, const struct vscsi_identity *said) {
-  static const struct vscsi_identity nothing = {.reserved = 0};
+  static const struct vscsi_identity nothing = {.sense_format = VSCSI_SENSE_FIXED};
   if (!memcmp(said, &nothing, sizeof nothing)) return true;
-  if (said->reserved || unit->profile == VSCSI_PROFILE_NARROW) return false;
+  if (said->sense_format > VSCSI_SENSE_DESCRIPTOR || unit->profile == VSCSI_PROFILE_NARROW) return false;
   fill(unit->vendor, sizeof unit->vendor, said->vendor);
   fill(unit->product, sizeof unit->product, said->product);
   fill(unit->revision, sizeof unit->revision, said->revision);
@@ -126,6 +127,7 @@ static bool name(struct wanted_unit *unit, const struct vscsi_identity *said) {
   unit->has_naa = memcmp(said->naa, nothing.naa, sizeof said->naa) != 0;
   memcpy(unit->naa, said->naa, sizeof unit->naa);
   unit->physical_exponent = said->physical_exponent;
+  unit->sense_format = said->sense_format;
   if (said->rotation_rate) unit->rotation_rate = said->rotation_rate == VSCSI_RATE_NOT_REPORTED ? 0 : said->rotation_rate;
   return true;
 }

@@ -1,5 +1,7 @@
 -- The configuration that C asks for.
 use Rattle.std.specs.Prelude.{ℕ, ◌≡◌, ◌==◌, not, List, map, Some, None, if◌then◌else◌}
+use Rattle.sense.specs.declared.SenseFormat.{SenseFormat}
+use Rattle.sense.specs.declared.SenseFormat.TheVariants.{Fixed, Descriptor}
 use Rattle.cdb.specs.declared.profile.Profile.{Profile}
 use Rattle.cdb.specs.declared.profile.Profile.TheVariants.{Narrow, Wide}
 use Rattle.command_model.specs.declared.identity.Identity.{Identity}
@@ -16,6 +18,9 @@ layout_of q = fresh_layout q.size q.desc q.driver q.device
 abbrev pub profile_of : ℕ → Profile
 profile_of number = if number == 0 then Narrow else Wide
 
+abbrev pub sense_format_of : ℕ → SenseFormat
+sense_format_of number = if number == 0 then Fixed else Descriptor
+
 abbrev pub identity_of : WantedUnit → Identity
 identity_of u =
     record {
@@ -27,6 +32,7 @@ identity_of u =
       naa = if u.has_naa == 0 then None else Some u.naa;
       physical_exponent = u.physical_exponent;
       rotation_rate = u.rotation_rate;
+      sense_format = sense_format_of u.sense_format;
     }
 
 abbrev pub spec_of : WantedUnit → UnitSpec

@@ -1,11 +1,12 @@
 //! The device that C wants.
 
 ghost use Rattle.std.specs.Prelude.{◌≡◌, map, IfOk};
-ghost use Rattle.vscsi_c.specs.Wanted.{layout_of, profile_of, identity_of, spec_of, Asks};
+ghost use Rattle.vscsi_c.specs.Wanted.{layout_of, profile_of, sense_format_of, identity_of, spec_of, Asks};
 ghost use Rattle.vscsi_c.specs.Calls.{layout_number as number_of_layout, cause_of, plain_cause};
 
 use command_model::{Identity, SERIAL_BYTES};
 use request_intake::{Profile, UnitSpec};
+use sense::SenseFormat;
 use std::alloc::{AllocError, Global};
 use world::{Config, ConfigFault, Layout, LayoutFault};
 
@@ -55,6 +56,8 @@ pub struct WantedUnit {
     /// 0: there is no NAA designator.
     pub has_naa: u8,
     pub naa: [u8; 8],
+    /// 0: the unit sends sense data in the fixed format; else in the descriptor format.
+    pub sense_format: u8,
 }
 
 /// Returns the profile of this number.
@@ -65,6 +68,17 @@ fn profile(number: u8) -> Profile
         Profile::Narrow
     } else {
         Profile::Wide
+    }
+}
+
+/// Returns the format of sense data of this number.
+fn sense_format(number: u8) -> SenseFormat
+    ensures { result ≡ sense_format_of number }
+{
+    if number == 0 {
+        SenseFormat::Fixed
+    } else {
+        SenseFormat::Descriptor
     }
 }
 
@@ -87,6 +101,7 @@ impl WantedUnit {
             naa,
             physical_exponent: self.physical_exponent,
             rotation_rate: self.rotation_rate,
+            sense_format: sense_format(self.sense_format),
         }
     }
 

@@ -1,7 +1,13 @@
 -- What a command is told of its unit, as the definitions of commands have it.
 use Rattle.std.specs.Prelude.{ℕ}
+use Rattle.sense.specs.declared.SenseFormat.{SenseFormat}
+use Rattle.command_model.specs.Identity.{told_by}
 use Rattle.command_model.specs.Facts.{Facts}
 use Rattle.block_commands.specs.declared.facts.UnitFacts.{UnitFacts}
+
+-- the format of its sense data
+abbrev pub sense_told : UnitFacts → SenseFormat
+sense_told u = (told_by u.profile u.identity).sense_format
 
 -- the facts of a unit of so many blocks
 abbrev pub facts_of : UnitFacts → ℕ → Facts

@@ -1,9 +1,10 @@
 //! Requests and their responses: bytes worked out by hand from the layouts.
 
 use super::{Row, all_hold};
+use arrayvec::ArrayVec;
 use scsi_codec::{
-    Address, CodecFault, REQUEST_BYTES, Request, Response, ResponseCode, read_request,
-    write_response,
+    Address, CodecFault, MOST_SENSE_BYTES, REQUEST_BYTES, Request, Response, ResponseCode,
+    read_request, write_response,
 };
 
 /// WRITE(10) of one block at 5 on unit 1:2, ordered, and the first two bytes of its data.
@@ -62,26 +63,39 @@ fn requests(rt: HostRuntime) {
     assert!(rt; data == [0xa5, 0x5a].as_slice());
 }
 
-/// A response, and its bytes.
-struct Writes(Response, [u8; 108]);
+/// The code, status and residual of a response, its sense if it has any, and its bytes.
+struct Writes(ResponseCode, u8, u32, Option<&'static [u8]>, [u8; 108]);
 
-impl Row for Writes {
-    fn holds(&self) -> bool {
-        write_response(&self.0) == self.1
+/// Returns sense as a response has it, if there is any and it isn't too long.
+fn sense_of(bytes: Option<&'static [u8]>) -> Option<ArrayVec<u8, MOST_SENSE_BYTES>> {
+    let bytes = bytes?;
+    let mut sense = ArrayVec::new();
+    match sense.try_extend_from_slice(bytes) {
+        Ok(()) => Some(sense),
+        Err(_) => None,
     }
 }
 
-/// A CHECK CONDITION, and a response to a request for a target that isn't there.
-static WRITTEN: [Writes; 2] = [
+impl Row for Writes {
+    fn holds(&self) -> bool {
+        let Writes(code, status, residual, sense, bytes) = *self;
+        let response = Response {
+            code,
+            status,
+            residual,
+            sense: sense_of(sense),
+        };
+        write_response(&response) == bytes
+    }
+}
+
+/// A CHECK CONDITION with sense in either format, and a response to a request for a target that isn't there.
+static WRITTEN: [Writes; 3] = [
     Writes(
-        Response {
-            code: ResponseCode::Ok,
-            status: 0x02,
-            residual: 0x0102_0304,
-            sense: Some([
-                0x70, 0, 0x05, 0, 0, 0, 0, 0x0a, 0, 0, 0, 0, 0x24, 0, 0, 0, 0, 0xff,
-            ]),
-        },
+        ResponseCode::Ok,
+        0x02,
+        0x0102_0304,
+        Some(b"\x70\x00\x05\x00\x00\x00\x00\x0a\x00\x00\x00\x00\x24\x00\x00\x00\x00\xff"),
         [
             0x12, 0x00, 0x00, 0x00, // sense_len
             0x04, 0x03, 0x02, 0x01, // residual
@@ -93,12 +107,26 @@ static WRITTEN: [Writes; 2] = [
         ],
     ),
     Writes(
-        Response {
-            code: ResponseCode::BadTarget,
-            status: 0,
-            residual: 0,
-            sense: None,
-        },
+        ResponseCode::Ok,
+        0x02,
+        0x200,
+        Some(b"\x72\x05\x21\x00\x00\x00\x00\x00"),
+        [
+            0x08, 0x00, 0x00, 0x00, // sense_len
+            0x00, 0x02, 0x00, 0x00, // residual
+            0x00, 0x00, 0x02, 0x00, // status_qualifier, status, response
+            0x72, 0x05, 0x21, 0, 0, 0, 0, 0, // sense
+            0, 0, 0, 0, 0, 0, 0, 0, 0, 0, 0, 0, 0, 0, 0, 0, 0, 0, 0, 0, 0, 0, 0, 0, 0, 0, 0, 0, //
+            0, 0, 0, 0, 0, 0, 0, 0, 0, 0, 0, 0, 0, 0, 0, 0, 0, 0, 0, 0, 0, 0, 0, 0, 0, 0, 0, 0, //
+            0, 0, 0, 0, 0, 0, 0, 0, 0, 0, 0, 0, 0, 0, 0, 0, 0, 0, 0, 0, 0, 0, 0, 0, 0, 0, 0, 0, //
+            0, 0, 0, 0,
+        ],
+    ),
+    Writes(
+        ResponseCode::BadTarget,
+        0,
+        0,
+        None,
         [
             0, 0, 0, 0, 0, 0, 0, 0, 0, 0, 0, 3, // response
             0, 0, 0, 0, 0, 0, 0, 0, 0, 0, 0, 0, 0, 0, 0, 0, 0, 0, 0, 0, 0, 0, 0, 0, 0, 0, 0, 0, //

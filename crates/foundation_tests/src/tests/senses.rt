@@ -1,7 +1,7 @@
 //! Sense data.
 
 use super::{Row, all_hold};
-use sense::Sense;
+use sense::{Sense, SenseFormat};
 
 /// Sense data, and its bytes in the fixed format.
 #[derive(Drop)]
@@ -93,6 +93,7 @@ impl Row for Illegal {
             key: 5,
             asc: self.1,
             ascq: 0,
+            format: SenseFormat::Fixed,
             information: None,
         };
         self.0 == wanted
