@@ -12,3 +12,4 @@ pub mod Behind
 pub mod EventsOwn
 pub mod Raised
 pub mod Stored
+pub mod Defers

@@ -12,6 +12,7 @@ use Rattle.unit_history.specs.Calls.{CannotLeave}
 use Rattle.task_mgmt.specs.Functions.{marking, asking, failing, checking, step_by}
 use Rattle.task_mgmt.specs.declared.kind.Kind.{Kind}
 use Rattle.task_mgmt.specs.declared.kind.Kind.TheVariants.{Marking, Querying}
+use Rattle.task_mgmt.specs.declared.kind.MarkBy.{MarkBy}
 use Rattle.task_mgmt.specs.declared.function.Mark.{Mark as Place}
 use Rattle.device_model.specs.Parts.{Outcome, Slot, Hand}
 use Rattle.device_model.specs.World.{Opened}
@@ -112,15 +113,19 @@ pub record FailsMark (u u' : PlainUnit) (f f' : Opened) (out out' : Jobs) : Type
   pub function : f' ≡ record f { function = failing f.function }
   pub jobs : out' ≡ out
 
+-- the unit is the one that the function names, and its tasks are marked
+abbrev pub MarksTasks : PlainInventory → Opened → ℕ → MarkBy → PlainUnit → Jobs → PlainUnit → Opened → Jobs → Type 0
+MarksTasks inventory f place m u out u' f' out' =
+    IsAddressed inventory place u
+    × DoesUnit (Transition.Mark f.chain.ticket (mark_at place u) m (handed_out u (step_by m))) u u'
+    × (f' ≡ record f { function = marking (mark_at place u) f.function })
+    × (out' ≡ with_more (handed_out u (step_by m)) out)
+
 -- the unit is the one that the function names, and is marked or looked at; or the function fails: there, or where a mark is
 -- refused memory
 abbrev pub MarksUnit : PlainInventory → Opened → ℕ → Kind → PlainUnit → Jobs → PlainUnit → Opened → Jobs → Type 0
 MarksUnit inventory f place (Marking m) u out u' f' out' =
-    (IsAddressed inventory place u
-    × DoesUnit (Transition.Mark f.chain.ticket (mark_at place u) m (handed_out u (step_by m))) u u'
-    × (f' ≡ record f { function = marking (mark_at place u) f.function })
-    × (out' ≡ with_more (handed_out u (step_by m)) out))
-    ⊎ FailsMark u u' f f' out out'
+    MarksTasks inventory f place m u out u' f' out' ⊎ FailsMark u u' f f' out out'
 MarksUnit inventory f place (Querying rule) u out u' f' out' =
     (IsAddressed inventory place u
     × DoesUnit (Transition.Ask f.chain.ticket place rule (any_met rule (alive u.steps))) u u'

@@ -1,7 +1,7 @@
 //! A job in hand.
 
-ghost use Rattle.std.specs.Prelude.{◌≡◌, is_some, Some};
-ghost use Rattle.unit_history.specs.Calls.{Commits};
+ghost use Rattle.std.specs.Prelude.{◌≡◌, is_some, Some, IsTrue, IsFalse};
+ghost use Rattle.unit_history.specs.Calls.{Commits, Waits};
 
 use crate::response::write_outcome;
 use block_store::Prepared;
@@ -87,6 +87,18 @@ impl JobInHand {
             × (self.new ≡ record { job = self.old.job; outcome = Some o }) }
     {
         self.outcome = Some(unit.commit_with(&self.job, self.pages.take(), &mut self.spare));
+    }
+
+    /// Commits the job at its unit as `commit` does, if the pages that its command needs of its disk are in memory. Else it is
+    /// still to be committed, and what was made of its WRITE is let go. Returns true if its commit is over.
+    pub(crate) fn commit_if_ready(&mut self, unit: &mut UnitState) -> bool
+        ensures over { IsTrue result → (o : answers.Outcome) × Commits unit.old self.old.job o unit.new
+            × (self.new ≡ record { job = self.old.job; outcome = Some o }) }
+        ensures waits { IsFalse result → Waits unit.old self.old.job unit.new
+            × (self.new ≡ record { job = self.old.job; outcome = None }) }
+    {
+        self.outcome = unit.commit_ready(&self.job, self.pages.take(), &mut self.spare);
+        self.outcome.is_some()
     }
 
     /// Writes what answers the job over the writable parts of its chain, where its commit is over: how many bytes it

@@ -43,7 +43,7 @@ mod slot;
 mod taking;
 
 pub use answering::{phase_answer, phase_answer_in};
-pub use committing::{phase_commit, phase_leave};
+pub use committing::{phase_commit, phase_commit_or_defer, phase_leave};
 pub use direct::{phase_answer_tmf, phase_answer_tmf_in, phase_direct, phase_direct_in};
 pub use direct_chain::DirectChain;
 pub use entering::phase_enter;
@@ -51,7 +51,7 @@ pub use fetching::{phase_fetch, phase_fetch_control, phase_fetch_control_in, pha
 pub use function::OpenFunction;
 pub use hand::Hand;
 pub use job_in_hand::JobInHand;
-pub use marking::{phase_check, phase_mark};
+pub use marking::{Visited, phase_check, phase_mark, phase_visit};
 pub use note::{Cause, Note};
 pub use preparing::{phase_prepare, phase_start_pages};
 pub use raising::{phase_fetch_event, phase_fetch_event_in, phase_raise, phase_raise_in};

@@ -3,7 +3,7 @@
 ghost use Rattle.phases.specs.DoingUnit.{HasPlaces};
 ghost use Rattle.task_mgmt.specs.Inner.Functions.{IsKnownMark};
 ghost use Rattle.phases.specs.Units.{Marks, Checks};
-ghost use Rattle.phases.specs.Inner.Units.{MarksBy};
+ghost use Rattle.phases.specs.Inner.Units.{MarksBy, Visits};
 
 use crate::entering::has_places;
 use crate::function::OpenFunction;
@@ -25,10 +25,59 @@ fn mark_tasks(unit: &mut UnitState, mark: MarkBy, out: &mut JobList) -> Result<P
     }
 }
 
+/// What a step of the open function did.
+#[derive(Clone, Copy, Debug, PartialEq, Eq)]
+pub enum Visited {
+    /// Nothing: no unit is left, or the list has fewer than 64 free places.
+    Nothing,
+    /// It marked the tasks of its next unit.
+    Marked,
+    /// It looked at its next unit, or it fails.
+    Other,
+}
+
 /// Marks the next unit of the open function, which the caller found by `next_unit`, or looks at it. Appends the jobs of
 /// tasks that wait there and are marked to the list. If memory is refused, or the unit isn't the one that the inventory
-/// names there, the function fails and leaves its other units. Returns true if something changed: not where no unit is
-/// left, or where the list has fewer than 64 free places.
+/// names there, the function fails and leaves its other units. Returns whether it marked tasks: where jobs wait for pages
+/// of their disks, a mark wakes them.
+pub fn phase_visit(
+    unit: &mut UnitState,
+    inventory: &Inventory,
+    opened: &mut OpenFunction,
+    out: &mut JobList,
+) -> Visited
+    ensures { Visits inventory.now opened.old unit.old out.old result unit.new opened.new out.new }
+{
+    if !has_places(out) {
+        return Visited::Nothing;
+    }
+    let Some(place) = opened.function.next_unit() else {
+        return Visited::Nothing;
+    };
+    if !is_addressed(inventory, place, unit) {
+        opened.function.refused();
+        return Visited::Other;
+    }
+    match opened.function.kind() {
+        Kind::Marking(mark) => match mark_tasks(unit, mark, out) {
+            Ok(place) => {
+                opened.function.marked(place);
+                Visited::Marked
+            }
+            Err(NoMemory) => {
+                opened.function.refused();
+                Visited::Other
+            }
+        },
+        Kind::Querying(rule) => {
+            opened.function.found(unit.is_alive(rule));
+            Visited::Other
+        }
+    }
+}
+
+/// Takes the step of [`phase_visit`]. Returns true if something changed: not where no unit is left, or where the list has
+/// fewer than 64 free places.
 pub fn phase_mark(
     unit: &mut UnitState,
     inventory: &Inventory,
@@ -37,24 +86,10 @@ pub fn phase_mark(
 ) -> bool
     ensures { Marks inventory.now opened.old unit.old out.old result unit.new opened.new out.new }
 {
-    if !has_places(out) {
-        return false;
+    match phase_visit(unit, inventory, opened, out) {
+        Visited::Nothing => false,
+        Visited::Marked | Visited::Other => true,
     }
-    let Some(place) = opened.function.next_unit() else {
-        return false;
-    };
-    if !is_addressed(inventory, place, unit) {
-        opened.function.refused();
-        return true;
-    }
-    match opened.function.kind() {
-        Kind::Marking(mark) => match mark_tasks(unit, mark, out) {
-            Ok(place) => opened.function.marked(place),
-            Err(NoMemory) => opened.function.refused(),
-        },
-        Kind::Querying(rule) => opened.function.found(unit.is_alive(rule)),
-    }
-    true
 }
 
 /// Checks whether the open function's first mark is clear, at that mark's unit, which the caller found by `waits_for`,

@@ -1,0 +1,99 @@
+-- What a commit that may wait is, as a transition; and a visit of a function is a mark or a look.
+use Rattle.std.proofs.Common.{ℕ, ◌≡◌, Bool, true, false, List, [], ◌∷◌, Option, Some, None, refl, ap, sym, ◌∙◌, subst, inl, inr}
+use Rattle.std.specs.Prelude.{is_some, IsTrue, IfSome}
+use Rattle.std.proofs.lemmas.Bool.{false≢true}
+use Rattle.request_intake.specs.Inventory.{PlainInventory}
+use Rattle.unit_model.specs.Jobs.{PlainJob, Jobs}
+use Rattle.unit_model.specs.Unit.{PlainUnit}
+use Rattle.unit_history.specs.Calls as calls
+use Rattle.unit_history.specs.declared.outcomes.Outcome as outcome_type
+use Rattle.task_mgmt.specs.declared.kind.Kind.{Kind}
+use Rattle.task_mgmt.specs.declared.kind.Kind.TheVariants.{Marking, Querying}
+use Rattle.device_model.specs.Parts.{Hand}
+use Rattle.device_model.specs.World.{Opened}
+use Rattle.phases.specs.DoingUnit.{with_more}
+use Rattle.phases.specs.Outcomes.{PlainJobInHand}
+use Rattle.phases.specs.Parts.{hand_with, committing_unit}
+use Rattle.phases.specs.Units.{Commits, MarksUnit, Marks, MarksNext}
+use Rattle.phases.specs.Inner.Units.{StaysInHand, CommitsOrDefers, VisitsUnit, VisitsNext, Visits}
+use Rattle.phases.specs.declared.marking.Visited.{Visited}
+use Rattle.phases.specs.declared.marking.Visited.TheVariants as visited
+
+abbrev job_with : PlainJob → Option outcome_type.Outcome → PlainJobInHand
+job_with x o = record { job = x; outcome = o }
+
+-- what came of a commit that is over
+pub came : (x : PlainJob) (u v : PlainUnit) (made : Option outcome_type.Outcome) (b : Bool) → b ≡ is_some made
+    → IfSome made (λ o. calls.Commits u x o v) → IsTrue b
+    → (o : outcome_type.Outcome) × calls.Commits u x o v × (job_with x made ≡ job_with x (Some o))
+came x u v None b is ran on = absurd (false≢true (sym is ∙ on))
+came x u v (Some o) b is ran on = (o, ran, refl)
+
+-- a commit that is over leaves the list as it was
+pub over : (h : Hand) (u v : PlainUnit) (h' : Hand) (aside : Jobs) → Commits h u true v h'
+    → CommitsOrDefers h u aside true v h' aside
+over Hand.Empty u v h' aside c = (c, refl)
+over (Hand.Taken x) u v h' aside c = inl (c, refl)
+over (Hand.Done x o) u v h' aside c = (c, refl)
+over (Hand.Answered place t) u v h' aside c = (c, refl)
+
+-- where no job is to be committed nothing changes
+pub none_over : (h g : Hand) (u v : PlainUnit) (aside : Jobs) → committing_unit g ≡ None → StaysInHand h u v g
+    → CommitsOrDefers h u aside false v g aside
+none_over Hand.Empty g u v aside none s = (s, refl)
+none_over (Hand.Taken x) g u v aside none s =
+    let is : Some x.unit ≡ None = sym (ap committing_unit s.1) ∙ none in
+    absurd (cc)
+none_over (Hand.Done x o) g u v aside none s = (s, refl)
+none_over (Hand.Answered place t) g u v aside none s = (s, refl)
+
+-- a job that is to be committed still
+pub to_commit : (x : PlainJob) (o : Option outcome_type.Outcome) (p : ℕ) → Some p ≡ committing_unit (hand_with x o)
+    → hand_with x o ≡ Hand.Taken x
+to_commit x None p is = refl
+to_commit x (Some o) p is = absurd (cc)
+
+-- the job goes behind those that wait
+pub deferred : (h g : Hand) (x : PlainJob) (u v : PlainUnit) (aside aside' : Jobs) → g ≡ Hand.Taken x → StaysInHand h u v g
+    → aside' ≡ with_more (x ∷ []) aside → CommitsOrDefers h u aside true v Hand.Empty aside'
+deferred Hand.Empty g x u v aside aside' there s more = let e = sym there ∙ s.1 in absurd (cc)
+deferred (Hand.Taken y) g x u v aside aside' there s more =
+    let e : Hand.Taken x ≡ Hand.Taken y = sym there ∙ s.1 in
+    let one : x ≡ y = cc in
+    inr (λ k. (record { asks = (s.2, s.3); is = s.0 }, refl, more ∙ ap (λ (z : PlainJob). with_more (z ∷ []) aside) one))
+deferred (Hand.Done y o) g x u v aside aside' there s more = let e = sym there ∙ s.1 in absurd (cc)
+deferred (Hand.Answered place t) g x u v aside aside' there s more = let e = sym there ∙ s.1 in absurd (cc)
+
+-- a visit is a mark or a look, whichever it was
+marks_unit : (inventory : PlainInventory) (f : Opened) (place : ℕ) (kind : Kind) (u : PlainUnit) (out : Jobs) (what : Visited)
+    (v : PlainUnit) (g : Opened) (more : Jobs) → VisitsUnit inventory f place kind u out what v g more
+    → MarksUnit inventory f place kind u out v g more
+marks_unit inventory f place (Marking m) u out visited.Marked v g more h = inl h
+marks_unit inventory f place (Marking m) u out visited.Other v g more h = inr h
+marks_unit inventory f place (Marking m) u out visited.Nothing v g more h = absurd h
+marks_unit inventory f place (Querying rule) u out visited.Other v g more h = h
+marks_unit inventory f place (Querying rule) u out visited.Marked v g more h = absurd h
+marks_unit inventory f place (Querying rule) u out visited.Nothing v g more h = absurd h
+
+abbrev pub did : Visited → Bool
+did visited.Nothing = false
+did visited.Marked = true
+did visited.Other = true
+
+marks_next : (inventory : PlainInventory) (f : Opened) (left : List ℕ) (u : PlainUnit) (out : Jobs) (what : Visited)
+    (v : PlainUnit) (g : Opened) (more : Jobs) → VisitsNext inventory f left u out what v g more
+    → MarksNext inventory f left u out (did what) v g more
+marks_next inventory f (place ∷ later) u out visited.Nothing v g more h = h
+marks_next inventory f (place ∷ later) u out visited.Marked v g more h =
+    marks_unit inventory f place f.function.kind u out visited.Marked v g more h
+marks_next inventory f (place ∷ later) u out visited.Other v g more h =
+    marks_unit inventory f place f.function.kind u out visited.Other v g more h
+marks_next inventory f [] u out visited.Nothing v g more h = h
+marks_next inventory f [] u out visited.Marked v g more h = absurd h
+marks_next inventory f [] u out visited.Other v g more h = absurd h
+
+pub marks : (inventory : PlainInventory) (f : Opened) (u : PlainUnit) (out : Jobs) (what : Visited) (b : Bool)
+    (v : PlainUnit) (g : Opened) (more : Jobs) → did what ≡ b → Visits inventory f u out what v g more
+    → Marks inventory f u out b v g more
+marks inventory f u out what b v g more is h =
+    subst (λ (c : Bool). Marks inventory f u out c v g more) is (marks_next inventory f f.function.left u out what v g more h)
