@@ -1,5 +1,5 @@
 -- What a unit answers to a job that is committed, and what its parts are then.
-use Rattle.std.proofs.Common.{◌≡◌, ℕ, ◌+◌, ◌≤◌, Bool, inl, inr, List, ◌∷◌, map, length, Option, Some, None, is_some, IsTrue, true, false, refl, sym, ◌∙◌, ap, subst}
+use Rattle.std.proofs.Common.{◌≡◌, ℕ, ◌+◌, ◌≤◌, ◌||◌, Bool, inl, inr, List, ◌∷◌, map, length, Option, Some, None, is_some, IsTrue, true, false, refl, sym, ◌∙◌, ap, subst}
 use Rattle.ring_core.specs.declared.log.Ticket.{Ticket}
 use Rattle.block_store.specs.Blocks.{Blocks}
 use Rattle.unit_attention.specs.declared.code.Code.{Code}
@@ -12,13 +12,15 @@ use Rattle.unit_model.specs.Tasks.{Entry, task_of}
 use Rattle.unit_model.specs.Steps.{Step, alive, done}
 use Rattle.unit_model.specs.Marks.{mark_of}
 use Rattle.unit_model.specs.Seen.{Seen, seen, finished}
-use Rattle.unit_model.specs.Contents.{Opening, facts_after, reply_after}
+use Rattle.unit_model.specs.Contents.{Opening, capacity_of, facts_after, reply_after}
 use Rattle.unit_model.specs.Lawful.{IsReady}
 use Rattle.unit_model.specs.Receipts.{unit_address, receipt_of}
 use Rattle.unit_model.specs.Jobs.{PlainJob}
 use Rattle.task_set.specs.Tasks.{PlainTask, parked_of}
 use Rattle.task_set.specs.Inner.Tasks.{moved, task_at}
 use Rattle.unit_model.specs.Asking.{IsOf, asked_of, CannotCommit}
+use Rattle.block_commands.specs.Inner.Ready.{needs}
+use Rattle.unit_history.specs.Flushes.{is_flush}
 use Rattle.unit_history.specs.Calls.{Commits, Waits}
 use Rattle.unit_history.specs.Inner.Parts.{AreKept}
 use Rattle.command_model.specs.Memory.{may_run_short}
@@ -29,6 +31,14 @@ use Rattle.unit_history.specs.declared.turn.Turn.TheVariants as turn
 use Rattle.unit_history.proofs.Entering.{same_unit}
 use Rattle.unit_history.proofs.Keeping.{is_ready, task_at_alive, task_at_none, ticket_at, replies_after, may_commit, may_busy, keep_commit, keep_busy}
 use Rattle.unit_history.proofs.Handing.{parked_commit, parked_busy}
+
+pub or-left : (a b : Bool) → a ≡ true → (a || b) ≡ true
+or-left true b is = refl
+or-left false b is = let never : false ≡ true = is in cc
+
+pub or-right : (a b : Bool) → b ≡ true → (a || b) ≡ true
+or-right true b is = refl
+or-right false b is = is
 
 -- a task that may do nothing, by what is kept of it
 cannot : (s : Seen) (j : PlainJob) (past : List Step) → s ≡ seen past s.entry → Turns s j turn.Unknown → CannotCommit (Some s.entry) j past
@@ -55,15 +65,16 @@ module _ {o : Opening} {past : List Step} {block_at : Blocks} {pending : List Co
 
   -- its command may run, on a disk whose pages come and go: it waits
   pub waits_for : (j : PlainJob) (x : PlainTask) (keeps backed backed' : Bool) → task_at j.entry.ticket tasks ≡ Some x → Turns x.seen j turn.Ready
-      → backed ≡ true → backed' ≡ backed
+      → backed ≡ true → (needs (capacity_of o past) x.seen.entry.command || is_flush x.seen.entry.command) ≡ true → backed' ≡ backed
       → Waits (record { opening = o; steps = past; parked = parked_of tasks; keeps_replies = keeps; backed = backed }) j
       (record { opening = o; steps = past; parked = parked_of tasks; keeps_replies = keeps; backed = backed' })
-  waits_for j x keeps backed backed' at turns on kind =
+  waits_for j x keeps backed backed' at turns on cause kind =
       record {
         entry = x.seen.entry;
         of = is_of j x at turns.0;
         ready = is_ready k j.entry.ticket x at turns.1 turns.2 turns.3;
         backed = on;
+        cause = cause;
         same = same_unit o past past _ _ keeps keeps backed backed' refl refl refl kind;
       }
 

@@ -1,8 +1,10 @@
 -- A command that runs once its disk was made ready.
-use Rattle.std.proofs.Common.{◌≡◌, ℕ, Bool, true, false, IsTrue, List, Option, subst, refl}
+use Rattle.std.proofs.Common.{◌≡◌, ◌≢◌, ℕ, Bool, true, false, IsTrue, List, Option, subst, refl}
 use Rattle.backed_store.specs.Disks.{holds, is_whole}
 use Rattle.backed_store.specs.declared.disk.Disk.{Disk}
 use Rattle.backed_store.specs.declared.disk.Disk.TheVariants.{Whole, Backed}
+use Rattle.block_store.specs.declared.readiness.Readiness.{Readiness}
+use Rattle.block_store.specs.declared.readiness.Readiness.TheVariants.{Ready}
 use Rattle.cdb.specs.declared.commands.Command.{Command}
 use Rattle.block_store.specs.Blocks.{Blocks}
 use Rattle.block_commands.specs.declared.facts.UnitFacts.{UnitFacts}
@@ -19,6 +21,11 @@ readied keeps was now pending pending' m n command bytes p old ready new facts s
     subst (λ (b : Blocks). Performs keeps (facts_of was m) command bytes p b new pending pending') blocks
     (subst (λ (k : ℕ). Performs keeps (facts_of was k) command bytes p ready new pending pending') size
     (subst (λ (f : UnitFacts). Performs keeps (facts_of f n) command bytes p ready new pending pending') facts ran))
+
+-- a command that isn't ready needs blocks
+pub needs-some : (needed : Bool) (readiness : Readiness) → (needed ≡ false → readiness ≡ Ready) → readiness ≢ Ready → needed ≡ true
+needs-some true readiness idle unready = refl
+needs-some false readiness idle unready = absurd (unready (idle refl))
 
 -- a disk that isn't backed has each block in memory
 pub holds_all : (d : Disk) → is_whole d ≡ true → (b : ℕ) → IsTrue (holds d b)

@@ -4,13 +4,15 @@ use Rattle.ring_core.specs.declared.log.Ticket.{Ticket}
 use Rattle.unit_model.specs.Tasks.{Entry, task_of, is_blocked}
 use Rattle.unit_model.specs.Steps.{Step, alive, done, next_number}
 use Rattle.unit_model.specs.Marks.{mark_of, marked}
-use Rattle.unit_model.specs.Contents.{is_capacity, facts_after, reply_after}
+use Rattle.unit_model.specs.Contents.{is_capacity, capacity_of, facts_after, reply_after}
 use Rattle.unit_model.specs.Lawful.{IsReady, May}
 use Rattle.unit_model.specs.Receipts.{receipt_of}
 use Rattle.unit_model.specs.Jobs.{PlainJob}
 use Rattle.unit_model.specs.Unit.{PlainUnit, parking, Steps}
 use Rattle.unit_model.specs.Asking.{IsOf, IsNamed, IsMisdelivered, CannotCommit}
 use Rattle.command_model.specs.Memory.{may_run_short}
+use Rattle.block_commands.specs.Inner.Ready.{needs}
+use Rattle.unit_history.specs.Flushes.{is_flush}
 use Rattle.unit_history.specs.declared.outcomes.Entered.{Entered}
 use Rattle.unit_history.specs.declared.outcomes.Entered.TheVariants as entered
 use Rattle.unit_history.specs.declared.outcomes.Outcome.{Outcome}
@@ -56,6 +58,8 @@ pub record Waits (old : PlainUnit) (j : PlainJob) (new : PlainUnit) : Type 0 whe
   pub of : IsOf j entry old.steps
   pub ready : IsReady j.entry.ticket entry old.steps
   pub backed : old.backed ≡ true
+  -- it needs blocks, or waits for what was changed before it
+  pub cause : (needs (capacity_of old.opening old.steps) entry.command || is_flush entry.command) ≡ true
   pub same : new ≡ old
 
 -- own: a capacity is refused where no unit may have it, and memory only for one that it may have

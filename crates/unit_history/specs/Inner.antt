@@ -12,3 +12,4 @@ pub mod Turns
 pub mod Outcomes
 pub mod Noting
 pub mod Fields
+pub mod Flushes

@@ -9,6 +9,7 @@ ghost use Rattle.task_set.specs.Inner.Tasks.{moved};
 ghost use Rattle.unit_history.specs.Inner.Performing.{IsKeptReply, performed_of, step_for};
 ghost use Rattle.unit_history.specs.Inner.Outcomes.{outcome_for};
 
+use crate::flushing::has_to_wait;
 use crate::log::StepLog;
 use crate::outcomes::{Outcome, Receipt};
 use crate::pages::{PreparedWrite, StartedWrite, pages_for};
@@ -154,8 +155,10 @@ impl UnitState {
     }
 
     /// Runs the command of a job's task as [`UnitState::commit_with`] does, if the pages that it needs of its disk are in
-    /// memory. Else the host is asked for each of them at once, and the command waits: `None`, with nothing changed. A task
-    /// that is marked, and one that may not run, never waits. Nor does a command on a disk that isn't backed.
+    /// memory. Else the host is asked for each of them at once, and the command waits: `None`, with nothing changed. So does
+    /// a flush, until the host's storage has each change of the disk that was made before it came, and one that comes while
+    /// another waits. A task that is marked, and one that may not run, never waits. Nor does a command on a disk that isn't
+    /// backed, nor one that needs no block and is no flush.
     #[inline(always)]
     pub fn commit_ready(
         &mut self,
@@ -178,6 +181,9 @@ impl UnitState {
             Turn::Ready => {
                 let unit = self.facts.address;
                 let command = task.command();
+                if has_to_wait(&mut self.fence, &self.store, &command, ticket) {
+                    return None;
+                }
                 let bytes = task.data();
                 let pages = pages_for(prepared, task);
                 let keeps = self.log.keeps_replies();

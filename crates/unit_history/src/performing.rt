@@ -8,7 +8,7 @@ ghost use Rattle.block_store.specs.Drafts.{prepared_draft};
 ghost use Rattle.block_store.specs.declared.readiness.Readiness.TheVariants.{Ready, Full};
 ghost use Rattle.block_commands.specs.Prepared.{IsOf};
 ghost use Rattle.block_commands.specs.Inner.Told.{facts_of};
-ghost use Rattle.block_commands.specs.Inner.Ready.{IsReady};
+ghost use Rattle.block_commands.specs.Inner.Ready.{IsReady, needs};
 ghost use Rattle.command_model.specs.Attention.{met};
 ghost use Rattle.sense.specs.Conditions.{unit_attention};
 ghost use Rattle.unit_model.specs.Contents.{pending_at_start};
@@ -124,6 +124,7 @@ pub fn ready_for(
     ensures asked { result ≢ Full → met command.now (told facts.old attentions.now).pending ≡ None →
         IsReady (⟦<Disk as Store>⟧.is_coming store.new) (⟦<Disk as Store>⟧.has_room store.new) (⟦<Disk as Store>⟧.size store.new)
         command.now bytes.now }
+    ensures idle { needs (⟦<Disk as Store>⟧.size store.old) command.now ≡ false → result ≡ Ready }
     ensures whole { IsTrue (⟦<Disk as Store>⟧.is_whole store.old) → result ≡ Ready }
     ensures kind { ⟦<Disk as Store>⟧.is_whole store.new ≡ ⟦<Disk as Store>⟧.is_whole store.old }
     ensures blocks { ⟦<Disk as Store>⟧.block_at store.new ≡ ⟦<Disk as Store>⟧.block_at store.old }
@@ -291,6 +292,7 @@ pub fn perform_if_ready(
     ensures waits { OnErr result ((⟦<Disk as Store>⟧.block_at store.new ≡ ⟦<Disk as Store>⟧.block_at store.old)
         × (attentions.new ≡ attentions.old)) }
     ensures backed { OnErr result (⟦<Disk as Store>⟧.is_whole store.old ≡ false) }
+    ensures needed { OnErr result (needs (⟦<Disk as Store>⟧.size store.old) command.now ≡ true) }
     ensures asked { IfErr result (λ why. why ≢ Full → met command.now (told facts.old attentions.old).pending ≡ None →
         IsReady (⟦<Disk as Store>⟧.is_coming store.new) (⟦<Disk as Store>⟧.has_room store.new) (⟦<Disk as Store>⟧.size store.new)
         command.now bytes.now) }

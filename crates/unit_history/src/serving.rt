@@ -1,10 +1,12 @@
 //! A request that is served to its end in one call, where no other task is alive.
 
-ghost use Rattle.std.specs.Prelude.{◌≡◌, IsTrue, false, None};
+ghost use Rattle.std.specs.Prelude.{◌≡◌, ℕ, IsTrue, false, None};
 ghost use Rattle.std.specs.Bool.{OnFalse};
+ghost use Rattle.backed_store.specs.Disks.{is_whole, latest_of, owes};
 ghost use Rattle.block_commands.specs.Inner.Ready.{IsReady};
 ghost use Rattle.block_commands.specs.Inner.Told.{facts_of};
 ghost use Rattle.command_model.specs.Attention.{met};
+ghost use Rattle.unit_history.specs.Flushes.{is_flush};
 ghost use Rattle.unit_history.specs.Endings.{ending_of_run, plain_run};
 ghost use Rattle.unit_history.specs.Inner.Performing.{Performs, step_for, told, unkept};
 ghost use Rattle.unit_history.specs.Recorded.{step_recorded};
@@ -12,6 +14,7 @@ ghost use Rattle.unit_history.specs.Serving.{ServesAlone};
 
 use crate::answering::Answering;
 use crate::execution::keep_larger;
+use crate::flushing::would_wait;
 use crate::performing::{is_ready, run, tell_oldest};
 use crate::recorded::{RecordedReply, RecordedStep};
 use crate::unit::{UnitState, is_named, make_way, recorded_entry};
@@ -95,7 +98,7 @@ fn step_of_run(ticket: Ticket, ran: Result<RecordedReply, NoMemory>) -> Recorded
 }
 
 /// Returns true if the command of a request may run on its disk as it stands, or as [`is_ready`] left it: at once where
-/// the disk isn't backed.
+/// the disk isn't backed. A flush may where the host's storage lacks no change.
 #[inline(always)]
 fn may_run(
     facts: &mut UnitFacts,
@@ -108,6 +111,8 @@ fn may_run(
         IsReady (⟦<Disk as Store>⟧.is_held store.new) (⟦<Disk as Store>⟧.has_room store.new) (⟦<Disk as Store>⟧.size store.new)
         arrival.now.entry.command arrival.now.entry.data_out }
     ensures whole { IsTrue (⟦<Disk as Store>⟧.is_whole store.old) → IsTrue result }
+    ensures flushed { IsTrue result → is_whole store.new ≡ false → IsTrue (is_flush arrival.now.entry.command) →
+        (p : ℕ) → owes store.new (latest_of store.new) p ≡ false }
     ensures kind { ⟦<Disk as Store>⟧.is_whole store.new ≡ ⟦<Disk as Store>⟧.is_whole store.old }
     ensures blocks { ⟦<Disk as Store>⟧.block_at store.new ≡ ⟦<Disk as Store>⟧.block_at store.old }
     ensures size { ⟦<Disk as Store>⟧.size store.new ≡ ⟦<Disk as Store>⟧.size store.old }
@@ -132,12 +137,14 @@ fn is_arrival_ready(
         IsReady (⟦<Disk as Store>⟧.is_held store.new) (⟦<Disk as Store>⟧.has_room store.new) (⟦<Disk as Store>⟧.size store.new)
         arrival.now.entry.command arrival.now.entry.data_out }
     ensures whole { IsTrue (⟦<Disk as Store>⟧.is_whole store.old) → IsTrue result }
+    ensures flushed { IsTrue result → is_whole store.new ≡ false → IsTrue (is_flush arrival.now.entry.command) →
+        (p : ℕ) → owes store.new (latest_of store.new) p ≡ false }
     ensures kind { ⟦<Disk as Store>⟧.is_whole store.new ≡ ⟦<Disk as Store>⟧.is_whole store.old }
     ensures blocks { ⟦<Disk as Store>⟧.block_at store.new ≡ ⟦<Disk as Store>⟧.block_at store.old }
     ensures size { ⟦<Disk as Store>⟧.size store.new ≡ ⟦<Disk as Store>⟧.size store.old }
 {
     let command = arrival.command();
-    is_ready(facts, attentions, store, &command, arrival.data())
+    is_ready(facts, attentions, store, &command, arrival.data()) && !would_wait(store, &command)
 }
 
 impl UnitState {

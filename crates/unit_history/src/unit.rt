@@ -8,6 +8,7 @@ ghost use Rattle.unit_history.specs.Inner.Parts.{AreClear};
 ghost use Rattle.unit_history.specs.Recorded.{most_steps};
 
 use crate::changes::Changes;
+use crate::flushing::{Fence, give_up};
 use crate::last_tickets::LastTickets;
 use crate::log::StepLog;
 use crate::outcomes::{Entered, ResizeFault, Unknown};
@@ -48,6 +49,8 @@ pub struct UnitState {
     pub(crate) tasks: TaskSet,
     pub(crate) log: StepLog,
     pub(crate) last_tickets: LastTickets,
+    // The flush that waits, if one does.
+    pub(crate) fence: Option<Fence>,
     // Room for the data of the next command that returns some.
     pub(crate) room: Vec<u8>,
     // Pages that a commit left over, at most one list of them. The next WRITE that is prepared puts its data over their
@@ -179,6 +182,7 @@ impl UnitState {
             tasks: TaskSet::new(),
             log: StepLog::new(alloc, keeps_replies),
             last_tickets: LastTickets::new(alloc),
+            fence: None,
             room: Vec::new(alloc),
             spare_pages: None,
             changes: Changes::since_place(0),
@@ -331,6 +335,7 @@ impl UnitState {
         if !is_ended(task) {
             return Err(Unknown);
         }
+        give_up(&mut self.fence, ticket);
         self.log.push(RecordedStep::Leave(ticket), None);
         self.tasks.leave(ticket, out);
         Ok(())

@@ -1,4 +1,4 @@
-use Rattle.std.proofs.Common.{◌≡◌, ◌<◌, sym, ◌∙◌, subst, arith, List, None}
+use Rattle.std.proofs.Common.{sym, subst, arith, List, None}
 use Rattle.unit_history.specs.declared.runs.Run.{Run}
 use Rattle.unit_history.specs.Inner.Runs.{AreRising, AreNumbered, FindsIn}
 use Rattle.unit_history.proofs.Tables.{table_is, none_next}

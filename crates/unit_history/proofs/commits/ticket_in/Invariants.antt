@@ -1,4 +1,4 @@
-use Rattle.std.proofs.Common.{ℕ, ◌<◌}
+use Rattle.std.proofs.Common.{◌<◌}
 use Rattle.ring_core.specs.declared.log.Ticket.{Ticket}
 use Rattle.unit_history.specs.Inner.Runs.{Stands, tables_of}
 use Rattle.unit_history.proofs.commits.ticket_in.Given as goal

@@ -1,8 +1,9 @@
-use Rattle.std.proofs.Common.{◌≡◌, ap, sym, subst, ◌∙◌, refl}
+use Rattle.std.proofs.Common.{◌≡◌, sym, ◌∙◌}
 use Rattle.std.specs.Option.{option_map}
 use Rattle.backed_store.specs.Disks as disks
+use Rattle.block_store.specs.declared.readiness.Readiness.TheVariants.{Ready, Asked, Full}
 use Rattle.unit_history.specs.Inner.Performing.{performed_of, told}
-use Rattle.unit_history.proofs.Readied.{readied}
+use Rattle.unit_history.proofs.Readied.{readied, needs-some}
 use Rattle.unit_history.proofs.performing.perform_if_ready.Goals as goal
 
 pub returns-in-Ready-clause-performed : goal.returns-in-Ready-clause-performed
@@ -12,3 +13,11 @@ returns-in-Ready-clause-performed c =
     (option_map performed_of c.perform.result)
     (disks.blocks_of c.args.store.now) (disks.blocks_of c.ready_for.new.store) (disks.blocks_of c.perform.new.store)
     c.ready_for.ensures.facts c.ready_for.ensures.size c.ready_for.ensures.blocks c.perform.ensures.performed
+
+pub returns-in-Asked-clause-needed : goal.returns-in-Asked-clause-needed
+returns-in-Asked-clause-needed c =
+    needs-some _ c.ready_for.result c.ready_for.ensures.idle (λ same. let never : Asked ≡ Ready = sym c.in-Asked.is ∙ same in cc)
+
+pub returns-in-Full-clause-needed : goal.returns-in-Full-clause-needed
+returns-in-Full-clause-needed c =
+    needs-some _ c.ready_for.result c.ready_for.ensures.idle (λ same. let never : Full ≡ Ready = sym c.in-Full.is ∙ same in cc)

@@ -1,4 +1,4 @@
-use Rattle.std.proofs.Common.{◌≡◌, false, None, subst}
+use Rattle.std.proofs.Common.{false, None, subst}
 use Rattle.block_commands.specs.Inner.Told.{facts_of}
 use Rattle.backed_store.specs.Disks as disks
 use Rattle.cdb.specs.declared.commands.Command.{Command}

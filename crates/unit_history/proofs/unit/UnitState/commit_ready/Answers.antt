@@ -1,15 +1,16 @@
-use Rattle.std.proofs.Common.{◌≡◌, not, ap, sym, subst, ◌∙◌, refl}
+use Rattle.std.proofs.Common.{◌≡◌, true, not, ap, sym, subst, ◌∙◌, refl}
 use Rattle.unit_model.specs.Seen.{finished}
 use Rattle.unit_history.specs.Inner.Parts.{AreBehind}
 use Rattle.unit_history.proofs.Basing.{based_on, behind_moved, ran_folds, ran_sized}
 use Rattle.std.specs.Option.{option_copied, option_map}
 use Rattle.backed_store.specs.Disks as disks
 use Rattle.block_commands.specs.Inner.Told.{facts_of}
+use Rattle.block_commands.specs.Inner.Ready.{needs}
 use Rattle.unit_history.specs.Fields.{opening_of}
 use Rattle.unit_history.specs.Inner.Performing.{performed_of, told, step_for}
 use Rattle.task_set.specs.Inner.Tasks.{task_at, seen_of}
 use Rattle.unit_history.proofs.Keeping.{has_room, is_ready, told_is, task_at_alive}
-use Rattle.unit_history.proofs.Committing.{cannot_none, cannot_turn, is_of, is_aborted, keep_run, commits_run, waits_for}
+use Rattle.unit_history.proofs.Committing.{cannot_none, cannot_turn, is_of, is_aborted, keep_run, commits_run, waits_for, or-left, or-right}
 use Rattle.unit_history.proofs.Noting.{recorded_run}
 use Rattle.unit_history.proofs.unit.UnitState.commit_ready.Goals as goal
 
@@ -24,25 +25,12 @@ record_run-requires-clause-room c =
 
 pub invariant_of-self : goal.invariant_of-self
 invariant_of-self c =
-    let k = c.self.invariant.kept in
-    let stays = c.in_default-perform_if_ready.ensures.waits in
-    let facts = c.perform_if_ready.ensures.facts in
     record {
-      kept =
-          rw (facts, stays.1)
-          (record {
-            lawful = k.lawful;
-            stored = λ b. ap (λ f. f b) stays.0 ∙ k.stored b;
-            pends = k.pends;
-            set = k.set;
-            fit = k.fit;
-            floors = k.floors;
-            reserved = k.reserved;
-          });
+      kept = c.self.invariant.kept;
       based = c.self.invariant.based;
-      sized = rw facts (c.perform_if_ready.ensures.size ∙ c.self.invariant.sized);
-      noted = rw facts c.self.invariant.noted;
-      whole = c.perform_if_ready.ensures.kind ∙ c.self.invariant.whole;
+      sized = c.self.invariant.sized;
+      noted = c.self.invariant.noted;
+      whole = c.self.invariant.whole;
     }
 
 pub invariant_of-self-in-Ready : goal.invariant_of-self-in-Ready
@@ -113,6 +101,17 @@ returns-in-Ok-clause-step c =
 pub returns-in_default-perform_if_ready-clause-waits : goal.returns-in_default-perform_if_ready-clause-waits
 returns-in_default-perform_if_ready-clause-waits c =
     let at = ap (λ t. task_at t c.self.inside.tasks) (sym c.ticket-ticket.ensures.entry) ∙ sym c.task.ensures ∙ ap option_copied c.in-Some.is in
+    let needed : needs (disks.size_of c.self.inside.store) c.in-Some.task.now.seen.entry.command ≡ true =
+    rw c.command-command.ensures at c.in_default-perform_if_ready.ensures.needed in
     rw (← c.self.view_is, c.perform_if_ready.ensures.facts)
     (waits_for c.self.invariant.kept c.args.job.now c.in-Some.task.now _ _ _ at c.in-Ready.ensures
-    (ap not c.in_default-perform_if_ready.ensures.backed) (ap not c.perform_if_ready.ensures.kind))
+    (ap not c.in_default-perform_if_ready.ensures.backed) (or-left _ _ (rw c.self.invariant.sized at needed))
+    (ap not c.perform_if_ready.ensures.kind))
+
+pub returns-then-has_to_wait-clause-waits : goal.returns-then-has_to_wait-clause-waits
+returns-then-has_to_wait-clause-waits c =
+    let at = ap (λ t. task_at t c.self.inside.tasks) (sym c.ticket-ticket.ensures.entry) ∙ sym c.task.ensures ∙ ap option_copied c.in-Some.is in
+    let flush = rw c.command-command.ensures at c.has_to_wait.ensures.flush c.if-has_to_wait.true in
+    rw (← c.self.view_is)
+    (waits_for c.self.invariant.kept c.args.job.now c.in-Some.task.now _ _ _ at c.in-Ready.ensures
+    (ap not (c.has_to_wait.ensures.backed c.if-has_to_wait.true)) (or-right _ _ flush) refl)

@@ -5,7 +5,7 @@ use Rattle.ring_core.specs.declared.log.Ticket.{Ticket}
 use Rattle.unit_model.specs.Endings.{Ending}
 use Rattle.unit_model.specs.Steps.{Step, next_number}
 use Rattle.unit_history.specs.Fields.{opening_of}
-use Rattle.unit_history.specs.Inner.Performing.{told, unkept, step_for}
+use Rattle.unit_history.specs.Inner.Performing.{told, unkept}
 use Rattle.unit_history.proofs.Alone.{no_tasks, ends_as, all_steps, based_served, kept_served, recorded_served, serves_alone}
 use Rattle.unit_history.proofs.Entering.{not_stale, came_then}
 use Rattle.unit_history.proofs.Keeping.{CameTo, told_is}
