@@ -14,5 +14,6 @@ pub use Rattle.command_model.specs.Inquiry
 pub use Rattle.command_model.specs.Luns
 pub use Rattle.command_model.specs.Replies
 pub use Rattle.command_model.specs.UnmapList
+pub mod Needs
 pub mod Prepared
 pub mod Inner

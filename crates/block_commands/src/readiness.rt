@@ -8,7 +8,8 @@ ghost use Rattle.command_model.specs.Data.{data_of};
 ghost use Rattle.command_model.specs.Attention.{met};
 ghost use Rattle.command_model.specs.UnmapList.{descriptors_in, descriptors, is_named, are_in_range};
 ghost use Rattle.command_model.specs.Replies.{unmap_answer};
-ghost use Rattle.block_commands.specs.Inner.Ready.{IsReady, needs, needs_wide, is_inside, is_read_wide, is_changed_wide, is_near_wide, is_near_to, is_near_any, is_done};
+ghost use Rattle.block_commands.specs.Needs.{needs, needs_wide};
+ghost use Rattle.block_commands.specs.Inner.Ready.{IsReady, is_inside, is_read_wide, is_changed_wide, is_near_wide, is_near_to, is_near_any, is_done};
 
 use crate::attention::met_attention;
 use crate::capacity::is_in_range;

@@ -19,7 +19,7 @@ use Rattle.unit_model.specs.Jobs.{PlainJob}
 use Rattle.task_set.specs.Tasks.{PlainTask, parked_of}
 use Rattle.task_set.specs.Inner.Tasks.{moved, task_at}
 use Rattle.unit_model.specs.Asking.{IsOf, asked_of, CannotCommit}
-use Rattle.block_commands.specs.Inner.Ready.{needs}
+use Rattle.block_commands.specs.Needs.{needs}
 use Rattle.unit_history.specs.Flushes.{is_flush}
 use Rattle.unit_history.specs.Calls.{Commits, Waits}
 use Rattle.unit_history.specs.Inner.Parts.{AreKept}

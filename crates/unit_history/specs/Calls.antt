@@ -11,7 +11,7 @@ use Rattle.unit_model.specs.Jobs.{PlainJob}
 use Rattle.unit_model.specs.Unit.{PlainUnit, parking, Steps}
 use Rattle.unit_model.specs.Asking.{IsOf, IsNamed, IsMisdelivered, CannotCommit}
 use Rattle.command_model.specs.Memory.{may_run_short}
-use Rattle.block_commands.specs.Inner.Ready.{needs}
+use Rattle.block_commands.specs.Needs.{needs}
 use Rattle.unit_history.specs.Flushes.{is_flush}
 use Rattle.unit_history.specs.declared.outcomes.Entered.{Entered}
 use Rattle.unit_history.specs.declared.outcomes.Entered.TheVariants as entered

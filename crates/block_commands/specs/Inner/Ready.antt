@@ -70,23 +70,6 @@ is_near blocks (CompareAndWrite lba count) bytes b = is_near_to blocks lba count
 is_near blocks (Wide command) bytes b = is_near_wide blocks command b
 is_near blocks _ bytes b = false
 
--- whether a command of the wide profile alone needs blocks of a unit of so many
-abbrev pub needs_wide : ℕ → WideCommand → Bool
-needs_wide blocks (Verify sent count lba) = is_in_range blocks lba count
-needs_wide blocks (WriteZeros count lba) = is_in_range blocks lba count
-needs_wide blocks (OrWrite count lba) = is_in_range blocks lba count
-needs_wide blocks _ = false
-
--- whether a command needs blocks: it names some that lie below the capacity; an UNMAP may
-abbrev pub needs : ℕ → Command → Bool
-needs blocks (Read lba count) = is_in_range blocks lba count
-needs blocks (Write lba count) = is_in_range blocks lba count
-needs blocks (WriteSame lba count) = is_in_range blocks lba count
-needs blocks (Unmap list_length) = true
-needs blocks (CompareAndWrite lba count) = is_in_range blocks lba count
-needs blocks (Wide command) = needs_wide blocks command
-needs blocks _ = false
-
 -- the command can run: what it reads, and what is beside what it writes, is in memory, and what it writes has room
 pub record IsReady (held room : ℕ → Bool) (blocks : ℕ) (command : Command) (bytes : List ℕ) : Type 0 where
   pub read : (b : ℕ) → IsTrue (is_read blocks command b) → IsTrue (held b)

@@ -5,7 +5,7 @@ use Rattle.unit_history.proofs.Basing.{based_on, behind_moved, ran_folds, ran_si
 use Rattle.std.specs.Option.{option_copied, option_map}
 use Rattle.backed_store.specs.Disks as disks
 use Rattle.block_commands.specs.Inner.Told.{facts_of}
-use Rattle.block_commands.specs.Inner.Ready.{needs}
+use Rattle.block_commands.specs.Needs.{needs}
 use Rattle.unit_history.specs.Fields.{opening_of}
 use Rattle.unit_history.specs.Inner.Performing.{performed_of, told, step_for}
 use Rattle.task_set.specs.Inner.Tasks.{task_at, seen_of}

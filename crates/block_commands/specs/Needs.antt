@@ -1,0 +1,24 @@
+-- Which commands need blocks.
+use Rattle.std.specs.Prelude.{ℕ, Bool, true, false}
+use Rattle.cdb.specs.declared.commands.Command.{Command}
+use Rattle.cdb.specs.declared.commands.Command.TheVariants.{Read, Write, WriteSame, Unmap, CompareAndWrite, Wide}
+use Rattle.cdb.specs.declared.wide_commands.WideCommand.{WideCommand}
+use Rattle.cdb.specs.declared.wide_commands.WideCommand.TheVariants.{Verify, WriteZeros, OrWrite}
+use Rattle.command_model.specs.Capacity.{is_in_range}
+
+-- whether a command of the wide profile alone needs blocks of a unit of so many
+abbrev pub needs_wide : ℕ → WideCommand → Bool
+needs_wide blocks (Verify sent count lba) = is_in_range blocks lba count
+needs_wide blocks (WriteZeros count lba) = is_in_range blocks lba count
+needs_wide blocks (OrWrite count lba) = is_in_range blocks lba count
+needs_wide blocks _ = false
+
+-- whether a command needs blocks: it names some that lie below the capacity; an UNMAP may
+abbrev pub needs : ℕ → Command → Bool
+needs blocks (Read lba count) = is_in_range blocks lba count
+needs blocks (Write lba count) = is_in_range blocks lba count
+needs blocks (WriteSame lba count) = is_in_range blocks lba count
+needs blocks (Unmap list_length) = true
+needs blocks (CompareAndWrite lba count) = is_in_range blocks lba count
+needs blocks (Wide command) = needs_wide blocks command
+needs blocks _ = false
