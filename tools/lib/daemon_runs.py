@@ -809,7 +809,7 @@ def test_kept_naa(room):
         return naas(room, *words)[0]
 
     first = naa()
-    assert first[0] == "3" and kept.read_text() == first + "\n" and sorted(it.name for it in room.folder.glob("*.naa*")) == [kept.name]
+    assert first and first[0] == "3" and kept.read_text() == first + "\n" and sorted(it.name for it in room.folder.glob("*.naa*")) == [kept.name]
     assert naa() == first
     kept.unlink()
     assert naa() != first
@@ -848,13 +848,15 @@ def test_naa_of_one_image(room):
 def test_naa_of_a_closed_folder(room):
     """Where an NAA can't be kept, the disk has none, and the log says so."""
     # The longest of names, and one that leaves no room for a file beside its own.
-    for name in ("d" * 255, "d" * 250):
+    for name in ("d" * 255, "e" * 250):
         disk = room.file(name)
         with driven(room, "--disk", f"0:0=file={disk}", ends=0) as (_, front, log):
             assert page(front, 0, 0, 0x83) == b"\x00\x83\x00\x19" + b"\x02\x01\x00\x15VSCSI   VSCSI00000000"
             assert f"({disk}): it has no NAA: " in log.read_text(), log.read_text()
-        assert [it.name for it in room.folder.glob("d*")] == [name]
-        disk.unlink()
+        assert not list(room.folder.glob("*.naa*"))
+    # One that stands there is read all the same.
+    (room.folder / f"{name}.naa").write_text("3000000000000009")
+    assert naas(room, "--disk", f"0:0=file={disk}") == ["3000000000000009"]
 
 
 def test_naa_of_a_poor_file_system(room):
@@ -1261,15 +1263,20 @@ def test_control_names(room):
         beside.write_text("3000000000000005\n")
         for lun in (5, 6):
             asks("attach", f"0:{lun}=file={wrong},snapshot")
+        # So it does where no file could be made.
+        long = room.file("e" * 250)
+        (room.folder / f"{long.name}.naa").write_text("3000000000000008")
+        asks("attach", f"0:8=file={long}")
         file = os.open(wrong, os.O_RDONLY)
         with Asking(path) as asking:
             assert asking.ask("attach", disk="0:7=1M", naa="3000000000000007") == "BadDisk"
             assert asking.ask("attach", disk="0:7=1M", naa=7) == "BadRequest"
-            for more, naa in ((",naa=3000000000000008", "3000000000000007"), (",profile=narrow", "3000000000000007"), ("", "300000000000000")):
+            for more, naa in ((",naa=3000000000000006", "3000000000000007"), (",profile=narrow", "3000000000000007"), ("", "300000000000000")):
                 assert asking.ask("attach", [file], disk=f"0:7=file={wrong},snapshot{more}", naa=naa) == "BadDisk", more
         os.close(file)
         with FrontEnd(connected(room.socket)) as front:
-            assert [naa_of(page(front, number, lun, 0x83)) for number, lun in enumerate((5, 6))] == ["3000000000000005", None]
+            told_then = [naa_of(page(front, number, lun, 0x83)) for number, lun in enumerate((5, 6, 8))]
+            assert told_then == ["3000000000000005", None, "3000000000000008"], told_then
     # The next start has the same one.
     assert naas(room, "--disk", f"0:0=file={word}") == [told[1]]
     return None
