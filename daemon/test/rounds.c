@@ -62,8 +62,8 @@ void test_slow(void) {
       if (front_reply(&front, payload, sizeof payload) && answered++) MUST(little_get(payload, 4) == 3);
       MUST(seen < 60 || answered);
     }
-    // On a machine that is busy a round may have fewer. What it hadn't taken goes on.
-    MUST(turns > 3 && await(&front, Q, 60 - seen, PATIENCE) == 60 - seen && has_all(&front, 60));
+    // On a machine that is busy a round may have fewer, which take less time. What it hadn't taken goes on.
+    MUST((turns > 3 || seen < 40) && await(&front, Q, 60 - seen, PATIENCE) == 60 - seen && has_all(&front, 60));
     load_end(&front, &disks);
   }
 }
