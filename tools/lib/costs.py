@@ -5,11 +5,12 @@ system's own count of what they used.
 """
 
 import os
-import re
 import resource
 import threading
 import time
 from pathlib import Path
+
+import crate_list
 
 # How often the processes are looked at, in seconds. What a process uses after the last look is in no step.
 EVERY = 0.5
@@ -184,10 +185,7 @@ class Costs:
 
 def crates():
     """The crates with the crates of this repository below each, lowest first."""
-    lines = [line.split("#")[0] for line in (ROOT / "crates.txt").read_text().splitlines()]
-    named = {line.split(":")[0].split()[0]: line.split(":")[1].split() for line in lines if ":" in line}
-    below = {name: [it for it in deps if it in named] for name, deps in named.items()}
-    order = []
+    below, order = crate_list.below(), []
 
     def place(name):
         for it in below[name]:

@@ -41,6 +41,11 @@ class Definition:
         return re.findall(r"^ +(?:pub )?(\w+) :", "\n".join(self.lines), re.M) if re.search(r"\bdata ", self.lines[0]) else []
 
 
+def words_of(lines):
+    """The words of comment lines, without those of attributes between them."""
+    return " ".join(re.sub(r"^\s*(?:--|//[/!]?) ?", "", line).strip() for line in lines if not line.lstrip().startswith("#[")).strip()
+
+
 def file_of(module):
     """The file of specs/ that a module's name stands for."""
     _, crate, _, *rest = module.split(".")

@@ -16,6 +16,8 @@ import tempfile
 from functools import cache
 from pathlib import Path
 
+from kit import kit
+
 ROOT = Path(__file__).resolve().parent.parent.parent
 
 # The folders of a crate that hold edits: those that `rt ci` tries, and all others.
@@ -138,11 +140,6 @@ def check(crate, texts, paths):
             only = ["--incremental", "incremental"]
         run = subprocess.run([rtlib.RATTLE, "check", *words, *only], cwd=room, stdin=subprocess.DEVNULL, stdout=subprocess.PIPE, stderr=subprocess.STDOUT, text=True, errors="replace")
     return run.returncode, run.stdout.splitlines()
-
-
-def kit():
-    """Where the kit stands."""
-    return Path(subprocess.run(["rt", "doc"], capture_output=True, text=True, check=True).stdout.strip()).parent
 
 
 def refused_by(lines):

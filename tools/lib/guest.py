@@ -52,9 +52,9 @@ def wanted(*programs):
     kernels = sorted(Path("/boot").glob("vmlinuz-*"))
     lacks = [name for name in ("qemu-system-x86_64", "busybox", "mkfs.ext4", "e2fsck", "cpio", *programs) if not shutil.which(name)]
     if lacks or not kernels:
-        sys.exit(f"boot_guest: wants {', '.join(lacks) or 'a kernel'}: apt-get install {PACKAGES}")
+        sys.exit(f"{Path(sys.argv[0]).name}: wants {', '.join(lacks) or 'a kernel'}: apt-get install {PACKAGES}")
     if not DAEMON.is_file():
-        sys.exit("boot_guest: wants the daemon: tools/build/daemon")
+        sys.exit(f"{Path(sys.argv[0]).name}: wants the daemon: tools/build/daemon")
     return kernels[-1]
 
 

@@ -7,8 +7,9 @@ gives, and on all below. Words are resolved as text, so it may be said of a few 
 
 import re
 
+import crate_list
 from clauses import NAME, Source
-from definitions import CRATES, ROOT, Definition, Specs
+from definitions import CRATES, Definition, Specs
 
 # The crates whose clauses are promises: the device, its hosts and their threads, the library for C, memory that a guest writes.
 SURFACE = ("world", "workers", "close_audit", "lock_scopes", "worker_steps", "vscsi_c", "live_mem", "host_bus")
@@ -39,8 +40,7 @@ class Reached:
     """Definitions, types and traits, each with what it rests on."""
 
     def __init__(self, specs=None):
-        lines = (ROOT / "crates.txt").read_text().splitlines()
-        self.crates = [line.split(":")[0].split()[0] for line in lines if ":" in line]
+        self.crates = crate_list.names()
         self.specs = specs or Specs()
         self.sources = {file: Source(file) for crate in self.crates for file in sorted((CRATES / crate / "src").rglob("*.rt"))}
         self.types, self.impls, self.functions = {}, {}, []
