@@ -135,14 +135,14 @@ struct vscsi_unit {
 /* A rotation rate that is told as not reported (SBC-3, 6.6.3). Since 1.6. */
 #define VSCSI_RATE_NOT_REPORTED 0xffffu
 
-/* The format in which a unit of the wide profile sends sense data beside a status (SPC-4, 4.5). Since 1.7. */
+/* The format in which a unit of the wide profile sends sense data beside a status (SPC-4, 4.5). Since 1.6. */
 enum vscsi_sense_format {
   VSCSI_SENSE_FIXED = 0,     /* 18 bytes; D_SENSE is 0 */
   VSCSI_SENSE_DESCRIPTOR = 1 /* 8 or 20 bytes; D_SENSE is 1 */
 };
 
-/* What a disk of the wide profile says of itself, by INQUIRY, READ CAPACITY (16) and MODE SENSE. Zeros leave all as it is without it. Texts
- * are printable ASCII, and end with a 0 where they are shorter than their field. Since 1.6. */
+/* What a disk of the wide profile says of itself, by INQUIRY, READ CAPACITY (16) and MODE SENSE. Zeros leave all as it is
+ * without it. Texts are printable ASCII, and end with a 0 where they are shorter than their field. Since 1.6. */
 struct vscsi_identity {
   char vendor[8];            /* the T10 vendor identification; empty: VSCSI */
   char product[16];          /* the product identification; empty: TASK SET DISK */
@@ -151,7 +151,7 @@ struct vscsi_identity {
   uint8_t naa[8];            /* an NAA designator of NAA 3h or 5h, which no other unit has; zeros: none */
   uint16_t rotation_rate;    /* 0 and 1: doesn't rotate; 0401h to FFFEh: turns a minute; or VSCSI_RATE_NOT_REPORTED */
   uint8_t physical_exponent; /* a physical block has 2 to this power blocks, 0 to 15 */
-  uint8_t sense_format;      /* an `enum vscsi_sense_format`. Since 1.7; 0 before */
+  uint8_t sense_format;      /* an `enum vscsi_sense_format` */
 };
 
 /* The device that is wanted. Guest memory has 1 to 65,536 pages of 4,096 bytes. Queue 0 is the control queue, queue 1 the
@@ -178,9 +178,9 @@ struct vscsi_config {
   const struct vscsi_identity *identities;
 };
 
-/* Why a configuration isn't taken: the first of these, in this order, that is so; but queues are looked at one after the
- * other for 4 and 5, units for 9, 10 and 15, and units for 14, and then for what C has of 15, before all else. Of a queue or a unit `place` says which, from 0.
- * No cause has number 6 or 7. */
+/* Why a configuration isn't taken: the first of these, in this order, that is so. But queues are looked at one after the
+ * other for 4 and 5, and so are units for 9, 10 and 15. Before all else units are looked at for 14, and then for what C has
+ * of 15. Of a queue or a unit `place` says which, from 0. No cause has number 6 or 7. */
 enum vscsi_cause {
   VSCSI_CAUSE_PAGES = 1,        /* no pages, or more than 65,536 */
   VSCSI_CAUSE_FEATURES = 2,     /* no VSCSI_F_VERSION_1, or one that isn't among VSCSI_ACCEPTED_FEATURES */
