@@ -149,12 +149,12 @@ class Specs:
             self.types[module] = same or it
         return self.types[module]
 
-    def below(self, roots):
-        """All that these definitions rest on, themselves included."""
+    def below(self, roots, closed=frozenset()):
+        """All that these definitions rest on, themselves included, without closed ones and what is reached by these alone."""
         seen, left = set(), list(roots)
         while left:
             it = left.pop()
-            if it not in seen:
+            if it not in seen and it not in closed:
                 seen.add(it)
                 left += it.rests_on
         return seen
