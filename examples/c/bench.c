@@ -11,17 +11,12 @@
 // 2.8.7). DEPTH is a power of two up to 256, and 2 or more for packed-table. The status is 1 where a request wasn't answered
 // well, 2 where the words name no work, 3 for want of memory.
 #define _POSIX_C_SOURCE 199309L
-#include <stdio.h>
-#include <stdlib.h>
-#include <string.h>
 #include <time.h>
 
-#include "vscsi.h"
+#define EXAMPLE "bench"
+#include "guest.h"
 
-enum { QUEUES = 3, MOST_DEPTH = 256, REQUEST = 51, RESPONSE = 108, LARGE = 128, FEW_ROUNDS = 3, FEW_REQUESTS = 4 };
-
-// Descriptor flags (VIRTIO 1.2, 2.7.5 and 2.8.1).
-enum { NEXT = 1, WRITE = 2, INDIRECT = 4, AVAILABLE = 0x80, USED = 0x8000 };
+enum { MOST_DEPTH = 256, LARGE = 128, FEW_ROUNDS = 3, FEW_REQUESTS = 4 };
 
 // The descriptors of a request at the most.
 enum { MOST_PARTS = 3 };
@@ -61,7 +56,7 @@ struct request {
   uint32_t sent, taken;
 };
 
-static uint8_t even[MOST_DEPTH * 16 * MOST_PARTS], odd[MOST_DEPTH * 16 * MOST_PARTS];
+static struct descriptor even[MOST_DEPTH * MOST_PARTS], odd[MOST_DEPTH * MOST_PARTS];
 static uint64_t responses[MOST_DEPTH];
 
 static bool is_large(enum kind kind) { return kind == READ_64K || kind == WRITE_64K; }
@@ -71,51 +66,31 @@ static unsigned blocks_of(enum kind kind) { return kind <= TUR ? 0 : is_large(ki
 #ifdef LIVE
 static struct vscsi_live device;
 static _Alignas(VSCSI_PAGE) uint8_t memory[AREAS + MOST_DEPTH * LARGE_AREA], above[VSCSI_PAGE];
+static const struct guest guest = {.memory = memory};
 
 static enum vscsi_answer destroy(void) { return vscsi_live_destroy(&device); }
-#else
-static struct vscsi device;
-
-static enum vscsi_answer destroy(void) { return vscsi_destroy(&device); }
-#endif
-
-// Ends the program where a call didn't do what it was asked for.
-static void must(enum vscsi_answer answer) {
-  if (answer == VSCSI_DONE) return;
-  fprintf(stderr, "bench: a call answered %d\n", answer);
-  destroy();
-  exit(answer == VSCSI_NO_MEMORY ? 3 : 1);
-}
-
-#ifdef LIVE
-static void poke(uint64_t addr, const void *bytes, size_t count) { memcpy(memory + addr, bytes, count); }
-
-static void peek(uint64_t addr, void *into, size_t count) { memcpy(into, memory + addr, count); }
 
 // Serves all that is there. How many steps that took.
 static uint64_t settle(void) {
   uint64_t steps = 0;
   bool more;
-  must(vscsi_live_serve(&device, ~UINT32_C(0), UINT64_MAX, &steps, &more));
+  must("serve", vscsi_live_serve(&device, ~UINT32_C(0), UINT64_MAX, &steps, &more));
   return steps;
 }
 #else
-static void poke(uint64_t addr, const void *bytes, size_t count) { must(vscsi_poke(&device, addr, bytes, count)); }
+static struct vscsi device;
+static const struct guest guest = {.device = &device};
 
-static void peek(uint64_t addr, void *into, size_t count) { must(vscsi_peek(&device, addr, into, count)); }
+static enum vscsi_answer destroy(void) { return vscsi_destroy(&device); }
 
 static uint64_t settle(void) {
   uint64_t steps = 0;
-  must(vscsi_settle(&device, &steps));
+  must("settle", vscsi_settle(&device, &steps));
   return steps;
 }
 #endif
 
-// Numbers in guest memory stand with their lowest byte first, and in a command block with their highest.
-static void little(uint8_t *into, uint64_t number, size_t bytes) {
-  for (size_t i = 0; i < bytes; i++) into[i] = (uint8_t)(number >> 8 * i);
-}
-
+// Numbers in a command block stand with their highest byte first.
 static void big(uint8_t *into, unsigned number) {
   into[0] = (uint8_t)(number >> 8);
   into[1] = (uint8_t)number;
@@ -135,7 +110,7 @@ static void command(struct request *request, uint8_t opcode, unsigned first, uns
 static struct request request_of(enum kind kind, unsigned number) {
   struct request request = {.bytes = {1, 0, 0x40, 0}};
   enum kind its = kind;
-  little(request.bytes + 8, number, 2);
+  memcpy(request.bytes + 8, &(uint16_t){(uint16_t)number}, 2);
   if (kind == MIXED) {
     its = number % 3 == 0 ? READ_512 : number % 3 == 1 ? WRITE_512 : TUR;
     request.bytes[3] = number % 2;
@@ -151,31 +126,16 @@ static uint64_t request_at(enum kind kind, unsigned number) {
   return AREAS + (uint64_t)number * (is_large(kind) ? LARGE_AREA : SMALL_AREA);
 }
 
-// A descriptor of either form: the pair is flags and next of a split one, id and flags of a packed one.
-static void descriptor(uint8_t *into, uint64_t addr, uint32_t length, unsigned first, unsigned second) {
-  little(into, addr, 8);
-  little(into + 8, length, 4);
-  little(into + 12, first, 2);
-  little(into + 14, second, 2);
-}
-
-// A part of a request: an area of memory, which the device writes or reads.
-struct part {
-  uint64_t addr;
-  uint32_t length;
-  bool written;
-};
-
 // The parts of a request, whose response goes right behind it, at a multiple of 64. How many there are.
-static unsigned parts_of(const struct work *work, unsigned number, struct part *parts) {
+static unsigned parts_of(const struct work *work, unsigned number, struct descriptor *parts) {
   const struct request request = request_of(work->kind, number);
   uint64_t at = request_at(work->kind, number);
   uint32_t sent = REQUEST + request.sent;
   bool apart = work->way != PLAIN && request.taken;
   responses[number] = at + (sent / 64 + 1) * 64;
-  parts[0] = (struct part){at, sent, false};
-  parts[1] = (struct part){responses[number], RESPONSE + (apart ? 0 : request.taken), true};
-  parts[2] = (struct part){responses[number] + RESPONSE, request.taken, true};
+  parts[0] = (struct descriptor){at, sent, 0, 0};
+  parts[1] = (struct descriptor){responses[number], RESPONSE + (apart ? 0 : request.taken), WRITE, 0};
+  parts[2] = (struct descriptor){responses[number] + RESPONSE, request.taken, WRITE, 0};
   return apart ? 3 : 2;
 }
 
@@ -187,63 +147,60 @@ static unsigned size_of(const struct work *work) { return (work->packed ? slots_
 
 // The descriptors of a request's parts: those of a table, of a split ring from a number on, or of a packed ring with an id and
 // these flags.
-static void chain(const struct work *work, const struct part *parts, unsigned count, unsigned number, unsigned flags, uint8_t *into) {
+static void chain(const struct work *work, const struct descriptor *parts, unsigned count, unsigned number, unsigned flags, struct descriptor *into) {
   for (unsigned i = 0; i < count; i++) {
-    unsigned its = flags | (parts[i].written ? WRITE : 0) | (i + 1 < count ? NEXT : 0);
-    if (work->packed) descriptor(into + 16 * i, parts[i].addr, parts[i].length, number, its);
-    else descriptor(into + 16 * i, parts[i].addr, parts[i].length, its, i + 1 < count ? number + i + 1 : 0);
+    bool last = i + 1 == count;
+    into[i] = entry(work->packed, parts[i].addr, parts[i].length, flags | parts[i].flags | (last ? 0 : NEXT), last ? 0 : number + i + 1, number);
   }
 }
 
 // Puts the table of a request into memory, in the place of its parts.
-static void put_table(const struct work *work, unsigned number, struct part *parts, unsigned count) {
+static void put_table(const struct work *work, unsigned number, struct descriptor *parts, unsigned count) {
   uint64_t at = request_at(work->kind, number + 1) - TABLE;
-  uint8_t entries[16 * MOST_PARTS];
+  struct descriptor entries[MOST_PARTS];
   chain(work, parts, count, 0, 0, entries);
-  poke(at, entries, 16 * count);
-  parts[0] = (struct part){at, 16 * count, false};
+  store(&guest, at, entries, ENTRY * count);
+  parts[0] = (struct descriptor){at, ENTRY * count, 0, 0};
 }
 
 // Puts a request into memory: its bytes, and its chain into the table of a split queue and into its available ring, or into
 // the descriptors of a packed queue as the driver writes them in rounds with an even and with an odd number.
-static void put(const struct work *work, unsigned number) {
+static void put_request(const struct work *work, unsigned number) {
   const struct request request = request_of(work->kind, number);
-  struct part parts[MOST_PARTS];
+  struct descriptor parts[MOST_PARTS], ring[MOST_PARTS];
   unsigned count = parts_of(work, number, parts), slots = slots_of(work), extra = 0;
-  uint8_t ring[16 * MOST_PARTS], head[2];
-  poke(request_at(work->kind, number), request.bytes, REQUEST);
+  store(&guest, request_at(work->kind, number), request.bytes, REQUEST);
   if (work->way == TABLES) {
     put_table(work, number, parts, count);
     count = 1;
     extra = INDIRECT;
   }
   if (work->packed) {
-    chain(work, parts, count, number, extra | AVAILABLE, even + 16 * slots * number);
-    chain(work, parts, count, number, extra | USED, odd + 16 * slots * number);
+    chain(work, parts, count, number, extra | AVAILABLE, even + slots * number);
+    chain(work, parts, count, number, extra | USED, odd + slots * number);
     return;
   }
   chain(work, parts, count, slots * number, extra, ring);
-  poke(16 * slots * number, ring, 16 * count);
-  little(head, slots * number, 2);
-  for (unsigned entry = number; entry < size_of(work); entry += work->depth) poke(DRIVER + 4 + 2 * entry, head, 2);
+  store(&guest, ENTRY * slots * number, ring, ENTRY * count);
+  for (unsigned at = number; at < size_of(work); at += work->depth) store(&guest, DRIVER + 4 + 2 * at, &(uint16_t){(uint16_t)(slots * number)}, 2);
 }
 
 // Makes the device of a configuration. Live memory has two regions, of which the guest uses the lower one.
 static void create(const struct vscsi_config *config) {
 #ifdef LIVE
   const struct vscsi_region regions[2] = {{0, sizeof memory, memory}, {UINT64_C(1) << 32, sizeof above, above}};
-  struct vscsi_ring its[QUEUES];
-  const struct vscsi_live_config live = {.size = sizeof live, .features = config->features, .rings = its, .ring_count = QUEUES,
-                                         .units = config->units, .unit_count = config->unit_count};
+  struct vscsi_ring its[QUEUES] = {0};
+  struct vscsi_live_config live = live_config_of(config->units, config->unit_count, its, 0);
+  live.features = config->features;
   for (unsigned q = 0; q < QUEUES; q++) {
     const struct vscsi_queue *queue = &config->queues[q];
     its[q] = (struct vscsi_ring){.desc = queue->desc, .driver = queue->driver, .device = queue->device, .size = queue->size};
   }
   memset(memory, 0, AREAS);
-  must(vscsi_live_create(&device, &live, NULL, NULL));
-  must(vscsi_map(&device, regions, 2));
+  must("create", vscsi_live_create(&device, &live, NULL, NULL));
+  must("map", vscsi_map(&device, regions, 2));
 #else
-  must(vscsi_create(&device, config, NULL));
+  must("create", vscsi_create(&device, config, NULL));
 #endif
 }
 
@@ -255,27 +212,18 @@ static void begin(const struct work *work) {
       {.desc = 0, .driver = DRIVER, .device = DEVICE, .size = (uint16_t)size_of(work)}};
   const uint64_t blocks = MOST_DEPTH * (uint64_t)blocks_of(work->kind) + 1;
   const struct vscsi_unit units[2] = {{.blocks = blocks, .lun = 0, .calm = 1}, {.blocks = blocks, .lun = 1, .calm = 1}};
-  const struct vscsi_config config = {.size = sizeof config,
-                                      .features = VSCSI_F_VERSION_1 | (work->packed ? VSCSI_F_RING_PACKED : 0) |
-                                                  (work->way == TABLES ? VSCSI_F_INDIRECT_DESC : 0),
-                                      .queues = queues,
-                                      .queue_count = QUEUES,
-                                      .units = units,
-                                      .unit_count = 2,
-                                      .pages = (uint32_t)(request_at(work->kind, work->depth) / VSCSI_PAGE + 1)};
+  struct vscsi_config config = config_of(units, 2);
+  config.features |= (work->packed ? VSCSI_F_RING_PACKED : 0) | (work->way == TABLES ? VSCSI_F_INDIRECT_DESC : 0);
+  config.queues = queues;
+  config.pages = (uint32_t)(request_at(work->kind, work->depth) / VSCSI_PAGE + 1);
   create(&config);
-  for (unsigned number = 0; number < work->depth; number++) put(work, number);
+  for (unsigned number = 0; number < work->depth; number++) put_request(work, number);
 }
 
 // Makes all requests available, the first time with an index of 0.
 static void send(const struct work *work, uint64_t round) {
-  uint8_t index[2];
-  if (work->packed) {
-    poke(0, round % 2 ? odd : even, 16 * slots_of(work) * work->depth);
-    return;
-  }
-  little(index, (round + 1) * work->depth, 2);
-  poke(DRIVER + 2, index, 2);
+  if (work->packed) store(&guest, 0, round % 2 ? odd : even, ENTRY * slots_of(work) * work->depth);
+  else store(&guest, DRIVER + 2, &(uint16_t){(uint16_t)((round + 1) * work->depth)}, 2);
 }
 
 // How many requests ended with GOOD.
@@ -284,7 +232,7 @@ static unsigned found(const struct work *work) {
   uint8_t head[12];
   unsigned count = 0;
   for (unsigned number = 0; number < work->depth; number++) {
-    peek(responses[number], head, sizeof head);
+    load(&guest, responses[number], head, sizeof head);
     count += memcmp(head, good, sizeof head) == 0;
   }
   return count;
@@ -296,7 +244,7 @@ static unsigned serve_round(const struct work *work, uint64_t round) {
   uint8_t open[12];
   uint64_t steps = 0;
   memset(open, 255, sizeof open);
-  for (unsigned number = 0; number < work->depth; number++) poke(responses[number], open, sizeof open);
+  for (unsigned number = 0; number < work->depth; number++) store(&guest, responses[number], open, sizeof open);
   send(work, round);
   if (work->kind != NONE) steps = settle();
   unsigned good = found(work);
@@ -347,17 +295,17 @@ int main(int count, char **words) {
     uint64_t start = now();
     uint64_t good = serve(&work);
     printf("%llu requests in %llu ns\n", (unsigned long long)good, (unsigned long long)(now() - start));
-    must(destroy());
+    must("destroy", destroy());
     return 0;
   }
   if (count != 1) return 2;
   for (unsigned ring = 0; ring < 2 * WAYS; ring++) {
     for (unsigned kind = 0; kind < KINDS; kind++) {
-      work = (struct work){.kind = (enum kind)kind, .packed = ring / WAYS, .way = (enum ring)(ring % WAYS), .depth = FEW_REQUESTS, .rounds = FEW_ROUNDS};
+      work = (struct work){(enum kind)kind, ring / WAYS, (enum ring)(ring % WAYS), FEW_REQUESTS, FEW_ROUNDS};
       if (!has(work.packed, work.way, work.kind)) continue;
       begin(&work);
       printf("%s %s: %llu\n", names[kind], rings[ring / WAYS][ring % WAYS], (unsigned long long)serve(&work));
-      must(destroy());
+      must("destroy", destroy());
     }
   }
   return 0;

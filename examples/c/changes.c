@@ -1,16 +1,13 @@
 // What vscsi_changed tells of. Two hosts keep a copy of the same disk, each with a place of its own, and write through what
 // they are told; behind each call the copy has to be the disk. Blocks that follow one another are one range, 64 ranges are kept
 // apart, and then all may have changed. What only reads isn't told.
-#include <stdio.h>
-#include <stdlib.h>
-#include <string.h>
+#define EXAMPLE "changes"
+#include "guest.h"
 
-#include "vscsi.h"
-
-enum { QUEUES = 3, SIZE = 8, REQUEST = 51, RESPONSE = 108, NEXT = 1, WRITE = 2, BLOCKS = 256, ROOM = 300, BUSY = 8 };
-enum { REQUEST_AT = 0x8000, DATA_AT = 0x9000, RESPONSE_AT = 0xa000, IN_AT = 0xb000 };
+enum { BLOCKS = 256, ROOM = 300, BUSY = 8 };
 
 static struct vscsi device;
+static struct guest guest = {.device = &device};
 
 // A host that keeps a copy of unit 0:0.
 struct host {
@@ -21,82 +18,55 @@ struct host {
 
 static struct host first = {.name = "first"}, second = {.name = "second"};
 
-// Ends the example where a call didn't do what it was asked for.
-static void must(const char *call, enum vscsi_answer answer) {
-  if (answer == VSCSI_DONE) return;
-  fprintf(stderr, "changes: %s answered %d: %s\n", call, answer, vscsi_answer_text(answer));
-  vscsi_destroy(&device);
-  exit(answer == VSCSI_NO_MEMORY ? 3 : 1);
-}
+// Leaves no memory behind, wherever the example ends.
+static void end(void) { vscsi_destroy(&device); }
 
-static uint64_t area(unsigned queue) { return 0x1000 * (queue + 1); }
-
-// Numbers in guest memory stand with their lowest byte first.
-static void put(uint64_t addr, uint64_t number, size_t bytes) {
-  uint8_t room[8];
-  for (size_t i = 0; i < bytes; i++) room[i] = (uint8_t)(number >> 8 * i);
-  must("poke", vscsi_poke(&device, addr, room, bytes));
-}
-
-static void descriptor(unsigned at, uint64_t addr, uint32_t length, unsigned flags, unsigned next) {
-  uint64_t place = area(2) + 16 * at;
-  put(place, addr, 8);
-  put(place + 8, length, 4);
-  put(place + 12, flags, 2);
-  put(place + 14, next, 2);
-}
-
-// Sends a command to a target's unit, with data that stand at DATA_AT and room for data at IN_AT, and has it end with a status.
-static void send(unsigned target, const uint8_t *block, size_t length, uint32_t out, uint32_t in, uint8_t wanted) {
-  static uint16_t count;
-  uint8_t bytes[REQUEST] = {1, (uint8_t)target, 0x40, 0}, status;
-  memcpy(bytes + 19, block, length);
-  must("poke", vscsi_poke(&device, REQUEST_AT, bytes, sizeof bytes));
-  descriptor(0, REQUEST_AT, REQUEST, NEXT, out ? 1 : 2);
-  descriptor(1, DATA_AT, out, NEXT, 2);
-  descriptor(2, RESPONSE_AT, RESPONSE, in ? NEXT | WRITE : WRITE, 3);
-  descriptor(3, IN_AT, in, WRITE, 0);
-  put(area(2) + 0x402, ++count, 2);
+// Serves the guest's request, a command that ends with a status.
+static void serve(unsigned opcode, uint8_t wanted) {
   must("serve", vscsi_serve(&device, 1u << 2, 100, NULL, NULL));
-  must("peek", vscsi_peek(&device, RESPONSE_AT + 10, &status, 1));
+  uint8_t status = response_of(&guest).status;
   if (status == wanted) return;
-  printf("command %02x status=%02x\n", block[0], status);
-  vscsi_destroy(&device);
+  printf("command %02x status=%02x\n", opcode, status);
   exit(status == BUSY ? 0 : 1);
+}
+
+// Sends a command of unit 0:0, with data that stand at DATA_AT and room for data at IN_AT, and has it end with a status.
+static void send(const uint8_t *block, size_t length, uint32_t out, uint32_t in, uint8_t wanted) {
+  request(&guest, 0, block, length, out, in);
+  serve(block[0], wanted);
 }
 
 // Fills the data that go out with a byte.
 static void fill(unsigned at, unsigned count, uint8_t byte) {
   uint8_t bytes[4 * VSCSI_BLOCK];
   memset(bytes, byte, sizeof bytes);
-  must("poke", vscsi_poke(&device, DATA_AT + at, bytes, count));
+  store(&guest, DATA_AT + at, bytes, count);
 }
 
-// WRITE (10) of one block, each time of another byte.
-static void write_block(unsigned target, unsigned lba) {
+// Writes a block, each time of another byte.
+static void write_next(unsigned target, unsigned lba) {
   static uint8_t byte;
-  fill(0, VSCSI_BLOCK, ++byte);
-  send(target, (uint8_t[]){0x2a, 0, 0, 0, (uint8_t)(lba >> 8), (uint8_t)lba, 0, 0, 1, 0}, 10, VSCSI_BLOCK, 0, 0);
+  write_block(&guest, target, lba, ++byte);
+  serve(0x2a, 0);
 }
 
 // UNMAP of three blocks at each `apart`th block, so many times.
 static void unmap(unsigned from, unsigned apart, unsigned times) {
   unsigned length = 8 + 16 * times;
-  fill(0, length, 0);
-  put(DATA_AT + 1, length - 2, 1), put(DATA_AT, (length - 2) >> 8, 1);
-  put(DATA_AT + 3, length - 8, 1), put(DATA_AT + 2, (length - 8) >> 8, 1);
+  uint8_t list[8 + 16 * 16] = {(uint8_t)((length - 2) >> 8), (uint8_t)(length - 2), (uint8_t)((length - 8) >> 8), (uint8_t)(length - 8)};
   for (unsigned i = 0; i < times; i++) {
-    put(DATA_AT + 8 + 16 * i + 7, from + apart * i, 1);
-    put(DATA_AT + 8 + 16 * i + 11, 3, 1);
+    list[8 + 16 * i + 7] = (uint8_t)(from + apart * i);
+    list[8 + 16 * i + 11] = 3;
   }
-  send(0, (uint8_t[]){0x42, 0, 0, 0, 0, 0, 0, (uint8_t)(length >> 8), (uint8_t)length, 0}, 10, length, 0, 0);
+  store(&guest, DATA_AT, list, length);
+  send((uint8_t[]){0x42, 0, 0, 0, 0, 0, 0, (uint8_t)(length >> 8), (uint8_t)length, 0}, 10, length, 0, 0);
 }
 
 // COMPARE AND WRITE of one block that has a byte now.
 static void compare_and_write(unsigned lba, uint8_t has, uint8_t gets, uint8_t wanted) {
   fill(0, VSCSI_BLOCK, has);
   fill(VSCSI_BLOCK, VSCSI_BLOCK, gets);
-  send(0, (uint8_t[]){0x89, 0, 0, 0, 0, 0, 0, 0, 0, (uint8_t)lba, 0, 0, 0, 1, 0, 0}, 16, 2 * VSCSI_BLOCK, 0, wanted);
+  send((uint8_t[]){0x89, 0, 0, 0, 0, 0, 0, 0, 0, (uint8_t)lba, 0, 0, 0, 1, 0, 0}, 16, 2 * VSCSI_BLOCK, 0, wanted);
 }
 
 static void print(const char *what, const struct host *host, const struct vscsi_range *ranges, size_t count, bool all) {
@@ -125,46 +95,36 @@ static void ask(const char *what, struct host *host) {
   if (memcmp(host->copy, disk, blocks * VSCSI_BLOCK)) printf("%s, %s host: the copy isn't the disk\n", what, host->name);
 }
 
-static void start(void) {
-  const struct vscsi_unit units[] = {{.blocks = BLOCKS, .calm = 1}, {.blocks = BLOCKS, .target = 1, .calm = 1}};
-  struct vscsi_queue queues[QUEUES];
-  for (unsigned q = 0; q < QUEUES; q++)
-    queues[q] = (struct vscsi_queue){.desc = area(q), .driver = area(q) + 0x400, .device = area(q) + 0x800, .size = SIZE};
-  const struct vscsi_config config = {
-      .size = sizeof config, .features = VSCSI_F_VERSION_1, .queues = queues, .queue_count = QUEUES, .units = units, .unit_count = 2, .pages = 16};
-  must("create", vscsi_create(&device, &config, NULL));
-}
-
 // One range grows with the blocks that follow it; ranges that lie apart are kept apart, and no more than 64.
 static void ranges(void) {
   ask("nothing yet", &first);
-  for (unsigned i = 0; i < 10; i++) write_block(0, 10 + i);
+  for (unsigned i = 0; i < 10; i++) write_next(0, 10 + i);
   ask("10 blocks in a row", &first);
-  for (unsigned i = 0; i < 160; i++) write_block(0, i % 32);
+  for (unsigned i = 0; i < 160; i++) write_next(0, i % 32);
   ask("32 blocks in a row, 5 times", &first);
-  for (unsigned i = 0; i < 64; i++) write_block(0, 4 * i);
+  for (unsigned i = 0; i < 64; i++) write_next(0, 4 * i);
   ask("64 blocks that lie apart", &first);
-  for (unsigned i = 0; i < 65; i++) write_block(0, 3 * i);
+  for (unsigned i = 0; i < 65; i++) write_next(0, 3 * i);
   ask("65 blocks that lie apart", &first);
-  write_block(0, 7);
+  write_next(0, 7);
   ask("one block since", &first);
 }
 
 // Which commands are told of.
 static void commands(void) {
   uint64_t before = first.place;
-  send(0, (uint8_t[]){0x28, 0, 0, 0, 0, 7, 0, 0, 1, 0}, 10, 0, VSCSI_BLOCK, 0);
-  send(0, (uint8_t[]){0x35, 0, 0, 0, 0, 0, 0, 0, 0, 0}, 10, 0, 0, 0);
+  send((uint8_t[]){0x28, 0, 0, 0, 0, 7, 0, 0, 1, 0}, 10, 0, VSCSI_BLOCK, 0);
+  send((uint8_t[]){0x35, 0, 0, 0, 0, 0, 0, 0, 0, 0}, 10, 0, 0, 0);
   ask("READ and SYNCHRONIZE CACHE", &first);
   if (first.place <= before) printf("the history stands still\n");
-  write_block(1, 9);
+  write_next(1, 9);
   ask("WRITE of another unit", &first);
   unmap(4, 20, 2);
   ask("UNMAP of two extents", &first);
   unmap(0, 16, 16);
   ask("UNMAP of 16 extents", &first);
   fill(0, VSCSI_BLOCK, 0x77);
-  send(0, (uint8_t[]){0x41, 0, 0, 0, 0, 100, 0, 0, 8, 0}, 10, VSCSI_BLOCK, 0, 0);
+  send((uint8_t[]){0x41, 0, 0, 0, 0, 100, 0, 0, 8, 0}, 10, VSCSI_BLOCK, 0, 0);
   ask("WRITE SAME", &first);
   compare_and_write(100, 0x77, 0x78, 0);
   ask("COMPARE AND WRITE", &first);
@@ -176,14 +136,14 @@ static void commands(void) {
 // An operator gives the unit other capacities, of which its next command is told.
 static void capacities(void) {
   must("resize", vscsi_resize(&device, 0, 0, BLOCKS + 4));
-  send(0, (uint8_t[6]){0}, 6, 0, 0, 2);
+  send((uint8_t[6]){0}, 6, 0, 0, 2);
   ask("4 blocks more", &first);
-  write_block(0, BLOCKS + 1);
+  write_next(0, BLOCKS + 1);
   must("resize", vscsi_resize(&device, 0, 0, BLOCKS));
-  send(0, (uint8_t[6]){0}, 6, 0, 0, 2);
+  send((uint8_t[6]){0}, 6, 0, 0, 2);
   ask("a block that was written and lost", &first);
   must("reset", vscsi_reset(&device, 0, 0));
-  send(0, (uint8_t[6]){0}, 6, 0, 0, 2);
+  send((uint8_t[6]){0}, 6, 0, 0, 2);
   ask("a reset", &first);
 }
 
@@ -191,18 +151,18 @@ static void capacities(void) {
 static void two_hosts(void) {
   ask("from the beginning", &second);
   ask("nothing since", &second);
-  write_block(0, 50);
+  write_next(0, 50);
   ask("block 50", &second);
   ask("block 50", &first);
-  write_block(0, 60);
+  write_next(0, 60);
   ask("block 60", &first);
   ask("block 60", &second);
   ask("nothing since", &first);
   ask("nothing since", &second);
   ask("nothing since", &first);
-  write_block(0, 70);
+  write_next(0, 70);
   ask("block 70", &first);
-  write_block(0, 80);
+  write_next(0, 80);
   ask("blocks 70 and 80", &second);
   ask("block 80", &first);
 }
@@ -217,7 +177,10 @@ static void print_counts(uint8_t target) {
 }
 
 int main(void) {
-  start();
+  const struct vscsi_unit units[] = {{.blocks = BLOCKS, .calm = 1}, {.blocks = BLOCKS, .target = 1, .calm = 1}};
+  const struct vscsi_config config = config_of(units, 2);
+  atexit(end);
+  must("create", vscsi_create(&device, &config, NULL));
   ranges();
   commands();
   capacities();

@@ -1,12 +1,10 @@
 // What each call answers where it can't do what it was asked for, and that it then left the rest alone.
 #include <stddef.h>
-#include <stdio.h>
-#include <stdlib.h>
-#include <string.h>
 
-#include "vscsi.h"
+#define EXAMPLE "errors"
+#include "guest.h"
 
-enum { QUEUES = 3, SIZE = 8, PAGES = 16 };
+enum { PAGES = MEMORY / VSCSI_PAGE };
 
 static unsigned tests;
 
@@ -27,21 +25,13 @@ static const uint8_t wide[2] = {VSCSI_PROFILE_WIDE, VSCSI_PROFILE_WIDE};
 static struct vscsi_identity identities[2];
 static struct vscsi_config config;
 
-static uint64_t area(unsigned queue) { return 0x1000 * (queue + 1); }
-
 // A configuration that the device takes.
 static void begin(void) {
-  for (unsigned q = 0; q < QUEUES; q++)
-    queues[q] = (struct vscsi_queue){.desc = area(q), .driver = area(q) + 0x400, .device = area(q) + 0x800, .size = SIZE};
+  memcpy(queues, layout, sizeof queues);
   units[0] = (struct vscsi_unit){.blocks = 1000, .calm = 1};
   units[1] = (struct vscsi_unit){.blocks = 1, .target = 4};
-  config = (struct vscsi_config){.size = sizeof config,
-                                 .features = VSCSI_F_VERSION_1,
-                                 .queues = queues,
-                                 .queue_count = QUEUES,
-                                 .units = units,
-                                 .unit_count = 2,
-                                 .pages = PAGES};
+  config = config_of(units, 2);
+  config.queues = queues;
 }
 
 // That the configuration as it is now is refused for this cause.
@@ -106,30 +96,21 @@ static void names(void) {
   units[1].lun = 1, config.profiles = wide, config.identities = two, refused(__LINE__, VSCSI_CAUSE_NO_LUN_0, 1, 0);
 }
 
-// Returns how many bytes an INQUIRY for a page of a target gave, at 0xa000. It is the n-th request of queue 2.
-static uint32_t inquires(struct vscsi *device, uint8_t target, uint8_t page, uint16_t n) {
-  const struct {
-    uint64_t addr;
-    uint32_t length;
-    uint16_t flags, next;
-  } parts[3] = {{0x8000, 51, 1, 1}, {0x9000, 108, 3, 2}, {0xa000, 255, 2, 0}};
-  const uint8_t request[51] = {1, target, 0x40, 0, [19] = 0x12, 1, page, 0, 0xff}, index[2] = {(uint8_t)(n + 1)}, head[2] = {0};
-  uint8_t response[12];
-  IS(vscsi_poke(device, 0x8000, request, sizeof request), VSCSI_DONE);
-  IS(vscsi_poke(device, area(2), parts, sizeof parts), VSCSI_DONE);
-  IS(vscsi_poke(device, area(2) + 0x404 + 2 * n, head, 2), VSCSI_DONE);
-  IS(vscsi_poke(device, area(2) + 0x402, index, 2), VSCSI_DONE);
-  IS(vscsi_serve(device, 1u << 2, UINT64_MAX, 0, 0), VSCSI_DONE);
-  IS(vscsi_peek(device, 0x9000, response, sizeof response), VSCSI_DONE);
-  IS(response[10], 0);
-  return 255 - (uint32_t)(response[4] | response[5] << 8);
+// Has a guest's command of a target served, with room for 255 bytes of data. Returns the head of its response.
+static struct response asks(struct guest *guest, uint8_t target, const uint8_t *block) {
+  request(guest, target, block, 6, 0, 255);
+  IS(vscsi_serve(guest->device, 1u << 2, UINT64_MAX, 0, 0), VSCSI_DONE);
+  IS(response_of(guest).response, 0);
+  return response_of(guest);
 }
 
 // That a unit tells its page as these bytes.
-static void tells(int line, struct vscsi *device, uint8_t target, uint8_t page, uint16_t n, const void *wanted, uint32_t size) {
+static void tells(int line, struct guest *guest, uint8_t target, uint8_t page, const void *wanted, uint32_t size) {
   uint8_t found[255];
-  check(line, inquires(device, target, page, n), size);
-  IS(vscsi_peek(device, 0xa000, found, size), VSCSI_DONE);
+  struct response response = asks(guest, target, (uint8_t[]){0x12, 1, page, 0, 0xff, 0});
+  check(line, response.status, 0);
+  check(line, 255 - response.residual, size);
+  load(guest, IN_AT, found, size);
   check(line, memcmp(found, wanted, size), 0);
 }
 
@@ -140,80 +121,54 @@ static void each_name(void) {
       "\x00\x83\x00\x1e\x02\x01\x00\x0e"
       "ACME    S3R14L\x01\x03\x00\x08\x50\x00\xc5\x00\xa1\xb2\xc3\xd4";
   struct vscsi device = {0};
+  struct guest guest = {.device = &device};
   begin(), units[1].calm = 1, config.profiles = wide, config.identities = identities;
   identities[0] = (struct vscsi_identity){.vendor = "ACME", .serial = "S3R14L", .naa = {0x50, 0, 0xc5, 0, 0xa1, 0xb2, 0xc3, 0xd4}};
   identities[1] = (struct vscsi_identity){.rotation_rate = VSCSI_RATE_NOT_REPORTED};
   IS(vscsi_create(&device, &config, 0), VSCSI_DONE);
-  tells(__LINE__, &device, 0, 0x80, 0, serial, sizeof serial - 1);
-  tells(__LINE__, &device, 0, 0x83, 1, designators, sizeof designators - 1);
-  tells(__LINE__, &device, 4, 0x80, 2, made, sizeof made - 1);
+  tells(__LINE__, &guest, 0, 0x80, serial, sizeof serial - 1);
+  tells(__LINE__, &guest, 0, 0x83, designators, sizeof designators - 1);
+  tells(__LINE__, &guest, 4, 0x80, made, sizeof made - 1);
   uint8_t rates[64] = {0, 0xb1, 0, 0x3c};
-  tells(__LINE__, &device, 4, 0xb1, 3, rates, sizeof rates);
+  tells(__LINE__, &guest, 4, 0xb1, rates, sizeof rates);
   rates[5] = 1;
-  tells(__LINE__, &device, 0, 0xb1, 4, rates, sizeof rates);
+  tells(__LINE__, &guest, 0, 0xb1, rates, sizeof rates);
   IS(vscsi_destroy(&device), VSCSI_DONE);
   begin();
 }
 
-// That a target refuses an opcode that no unit knows with this sense data, and zeros behind it. It is the n-th request of queue 2.
-static void refuses(int line, struct vscsi *device, uint8_t target, uint16_t n, const uint8_t *sense, uint8_t length) {
-  const struct {
-    uint64_t addr;
-    uint32_t length;
-    uint16_t flags, next;
-  } parts[2] = {{0x8000, 51, 1, 1}, {0x9000, 108, 2, 0}};
-  const uint8_t request[51] = {1, target, 0x40, 0, [19] = 0xc0}, index[2] = {(uint8_t)(n + 1)}, head[2] = {0};
-  uint8_t wanted[108] = {length, [10] = 2}, response[108];
+// That a target refuses an opcode that no unit knows with this sense data, and zeros behind it.
+static void refuses(int line, struct guest *guest, uint8_t target, const uint8_t *sense, uint8_t length) {
+  uint8_t wanted[RESPONSE] = {length, [4] = 255, [10] = 2}, found[RESPONSE];
   memcpy(wanted + 12, sense, length);
-  IS(vscsi_poke(device, 0x8000, request, sizeof request), VSCSI_DONE);
-  IS(vscsi_poke(device, area(2), parts, sizeof parts), VSCSI_DONE);
-  IS(vscsi_poke(device, area(2) + 0x404 + 2 * n, head, 2), VSCSI_DONE);
-  IS(vscsi_poke(device, area(2) + 0x402, index, 2), VSCSI_DONE);
-  IS(vscsi_serve(device, 1u << 2, UINT64_MAX, 0, 0), VSCSI_DONE);
-  IS(vscsi_peek(device, 0x9000, response, sizeof response), VSCSI_DONE);
-  check(line, memcmp(response, wanted, sizeof wanted), 0);
+  asks(guest, target, (uint8_t[6]){0xc0});
+  load(guest, RESPONSE_AT, found, sizeof found);
+  check(line, memcmp(found, wanted, sizeof wanted), 0);
 }
 
 // That each unit sends sense data in its own format (SPC-4 4.5.2, 4.5.3), and that there is no third one.
 static void each_format(void) {
   static const uint8_t fixed[18] = {0x70, 0, 5, [7] = 10, [12] = 0x20}, descriptor[8] = {0x72, 5, 0x20};
   struct vscsi device = {0};
+  struct guest guest = {.device = &device};
   begin(), units[1].calm = 1, config.profiles = wide, config.identities = identities;
   identities[0] = (struct vscsi_identity){.sense_format = VSCSI_SENSE_FIXED};
   identities[1] = (struct vscsi_identity){.sense_format = VSCSI_SENSE_DESCRIPTOR};
   IS(vscsi_create(&device, &config, 0), VSCSI_DONE);
-  refuses(__LINE__, &device, 0, 0, fixed, sizeof fixed);
-  refuses(__LINE__, &device, 4, 1, descriptor, sizeof descriptor);
-  refuses(__LINE__, &device, 0, 2, fixed, sizeof fixed);
+  refuses(__LINE__, &guest, 0, fixed, sizeof fixed);
+  refuses(__LINE__, &guest, 4, descriptor, sizeof descriptor);
+  refuses(__LINE__, &guest, 0, fixed, sizeof fixed);
   IS(vscsi_destroy(&device), VSCSI_DONE);
   config.profiles = 0, refused(__LINE__, VSCSI_CAUSE_UNIT_IDENTITY, 1, 0);
 }
 
-// Returns the status of a MODE SENSE (6) of a target, which is the n-th request of queue 2. No other call of these tests sends one.
-static uint8_t senses_modes(struct vscsi *device, uint8_t target, uint16_t n) {
-  const struct {
-    uint64_t addr;
-    uint32_t length;
-    uint16_t flags, next;
-  } parts[3] = {{0x8000, 51, 1, 1}, {0x9000, 108, 3, 2}, {0xa000, 255, 2, 0}};
-  const uint8_t request[51] = {1, target, 0x40, 0, [19] = 0x1a, 0, 0x3f, 0, 0xff}, index[2] = {(uint8_t)(n + 1)}, head[2] = {0};
-  uint8_t response[12];
-  IS(vscsi_poke(device, 0x8000, request, sizeof request), VSCSI_DONE);
-  IS(vscsi_poke(device, area(2), parts, sizeof parts), VSCSI_DONE);
-  IS(vscsi_poke(device, area(2) + 0x404 + 2 * n, head, 2), VSCSI_DONE);
-  IS(vscsi_poke(device, area(2) + 0x402, index, 2), VSCSI_DONE);
-  IS(vscsi_serve(device, 1u << 2, UINT64_MAX, 0, 0), VSCSI_DONE);
-  IS(vscsi_peek(device, 0x9000, response, sizeof response), VSCSI_DONE);
-  IS(response[11], 0);
-  return response[10];
-}
-
 // That each unit has the commands of its profile: MODE SENSE is one of the wide profile alone.
 static void each_profile(void) {
-  static const uint8_t wide_second[2] = {VSCSI_PROFILE_NARROW, VSCSI_PROFILE_WIDE};
+  static const uint8_t wide_second[2] = {VSCSI_PROFILE_NARROW, VSCSI_PROFILE_WIDE}, mode_sense[6] = {0x1a, 0, 0x3f, 0, 0xff};
   struct vscsi device = {0};
   struct vscsi_disk disks[2] = {{0}, {0}};
   for (int over = 0; over < 2; over++) {
+    struct guest guest = {.device = &device};
     begin(), units[1].calm = 1, config.profiles = wide_second;
     if (over) {
       for (unsigned k = 0; k < 2; k++) IS(vscsi_disk_create(&disks[k], units[k].blocks), VSCSI_DONE);
@@ -221,8 +176,8 @@ static void each_profile(void) {
     } else {
       IS(vscsi_create(&device, &config, 0), VSCSI_DONE);
     }
-    IS(senses_modes(&device, 0, 0), 2);
-    IS(senses_modes(&device, 4, 1), 0);
+    IS(asks(&guest, 0, mode_sense).status, 2);
+    IS(asks(&guest, 4, mode_sense).status, 0);
     IS(vscsi_destroy(&device), VSCSI_DONE);
   }
   begin();
@@ -251,13 +206,11 @@ static void older(void) {
 static void older_live(void) {
   static const size_t older_sizes[] = {offsetof(struct vscsi_live_config, asks), offsetof(struct vscsi_live_config, profiles)};
   struct vscsi_live device = {0};
-  struct vscsi_ring rings[QUEUES];
+  struct vscsi_ring rings[QUEUES] = {0};
   struct vscsi_fault fault = {0};
   begin();
-  for (unsigned q = 0; q < QUEUES; q++)
-    rings[q] = (struct vscsi_ring){.desc = queues[q].desc, .driver = queues[q].driver, .device = queues[q].device, .size = SIZE};
-  struct vscsi_live_config live = {
-      .features = VSCSI_F_VERSION_1, .rings = rings, .ring_count = QUEUES, .units = units, .unit_count = 2, .profiles = profiles};
+  struct vscsi_live_config live = live_config_of(units, 2, rings, 0);
+  live.profiles = profiles;
   for (unsigned i = 0; i < 2; i++) {
     live.size = older_sizes[i];
     IS(vscsi_live_create(&device, &live, 0, 0), VSCSI_DONE);
@@ -486,7 +439,7 @@ static void broken(struct vscsi *device) {
   IS(vscsi_broken(device, 2, &fault), VSCSI_DONE);
   IS(fault, VSCSI_BROKEN_NOT);
   // nine entries of eight
-  IS(vscsi_poke(device, area(2) + 0x402, nine, 2), VSCSI_DONE);
+  IS(vscsi_poke(device, layout[2].driver + 2, nine, 2), VSCSI_DONE);
   IS(vscsi_settle(device, &steps), VSCSI_DONE);
   IS(vscsi_status(device, &status), VSCSI_DONE);
   IS(status, 64);
@@ -497,7 +450,7 @@ static void broken(struct vscsi *device) {
   IS(vscsi_owed(device, &owed), VSCSI_DONE);
   IS(owed, 0);
   // an event buffer of no bytes is taken and given back at once, and its driver is owed one notification
-  IS(vscsi_poke(device, area(1) + 0x402, one, 2), VSCSI_DONE);
+  IS(vscsi_poke(device, layout[1].driver + 2, one, 2), VSCSI_DONE);
   IS(vscsi_settle(device, &steps), VSCSI_DONE);
   IS(vscsi_progress(device, 1, &accepted, &used), VSCSI_DONE);
   IS(accepted, 1);
@@ -536,8 +489,8 @@ static void portions(void) {
   IS(steps, 0);
   IS(more, false);
   // three event buffers of no bytes, which are given back at once
-  IS(vscsi_poke(&device, area(1) + 0x402, three, 2), VSCSI_DONE);
-  for (unsigned entry = 0; entry < 3; entry++) IS(vscsi_poke(&device, area(1) + 0x404 + 2 * entry, &(uint8_t){(uint8_t)entry}, 1), VSCSI_DONE);
+  IS(vscsi_poke(&device, layout[1].driver + 2, three, 2), VSCSI_DONE);
+  for (unsigned entry = 0; entry < 3; entry++) IS(vscsi_poke(&device, layout[1].driver + 4 + 2 * entry, &(uint8_t){(uint8_t)entry}, 1), VSCSI_DONE);
   IS(vscsi_serve(&device, 2, 0, &steps, &more), VSCSI_DONE);
   IS(steps, 0);
   IS(more, true);

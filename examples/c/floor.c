@@ -5,16 +5,10 @@
 //
 // With -DCOPIES it copies as often as the library does: a request's bytes before they are read, and data into room of
 // their own between the disk and the guest.
-#include <stdio.h>
-#include <stdlib.h>
-#include <string.h>
+#define EXAMPLE "floor"
+#include "guest.h"
 
-#include "vscsi.h"
-
-enum { MOST_PARTS = 8, UNITS = 2, BLOCK = 512, REQUEST = 51, RESPONSE = 108, STEPS = 7, MOST_DATA = 1 << 17 };
-
-// Descriptor flags (VIRTIO 1.2, 2.7.5 and 2.8.1).
-enum { NEXT = 1, WRITE = 2, INDIRECT = 4, AVAILABLE = 0x80, USED = 0x8000 };
+enum { MOST_PARTS = 8, UNITS = 2, BLOCK = 512, STEPS = 7, MOST_DATA = 1 << 17 };
 
 struct part {
   uint8_t *at;
@@ -25,7 +19,7 @@ struct part {
 static uint8_t *memory, *disks[UNITS];
 static uint64_t memory_size, blocks[UNITS];
 static struct vscsi_queue queue;
-static bool packed, wraps;
+static bool packed, wrap_counter;
 static uint16_t next_slot, used_index;
 #ifdef COPIES
 static uint8_t copied[MOST_DATA];
@@ -188,7 +182,7 @@ static uint64_t settle_split(void) {
 // Whether a descriptor of a packed queue is available in this round.
 static bool is_available(const uint8_t *descriptor) {
   unsigned flags = little(descriptor + 14, 2);
-  return !!(flags & AVAILABLE) == wraps && !!(flags & USED) != wraps;
+  return !!(flags & AVAILABLE) == wrap_counter && !!(flags & USED) != wrap_counter;
 }
 
 // Serves what a packed queue has. How many requests.
@@ -207,14 +201,14 @@ static uint64_t settle_packed(void) {
       if (++slots > queue.size) stop("a chain that doesn't end");
     } while (flags & NEXT);
     uint32_t length = serve(parts, count);
-    uint16_t marks = wraps ? AVAILABLE | USED : 0;
+    uint16_t marks = wrap_counter ? AVAILABLE | USED : 0;
     memcpy(first + 8, &length, 4);
     memcpy(first + 12, descriptor + 12, 2);
     memcpy(first + 14, &marks, 2);
     next_slot += (uint16_t)slots;
     if (next_slot >= queue.size) {
       next_slot -= queue.size;
-      wraps = !wraps;
+      wrap_counter = !wrap_counter;
     }
   }
 }
@@ -225,7 +219,7 @@ enum vscsi_answer vscsi_create(struct vscsi *device, const struct vscsi_config *
   memory = calloc(memory_size, 1);
   queue = config->queues[2];
   packed = config->features & VSCSI_F_RING_PACKED;
-  wraps = true;
+  wrap_counter = true;
   next_slot = used_index = 0;
   for (unsigned unit = 0; unit < UNITS; unit++) {
     blocks[unit] = config->units[unit].blocks;
@@ -259,3 +253,5 @@ enum vscsi_answer vscsi_settle(struct vscsi *device, uint64_t *steps) {
   *steps = STEPS * (packed ? settle_packed() : settle_split());
   return VSCSI_DONE;
 }
+
+const char *vscsi_answer_text(enum vscsi_answer answer) { return answer == VSCSI_NO_MEMORY ? "no memory" : "a fault"; }

@@ -14,7 +14,7 @@
 
 #include "floor.c"
 
-enum { QUEUES = 3, MOST_DEPTH = 64, LARGE = 128, PARTS = 4, KINDS = 5 };
+enum { MOST_DEPTH = 64, LARGE = 128, PARTS = 4, KINDS = 5 };
 
 // Where the areas of the queue lie, those of the others, the responses, one behind the other, and the requests, each with its
 // data in an area of its own.
@@ -30,18 +30,6 @@ struct kind {
   bool reads, writes;
 };
 
-static void put(uint8_t *into, uint64_t number, size_t bytes) {
-  for (size_t i = 0; i < bytes; i++) into[i] = (uint8_t)(number >> 8 * i);
-}
-
-static void put_descriptor(unsigned slot, uint64_t addr, uint32_t length, unsigned flags) {
-  uint8_t *into = memory + 16 * slot;
-  put(into, addr, 8);
-  put(into + 8, length, 4);
-  put(into + 12, flags, 2);
-  put(into + 14, slot + 1, 2);
-}
-
 // Puts a request into memory, with its chain: the request with what it sends, the response, and what it gets.
 static void put_request(struct kind kind, unsigned number, unsigned depth) {
   uint64_t at = AREAS + (uint64_t)number * AREA;
@@ -49,15 +37,16 @@ static void put_request(struct kind kind, unsigned number, unsigned depth) {
   unsigned slot = PARTS * number, first = number * kind.blocks;
   request[0] = 1;
   request[2] = 0x40;
-  put(request + 8, number, 2);
+  memcpy(request + 8, &(uint16_t){(uint16_t)number}, 2);
   request[19] = kind.reads ? 0x28 : kind.writes ? 0x2a : 0;
   request[23] = (uint8_t)(first >> 8);
   request[24] = (uint8_t)first;
   request[27] = (uint8_t)kind.blocks;
-  put_descriptor(slot, at, REQUEST + (kind.writes ? kind.blocks * BLOCK : 0), NEXT);
-  put_descriptor(slot + 1, RESPONSES + (uint64_t)number * RESPONSE, RESPONSE, WRITE | (kind.reads ? NEXT : 0));
-  put_descriptor(slot + 2, at + DATA, kind.blocks * BLOCK, WRITE);
-  for (unsigned entry = number; entry < PARTS * depth; entry += depth) put(memory + DRIVER + 4 + 2 * entry, slot, 2);
+  struct descriptor chain[] = {{at, REQUEST + (kind.writes ? kind.blocks * BLOCK : 0), NEXT, (uint16_t)(slot + 1)},
+                               {RESPONSES + (uint64_t)number * RESPONSE, RESPONSE, WRITE | (kind.reads ? NEXT : 0), (uint16_t)(slot + 2)},
+                               {at + DATA, kind.blocks * BLOCK, WRITE, 0}};
+  memcpy(memory + ENTRY * slot, chain, sizeof chain);
+  for (unsigned entry = number; entry < PARTS * depth; entry += depth) memcpy(memory + DRIVER + 4 + 2 * entry, &(uint16_t){(uint16_t)slot}, 2);
 }
 
 static void begin(struct kind kind, unsigned depth) {
@@ -81,7 +70,7 @@ static void *serve_alone(void *unused) {
   return NULL;
 }
 
-static void make_available(unsigned set, unsigned of_set, uint16_t index) {
+static void make_set_available(unsigned set, unsigned of_set, uint16_t index) {
   memset(memory + RESPONSES + (size_t)set * of_set * RESPONSE, 255, (size_t)of_set * RESPONSE);
   atomic_thread_fence(memory_order_seq_cst);
   memcpy(memory + DRIVER + 2, &index, 2);
@@ -106,7 +95,7 @@ static uint64_t serve_rounds(unsigned depth, uint64_t rounds, bool alone) {
   uint64_t good = 0;
   for (uint64_t half = 0; half < 2 * rounds + 2; half++) {
     if (half >= 2) good += found(half % 2, of_set, (uint16_t)((half - 1) * of_set), alone);
-    if (half < 2 * rounds) make_available(half % 2, of_set, (uint16_t)((half + 1) * of_set));
+    if (half < 2 * rounds) make_set_available(half % 2, of_set, (uint16_t)((half + 1) * of_set));
   }
   return good;
 }

@@ -2,12 +2,9 @@
 //
 //     loaded FILE    FILE is the shared library
 #include <dlfcn.h>
-#include <stdio.h>
-#include <stdlib.h>
 
-#include "vscsi.h"
-
-enum { QUEUES = 3, SIZE = 8, PAGES = 16 };
+#define EXAMPLE "loaded"
+#include "guest.h"
 
 // The calls, by their names.
 #define EACH(of)                                                                                                                 \
@@ -40,13 +37,11 @@ static void *found(void *handle, const char *name) {
   return at;
 }
 
-static void must(const char *call, enum vscsi_answer answer) {
+static void done(const char *call, enum vscsi_answer answer) {
   if (answer == VSCSI_DONE) return;
   fprintf(stderr, "loaded: %s: %s\n", call, library.vscsi_answer_text(answer));
   exit(1);
 }
-
-static uint64_t area(unsigned queue) { return 0x1000 * (queue + 1); }
 
 int main(int count, char **words) {
   void *handle = count == 2 ? dlopen(words[1], RTLD_NOW | RTLD_LOCAL) : NULL;
@@ -62,43 +57,37 @@ int main(int count, char **words) {
 
   struct vscsi device = {0};
   const struct vscsi_unit unit = {.blocks = 1000, .calm = 1};
-  struct vscsi_queue queues[QUEUES];
-  for (unsigned q = 0; q < QUEUES; q++)
-    queues[q] = (struct vscsi_queue){.desc = area(q), .driver = area(q) + 0x400, .device = area(q) + 0x800, .size = SIZE};
-  struct vscsi_config config = {.size = sizeof config,
-                                .features = VSCSI_F_VERSION_1 & library.vscsi_features(),
-                                .queues = queues,
-                                .queue_count = QUEUES,
-                                .units = &unit,
-                                .unit_count = 1};
+  struct vscsi_config config = config_of(&unit, 1);
+  config.features &= library.vscsi_features();
+  config.pages = 0;
   struct vscsi_fault fault;
   uint64_t blocks;
   bool more;
   if (library.vscsi_create(&device, &config, &fault) != VSCSI_BAD_CONFIG) return 1;
   printf("refused: %s\n", library.vscsi_cause_text(fault.cause));
-  config.pages = PAGES;
-  must("create", library.vscsi_create(&device, &config, &fault));
+  config.pages = MEMORY / VSCSI_PAGE;
+  done("create", library.vscsi_create(&device, &config, &fault));
 
   // a queue whose available index ran too far ahead
-  must("poke", library.vscsi_poke(&device, area(2) + 0x402, "\x09", 1));
-  must("serve", library.vscsi_serve(&device, 1u << 2, 100, NULL, &more));
+  done("poke", library.vscsi_poke(&device, layout[2].driver + 2, "\x09", 1));
+  done("serve", library.vscsi_serve(&device, 1u << 2, 100, NULL, &more));
   uint32_t broken;
-  must("broken", library.vscsi_broken(&device, 2, &broken));
+  done("broken", library.vscsi_broken(&device, 2, &broken));
   printf("queue 2: %s\n", library.vscsi_broken_text(broken));
-  must("capacity", library.vscsi_capacity(&device, 0, 0, &blocks));
+  done("capacity", library.vscsi_capacity(&device, 0, 0, &blocks));
   printf("blocks: %u\n", (unsigned)blocks);
-  must("destroy", library.vscsi_destroy(&device));
+  done("destroy", library.vscsi_destroy(&device));
   printf("destroyed twice: %s\n", library.vscsi_answer_text(library.vscsi_destroy(&device)));
 
   // a disk goes through a device, and grows there
   struct vscsi_disk disk = {0};
-  must("disk_create", library.vscsi_disk_create(&disk, unit.blocks));
-  must("create_with", library.vscsi_create_with(&device, &config, &disk, NULL));
-  must("resize", library.vscsi_resize(&device, 0, 0, 2000));
-  must("close", library.vscsi_close(&device, &disk, 1));
-  must("disk_blocks", library.vscsi_disk_blocks(&disk, &blocks));
+  done("disk_create", library.vscsi_disk_create(&disk, unit.blocks));
+  done("create_with", library.vscsi_create_with(&device, &config, &disk, NULL));
+  done("resize", library.vscsi_resize(&device, 0, 0, 2000));
+  done("close", library.vscsi_close(&device, &disk, 1));
+  done("disk_blocks", library.vscsi_disk_blocks(&disk, &blocks));
   printf("the disk has %u blocks\n", (unsigned)blocks);
-  must("disk_destroy", library.vscsi_disk_destroy(&disk));
+  done("disk_destroy", library.vscsi_disk_destroy(&disk));
   printf("calls: %u\n", calls);
   return dlclose(handle) ? 1 : 0;
 }
