@@ -216,7 +216,8 @@ bool queue_set_kick(struct session *session, struct message *message) {
   }
   queue->kick = fd;
   queue->is_pipe = reads;
-  // Where there is no kick, the ring is looked at from now on.
+  // Where there is no kick, the ring is looked at from now on. The one before may have told something.
+  session->backend.kicked |= UINT32_C(1) << q;
   session->more = true;
   if (!(session->features & F_PROTOCOL_FEATURES)) queue->enabled = true;
   return queue->started || start(session, q);
