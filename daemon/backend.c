@@ -176,7 +176,7 @@ static inline enum ran run_requests(struct backend *backend, uint32_t queues) {
     if (ran == REFUSED) return REFUSED;
     backend->quiet = ran == RAN ? backend->quiet + 1 : 0;
     backend->turn = (backend->turn + 1) % backend->count;
-    if (is_over(backend)) return RUNS;
+    if (backend->quiet < backend->count && is_over(backend)) return RUNS;
   }
   backend->crowded = false;
   return RAN;
@@ -290,6 +290,8 @@ enum served backend_serve(struct backend *backend, uint32_t queues, uint32_t *ow
   if (!backend->mapped) backend_map(backend);
   if (!backend->mapped) return put_off(backend);
   if (backend->phase == IDLE || !backend->keeps) {
+    // One of those that had nothing left may have something again.
+    if (backend->kicked) backend->quiet = 0;
     backend->seen |= backend->kicked;
     backend->kicked = 0;
     backend->took = false;

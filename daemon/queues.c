@@ -161,6 +161,7 @@ bool queue_set_enable(struct session *session, const struct message *message) {
   uint32_t q, enabled;
   if (!named(session, message, &q, &enabled) || enabled > 1) return false;
   session->queues[q].enabled = enabled;
+  session->backend.kicked |= UINT32_C(1) << q;
   session->more = true;
   return true;
 }

@@ -48,6 +48,9 @@ void test_replaced(void);
 // A request that comes just as its driver is asked to notify, in a round that is cut off.
 void test_late(void);
 
+// Requests of queues that had nothing left in a round that is cut off among their turns.
+void test_interrupted(void);
+
 // The status of a device, whose reset it also is.
 void test_status(void);
 
