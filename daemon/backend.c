@@ -102,7 +102,8 @@ static bool make(struct backend *backend, char *why, size_t room) {
 enum served backend_begin(struct backend *backend, char *why, size_t room) {
   bool is_first = !backend->pause;
   if (backend->pause && clock_now() < backend->due) return LATER;
-  backend->starved = backend->crowded = backend->silent = false;
+  backend->starved = backend->crowded = false;
+  backend->silent = 0;
   backend->phase = IDLE;
   backend->steps = 0;
   backend->kicked = UINT32_MAX;
@@ -137,6 +138,13 @@ static bool is_over(struct backend *backend) {
   return now >= backend->until;
 }
 
+// A chain may have come before its driver saw that it was asked, so that it is asked once more.
+static inline void note_steps(struct backend *backend) {
+  backend->took = true;
+  backend->seen |= backend->asked;
+  backend->asked = 0;
+}
+
 // Has the device serve these queues until nothing is left, it has to leave off, or so many steps were taken.
 static inline enum ran run(struct backend *backend, uint32_t queues, uint64_t most) {
   uint64_t each = backend->keeps ? FEW_STEPS : MANY_STEPS;
@@ -145,7 +153,7 @@ static inline enum ran run(struct backend *backend, uint32_t queues, uint64_t mo
     bool served = device_serve(&backend->device, queues, each, &steps, &more);
     backend->steps += steps;
     backend->all_steps += steps;
-    backend->took = backend->took || steps;
+    if (steps) note_steps(backend);
     if (backend->keeps && (steps || !served)) blocks_note(&backend->device, backend->disks, backend->noted);
     if (backend->logs) rings_log(backend);
     if (!served) return REFUSED;
@@ -168,7 +176,7 @@ static inline enum ran run_requests(struct backend *backend, uint32_t queues) {
     if (ran == REFUSED) return REFUSED;
     backend->quiet = ran == RAN ? backend->quiet + 1 : 0;
     backend->turn = (backend->turn + 1) % backend->count;
-    if (is_over(backend)) return RUNS;
+    if (backend->quiet < backend->count && is_over(backend)) return RUNS;
   }
   backend->crowded = false;
   return RAN;
@@ -177,7 +185,7 @@ static inline enum ran run_requests(struct backend *backend, uint32_t queues) {
 // Has the queues served. The control queue comes last: a driver made its functions available behind the requests that they are
 // about. A guest whose requests make chains available would keep it waiting for ever, but for the bound.
 static inline enum ran run_all(struct backend *backend, uint32_t queues) {
-  bool has_control = queues & (backend->seen | backend->asked | (backend->silent ? CONTROL : 0)) & CONTROL;
+  bool has_control = queues & (backend->seen | backend->asked | backend->silent) & CONTROL;
   if (!has_control) backend->steps = 0;
   backend->until = 0;
   enum ran ran = run_requests(backend, queues & ~CONTROL);
@@ -207,15 +215,15 @@ static void note_faults(struct backend *backend) {
 // Asks drivers that name the chain of which they notify for the next one, and each driver that wasn't asked yet. Returns whether another
 // look is wanted, since one may have come before the driver saw that. What is found then has them asked once more.
 static bool ask(struct backend *backend, uint32_t queues) {
-  uint32_t asked = (backend->seen | (backend->took ? backend->asked : 0)) & queues, unasked = backend->unasked & queues;
+  uint32_t asked = backend->seen & queues;
+  // These have to be asked in any case: nobody did, or they were asked not to notify.
+  uint32_t unasked = (backend->unasked | backend->silent) & queues;
   bool names = backend->event_index && !backend->packed;
-  // Those that aren't served now, as they aren't enabled yet, are asked once they are.
+  // Those that aren't served now, as they aren't enabled, are asked once they are.
   backend->seen &= ~queues;
   backend->unasked &= ~queues;
-  // Each ring was said not to notify, and is to do so again.
-  if (backend->silent) asked = queues;
-  backend->asked = (names || backend->silent ? asked : 0) | unasked;
-  backend->silent = false;
+  backend->silent &= ~queues;
+  backend->asked = (names ? asked : 0) | unasked;
   for (uint32_t left = backend->asked; left; left &= left - 1) ring_ask(backend, (unsigned)__builtin_ctz(left), true);
   return backend->asked;
 }
@@ -224,10 +232,11 @@ static bool ask(struct backend *backend, uint32_t queues) {
 // it.
 static bool hush(struct backend *backend, uint32_t queues) {
   enum { EVERY = 1 << 14 };
-  if (backend->silent && backend->all_steps - backend->hushed < EVERY) return true;
-  for (uint32_t left = queues; left; left &= left - 1) ring_ask(backend, (unsigned)__builtin_ctz(left), false);
-  backend->silent = true;
-  backend->hushed = backend->all_steps;
+  bool is_late = backend->all_steps - backend->hushed >= EVERY;
+  uint32_t left = is_late ? queues | backend->silent : queues & ~backend->silent;
+  if (!backend->silent || is_late) backend->hushed = backend->all_steps;
+  backend->silent |= left;
+  for (; left; left &= left - 1) ring_ask(backend, (unsigned)__builtin_ctz(left), false);
   return true;
 }
 
@@ -281,6 +290,8 @@ enum served backend_serve(struct backend *backend, uint32_t queues, uint32_t *ow
   if (!backend->mapped) backend_map(backend);
   if (!backend->mapped) return put_off(backend);
   if (backend->phase == IDLE || !backend->keeps) {
+    // One of those that had nothing left may have something again.
+    if (backend->kicked) backend->quiet = 0;
     backend->seen |= backend->kicked;
     backend->kicked = 0;
     backend->took = false;
@@ -288,7 +299,8 @@ enum served backend_serve(struct backend *backend, uint32_t queues, uint32_t *ow
   enum served served = backend->keeps ? wait_round(backend, queues, owed) : serve_at_once(backend, queues, owed);
   if (served != SERVED) return served;
   note_faults(backend);
-  bool again = !backend->left && (backend->polls ? hush(backend, queues) : ask(backend, queues));
+  bool polls = backend->polls || (backend->spins && backend->took);
+  bool again = !backend->left && (polls ? hush(backend, queues) : ask(backend, queues));
   return again || backend->left || backend->kicked & queues ? MORE : SERVED;
 }
 
@@ -312,7 +324,7 @@ void backend_end(struct backend *backend) {
   for (size_t i = 0; backend->device.live && i < backend->disks->count; i++) backend_count(backend, i, &backend->disks->disks[i].counts);
   backend_unmap(backend);
   backend->unasked = UINT32_MAX;
-  backend->silent = false;
+  backend->silent = 0;
   backend->phase = IDLE;
   backend->pause = 0;
   if (!device_end(&backend->device, backend->disks->stores, backend->disks->count)) backend->disks->lost = true;

@@ -62,8 +62,9 @@ struct backend {
   uint32_t asked;    // those that were asked behind the last call
   uint32_t unasked;  // those that whoever served them last may have left without asking for a notification
   bool took;        // the device took steps in this call
-  bool polls;       // rings are looked at all the time, and drivers are asked not to notify
-  bool silent;      // they were asked that, after so many steps
+  bool polls;       // rings are looked at once more behind this call, and drivers are asked not to notify
+  bool spins;       // the same where this call takes steps
+  uint32_t silent;  // queues whose driver was asked that, the first of them after so many steps
   uint64_t hushed;
   bool broken;                            // a queue's fault was found, and not told yet
   uint64_t until;                         // when the device has to leave off in this call, or 0 where that isn't known yet

@@ -8,4 +8,7 @@
 // stack for that.
 uint64_t clock_now(void);
 
+// Returns the nanoseconds since that moment.
+uint64_t clock_nanoseconds(void);
+
 #endif

@@ -61,7 +61,7 @@ static void begin_session(struct daemon *daemon, int fd) {
   log_say(LOG_NOTE, NULL, "a front end is there");
   daemon->connected = true;
   daemon->owed_since = 0;
-  if (!session_begin(&daemon->session, fd, daemon->epoll, &daemon->disks, options->queues, options->polls, options->quiet))
+  if (!session_begin(&daemon->session, fd, daemon->epoll, &daemon->disks, options->queues, options->polling, options->quiet))
     end_session(daemon, "it can't be watched");
 }
 

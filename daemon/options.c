@@ -41,6 +41,8 @@ static const char usage[] =
     "                       name a disk of the wide profile. Without naa= a random one is kept in PATH.naa\n"
     "  --queues N           at most N request queues, 1 to 16\n"
     "  --poll               look at the rings of a busy guest all the time, which takes a processor\n"
+    "  --poll-max-ns N      look at them for at most N nanoseconds before waiting for a guest, as long as that pays:\n"
+    "                       0 to 10000000; 32768 is the default, and 0 is not at all\n"
     "  --migratable         have the files only while a queue runs, so that the guest can move to another daemon\n"
     "  --control PATH       listen there for vscsi-ctl\n"
     "  --user NAME          run as this user once all is open\n"
@@ -50,7 +52,10 @@ static const char usage[] =
     "  --quiet              say errors alone\n"
     "  --help, --version, --print-capabilities\n";
 
-enum word { SOCKET = 256, FD, MODE, DISK, QUEUES, SHADOW, POLL, MIGRATABLE, CONTROL, USER, GROUP, SECCOMP, LOG, QUIET, HELP, VERSION_WORD, CAPABILITIES };
+// Nanoseconds for which rings are looked at: where nothing is said, as QEMU's IOThreads do, and at most.
+enum { USUAL_POLL = 32768, LONGEST_POLL = 10000000 };
+
+enum word { SOCKET = 256, FD, MODE, DISK, QUEUES, SHADOW, POLL, POLL_MAX_NS, MIGRATABLE, CONTROL, USER, GROUP, SECCOMP, LOG, QUIET, HELP, VERSION_WORD, CAPABILITIES };
 
 static const struct option known[] = {{"socket", required_argument, NULL, SOCKET},
                                       {"socket-path", required_argument, NULL, SOCKET},
@@ -60,6 +65,7 @@ static const struct option known[] = {{"socket", required_argument, NULL, SOCKET
                                       {"queues", required_argument, NULL, QUEUES},
                                       {"shadow", no_argument, NULL, SHADOW},
                                       {"poll", no_argument, NULL, POLL},
+                                      {"poll-max-ns", required_argument, NULL, POLL_MAX_NS},
                                       {"migratable", no_argument, NULL, MIGRATABLE},
                                       {"control", required_argument, NULL, CONTROL},
                                       {"user", required_argument, NULL, USER},
@@ -99,7 +105,7 @@ static bool set_control(struct options *options, const char *path) {
 // Takes one word and what stands behind it.
 static bool take(struct options *options, struct disks *disks, int word, char *behind) {
   char why[500];
-  int queues;
+  int queues, nanoseconds;
   switch (word) {
     case SOCKET: return options->path = behind, true;
     case FD: return number(behind, 10, STDERR_FILENO + 1, INT_MAX, "--fd is the number of a descriptor, 3 or more", &options->fd);
@@ -108,7 +114,11 @@ static bool take(struct options *options, struct disks *disks, int word, char *b
     case GROUP: return options->group = behind, true;
     case LOG: return options->log = behind, true;
     case SHADOW: return true;  // of older command lines: there are no modes any more
-    case POLL: return options->polls = true;
+    case POLL: return options->polling = (struct polling){.most = LONGEST_POLL, .is_fixed = true}, true;
+    case POLL_MAX_NS:
+      if (!number(behind, 10, 0, LONGEST_POLL, "--poll-max-ns is a number from 0 to 10000000", &nanoseconds)) return false;
+      options->polling = (struct polling){.most = (uint64_t)nanoseconds};
+      return true;
     case CONTROL: return set_control(options, behind);
     case MIGRATABLE: return disks->moves = true;
     case QUIET: return options->quiet = true;
@@ -154,7 +164,7 @@ static bool print(const char *text) { return fputs(text, stdout) >= 0 && !fflush
 
 enum wanted options_read(struct options *options, struct disks *disks, int count, char **words) {
   int word;
-  *options = (struct options){.fd = -1, .mode = -1, .queues = MOST_REQUEST_QUEUES, .limits = true};
+  *options = (struct options){.fd = -1, .mode = -1, .queues = MOST_REQUEST_QUEUES, .limits = true, .polling.most = USUAL_POLL};
   // Other words are of no account then.
   for (int i = 1; i < count; i++)
     if (!strcmp(words[i], "--print-capabilities")) return print(CAPABILITIES_OF) ? WANTED_NOTHING : WANTED_WRONG;

@@ -2,7 +2,7 @@
 #ifndef DAEMON_OPTIONS_H
 #define DAEMON_OPTIONS_H
 
-#include "disks.h"
+#include "session.h"
 
 struct options {
   const char *path;  // of the socket, or NULL
@@ -10,7 +10,8 @@ struct options {
   int mode;          // of the socket at `path`, or below 0: as the umask leaves it
   const char *user, *group, *log, *control;
   unsigned queues;
-  bool quiet, polls;
+  bool quiet;
+  struct polling polling;
   bool limits;  // what the process may do
 };
 

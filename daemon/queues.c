@@ -161,6 +161,7 @@ bool queue_set_enable(struct session *session, const struct message *message) {
   uint32_t q, enabled;
   if (!named(session, message, &q, &enabled) || enabled > 1) return false;
   session->queues[q].enabled = enabled;
+  session->backend.kicked |= UINT32_C(1) << q;
   session->more = true;
   return true;
 }
@@ -216,7 +217,8 @@ bool queue_set_kick(struct session *session, struct message *message) {
   }
   queue->kick = fd;
   queue->is_pipe = reads;
-  // Where there is no kick, the ring is looked at from now on.
+  // Where there is no kick, the ring is looked at from now on. The one before may have told something.
+  session->backend.kicked |= UINT32_C(1) << q;
   session->more = true;
   if (!(session->features & F_PROTOCOL_FEATURES)) queue->enabled = true;
   return queue->started || start(session, q);

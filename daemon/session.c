@@ -1,6 +1,7 @@
 #include "session.h"
 
 #include <poll.h>
+#include <sched.h>
 #include <stdio.h>
 #include <string.h>
 #include <sys/epoll.h>
@@ -28,9 +29,10 @@
 enum { MOST_MESSAGES = 64, WHY = 200, REGION_BYTES = 32, LOG_BYTES = 16, SPACE_HEAD = 12, MOST_SPACE = 256 };
 
 // Milliseconds: how often it is said that a file can't be written, and a ring is looked at that has no kick; how long a session
-// is served before others of the daemon's descriptors are looked at, but for one round; how long a session that ends has for a
-// round; and how long a driver that is polled may make nothing available before it is asked to notify.
-enum { COMPLAINT = 60000, POLL = 1, LONGEST = 20, LEAVING = 200, LONGEST_POLL = 10 };
+// is served before others of the daemon's descriptors are looked at, but for one round, where rings are looked at without a kick
+// (POLL) and where they aren't; and how long a session that ends has for a round. Nanoseconds: of a millisecond, and for how long
+// rings are looked at first, where that pays; and behind which others get the processor in between, the guest perhaps.
+enum { COMPLAINT = 60000, POLL = 1, LONGEST = 20, LEAVING = 200, MILLISECOND = 1000000, FIRST_WINDOW = 4000, POLITE = 50000 };
 
 static void say(const struct session *session, const char *what, const char *why) {
   if (!session->quiet) log_say(LOG_NOTE, NULL, "%s: %s", what, why);
@@ -41,15 +43,16 @@ static bool watch(int epoll, int fd, uint32_t what) {
   return fd >= 0 && !epoll_ctl(epoll, EPOLL_CTL_ADD, fd, &event);
 }
 
-bool session_begin(struct session *session, int socket, int epoll, struct disks *disks, unsigned request_queues, bool polls,
-                   bool quiet) {
+bool session_begin(struct session *session, int socket, int epoll, struct disks *disks, unsigned request_queues,
+                   struct polling polling, bool quiet) {
   memset(session, 0, sizeof *session);
   session->socket = socket;
   session->log_event = -1;
   session->epoll = epoll;
   session->request_queues = request_queues;
   session->quiet = quiet;
-  session->polls = polls;
+  session->polling = polling;
+  session->window = polling.is_fixed ? polling.most : 0;
   session->backend.disks = disks;
   session->backend.keeps = blocks_are_kept(disks);
   session->backend.count = FIXED_QUEUES + request_queues;
@@ -449,11 +452,32 @@ static void find_served(struct session *session) {
   }
 }
 
-// Returns whether a driver that is polled made something available a moment ago.
-static bool is_busy(struct session *session) {
-  uint64_t now = clock_now();
-  if (session->backend.took) session->busy = now;
-  return now - session->busy < LONGEST_POLL;
+// Learns for how long rings are to be looked at, as QEMU's IOThreads do, from how long nothing was found there. Twice as long the
+// next time where something came behind that, but soon enough; and not at all where it came too late.
+static void adapt(struct session *session, uint64_t waited) {
+  uint64_t most = session->polling.most, longer = session->window ? 2 * session->window : FIRST_WINDOW;
+  if (session->polling.is_fixed || waited <= session->window) return;
+  session->window = waited > most ? 0 : longer < most ? longer : most;
+}
+
+// Has the device serve, and notifies. `now` is the time, and the next one then.
+static inline enum served serve_once(struct session *session, uint64_t *now) {
+  struct backend *backend = &session->backend;
+  uint64_t begun = *now;
+  uint32_t owed = 0;
+  backend->spins = session->window > 0;
+  backend->polls = begun - session->idle_since < session->window;
+  enum served served = backend_serve(backend, session->served, &owed);
+  if (backend->logs && backend->took) signal_fd(session->log_event);
+  notify(session, owed);
+  *now = clock_nanoseconds();
+  if (backend->took) {
+    adapt(session, begun - session->idle_since);
+    session->idle_since = *now;
+  } else if (backend->polls && *now - session->idle_since > POLITE) {
+    sched_yield();
+  }
+  return served;
 }
 
 static bool serve(struct session *session) {
@@ -464,15 +488,10 @@ static bool serve(struct session *session) {
   if (session->is_old) find_served(session);
   backend->kicked |= session->kickless;
   enum served served = backend->device.live ? MORE : make_device(session);
-  for (uint64_t until = 0; served == MORE;) {
-    uint32_t owed = 0;
-    backend->polls = session->polls && is_busy(session);
-    served = backend_serve(backend, session->served, &owed);
-    if (backend->logs && backend->took) signal_fd(session->log_event);
-    notify(session, owed);
-    if (served == SERVED && session->polls && backend->took) served = MORE;
-    if (served == MORE && !until) until = clock_now() + (session->polls ? POLL : LONGEST);
-    else if (served == MORE && clock_now() >= until) break;
+  uint64_t now = clock_nanoseconds(), until = now + (uint64_t)MILLISECOND * (session->polling.most ? POLL : LONGEST);
+  while (served == MORE) {
+    served = serve_once(session, &now);
+    if (now >= until) break;
   }
   return note_served(session, served);
 }

@@ -5,6 +5,13 @@
 #include "backend.h"
 #include "protocol.h"
 
+// For how many nanoseconds rings are looked at behind a round that found something there, before the session waits for a kick:
+// always for so long, or up to that for as long as it pays. 0: not at all.
+struct polling {
+  uint64_t most;
+  bool is_fixed;
+};
+
 struct session_queue {
   int kick, call, err;
   bool enabled, started, addressed;
@@ -26,8 +33,9 @@ struct session {
   uint8_t status;     // of the device, as the driver has it (VIRTIO 1.2, 2.1)
   uint64_t messages;  // that came
   bool more, quiet;
-  bool polls;     // rings are looked at while their driver is busy, and it isn't asked to notify meanwhile
-  uint64_t busy;  // when something was last found there
+  struct polling polling;
+  uint64_t window;  // for how many nanoseconds rings are looked at now, and since when nothing was found there
+  uint64_t idle_since;
   bool is_torn;   // a ring's memory is gone, and may come again
   bool is_old;    // something changed since these were found: the queues that are served, and those that have no kick
   uint32_t served, kickless;
@@ -41,8 +49,8 @@ struct session {
 enum { EVENT_SOCKET = 1000, EVENT_TIMER = 1001 };
 
 // Begins over a connected socket, which is the session's from then on. Returns false, without it, where epoll doesn't take it.
-bool session_begin(struct session *session, int socket, int epoll, struct disks *disks, unsigned request_queues, bool polls,
-                   bool quiet);
+bool session_begin(struct session *session, int socket, int epoll, struct disks *disks, unsigned request_queues,
+                   struct polling polling, bool quiet);
 
 // Lets go of all that the front end gave. The disks stay.
 void session_end(struct session *session);

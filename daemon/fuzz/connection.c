@@ -17,6 +17,9 @@
 #include "race.h"
 #include "system.h"
 
+// Nanoseconds, as --poll-max-ns has them where that isn't said.
+enum { USUAL_POLL = 32768 };
+
 enum { AREA = 0x8000, DRIVER_AT = 0x4000, DEVICE_AT = 0x5000, FILE_BYTES = 256 << 10, MOST_DESCRIPTORS = 256, MOST_EVENTS = 32 };
 
 // How often a session is served in a row, and how often for nothing; a second, and the most that a turn of the loop may take of it; and
@@ -46,6 +49,7 @@ struct way way_take(struct input *input) {
                       .indirect = bits & 4,
                       .far = bits & 16,
                       .file = bits & 32,
+                      .polls = !(bits & 64),
                       .size = bits & 1 ? packed[size] : split[size]};
 }
 
@@ -116,7 +120,8 @@ void connection_begin(struct connection *connection, struct way way) {
     connection->err[q] = eventfd(0, EFD_NONBLOCK | EFD_CLOEXEC);
   }
   unsigned requests = QUEUES - FIXED_QUEUES;
-  connection->alive = session_begin(&connection->session, pair[1], connection->epoll, &connection->disks, requests, false, true);
+  const struct polling polling = {.most = way.polls ? USUAL_POLL : 0};
+  connection->alive = session_begin(&connection->session, pair[1], connection->epoll, &connection->disks, requests, polling, true);
   must(connection->alive, "no session");
 }
 

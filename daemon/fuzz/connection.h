@@ -20,7 +20,7 @@ enum { QUEUES = 5 };
 // How a session is: which form its rings have and how large they are, which features, how the guest's memory lies, and whether disk
 // 0:0 has a file.
 struct way {
-  bool packed, event_index, indirect, far, file;
+  bool packed, event_index, indirect, far, file, polls;
   uint16_t size;
 };
 

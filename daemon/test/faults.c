@@ -114,6 +114,11 @@ enum vscsi_answer __wrap_vscsi_live_serve(struct vscsi_live *device, uint32_t qu
 enum vscsi_answer __wrap_vscsi_live_serve(struct vscsi_live *device, uint32_t queues, uint64_t most, uint64_t *steps, bool *more) {
   if (faults.refusals) return faults.refusals--, VSCSI_NO_MEMORY;
   costs.calls += costs.counts;
+  if (faults.comes && !faults.comes_after--) {
+    void (*comes)(void) = faults.comes;
+    faults.comes = NULL;
+    comes();
+  }
   is_serving = true;
   enum vscsi_answer answer = __real_vscsi_live_serve(device, queues, most, steps, more);
   is_serving = false;

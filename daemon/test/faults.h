@@ -18,6 +18,8 @@ struct faults {
   unsigned creations;   // and how many of vscsi_live_create
   size_t most;          // the most bytes that realloc gives the daemon, or 0 where it gives any
   bool endless;         // vscsi_live_serve says that something is left
+  void (*comes)(void);  // what the guest does before one of its calls, or NULL, and how many calls there are before that
+  unsigned comes_after;
   unsigned slow;        // microseconds that pwrite takes
   uint64_t bytes;       // that pwrite wrote
   unsigned passed;      // seconds that passed besides, which faults_clear leaves alone

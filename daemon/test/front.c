@@ -11,6 +11,9 @@
 
 #include "../bytes.h"
 
+// As --poll-max-ns has it where that isn't said.
+enum { USUAL_POLL = 32768 };
+
 enum { AREA = 0x10000, DATA = 0x200000, TABLES = 0x180000, MOST_EVENTS = 32 };
 
 void fail(const char *file, int line, const char *what) {
@@ -19,7 +22,11 @@ void fail(const char *file, int line, const char *what) {
 }
 
 struct way way_of(unsigned number) {
-  return (struct way){.packed = number & 1, .event_index = number & 2, .indirect = number & 4, .far = number & 8};
+  return (struct way){.packed = number & 1,
+                      .event_index = number & 2,
+                      .indirect = number & 4,
+                      .far = number & 8,
+                      .polling.most = number & 4 ? 0 : USUAL_POLL};
 }
 
 uint64_t place_of(unsigned q, unsigned part) { return (uint64_t)AREA * (q + 1) + (uint64_t)0x4000 * part; }
@@ -50,7 +57,7 @@ void front_begin_sized(struct front *front, struct disks *disks, struct way way,
     front->err[q] = eventfd(0, EFD_NONBLOCK | EFD_CLOEXEC);
     front->queues[q] = (struct driver_queue){.next_wrap = true, .seen_wrap = true};
   }
-  front->alive = session_begin(&front->session, pair[1], front->epoll, disks, QUEUES - FIXED_QUEUES, way.polls, true);
+  front->alive = session_begin(&front->session, pair[1], front->epoll, disks, QUEUES - FIXED_QUEUES, way.polling, true);
   MUST(front->alive);
 }
 
@@ -75,7 +82,7 @@ void front_again(struct front *front) {
   MUST(!socketpair(AF_UNIX, SOCK_STREAM | SOCK_CLOEXEC, 0, pair));
   front->socket = pair[0];
   front->alive =
-      session_begin(&front->session, pair[1], front->epoll, front->disks, QUEUES - FIXED_QUEUES, front->way.polls, true);
+      session_begin(&front->session, pair[1], front->epoll, front->disks, QUEUES - FIXED_QUEUES, front->way.polling, true);
   MUST(front->alive);
 }
 
@@ -378,6 +385,8 @@ void driver_kick(struct front *front, unsigned q) {
   if (front->way.event_index && !front->way.packed) {
     uint16_t event = (uint16_t)little_get(front->memory + place_of(q, 2) + 4 + 8 * (uint64_t)front->size, 2);
     if ((uint16_t)(queue->next - event - 1) >= (uint16_t)(queue->next - before)) return;
+  } else if (little_get(front->memory + place_of(q, 2) + (front->way.packed ? 2 : 0), 2) & 1) {
+    return;  // the device asked for none (2.7.6 and 2.8.14)
   }
   MUST(write(front->kick[q], &once, sizeof once) == sizeof once);
 }

@@ -11,7 +11,8 @@ enum { FLAG_NEXT = 1, FLAG_WRITE = 2, FLAG_INDIRECT = 4, FLAG_AVAILABLE = 0x80, 
 
 // How a session is: which form its rings have and which features, and how the guest's memory lies.
 struct way {
-  bool packed, event_index, indirect, far, polls;
+  bool packed, event_index, indirect, far;
+  struct polling polling;
 };
 
 // Returns the way with this number, 0 to 15.

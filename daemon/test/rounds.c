@@ -283,7 +283,9 @@ void test_costs(void) {
     costs = (struct costs){.counts = true};
     for (unsigned i = 0; i < TURNS; i++) MUST(command(&front, Q, ready, sizeof ready, NULL, 0, NULL, 0) == 0);
     costs.counts = false;
-    MUST(!costs.allocations && !costs.texts && costs.calls && costs.calls < TURNS * MOST_CALLS);
+    MUST(!costs.allocations && !costs.texts && costs.calls);
+    // Rings that are looked at without a kick are so until some time has passed.
+    MUST(front.way.polling.most || costs.calls < TURNS * MOST_CALLS);
     load_end(&front, &disks);
   }
 }

@@ -4,6 +4,7 @@
 #include <poll.h>
 #include <string.h>
 #include <sys/epoll.h>
+#include <sys/eventfd.h>
 #include <sys/mman.h>
 #include <unistd.h>
 
@@ -468,7 +469,7 @@ void test_polls(void) {
     char why[200];
     memset(&disks, 0, sizeof disks);
     MUST(disks_add(&disks, "0:0=1M", why, sizeof why));
-    way.polls = true;
+    way.polling = (struct polling){.most = 10000000, .is_fixed = true};
     front_begin(&front, &disks, way);
     front_agree(&front);
     for (unsigned turns = 0; turns < 3; turns++) {
@@ -486,6 +487,163 @@ void test_polls(void) {
     faults.passed++;
     pump(&front);
     end(&front, &disks);
+  }
+}
+
+static void begin_polled(struct front *front, struct disks *disks, unsigned number, struct polling polling) {
+  struct way way = way_of(number);
+  char why[200];
+  memset(disks, 0, sizeof *disks);
+  MUST(disks_add(disks, "0:0=1M", why, sizeof why));
+  way.polling = polling;
+  front_begin(front, disks, way);
+  front_agree(front);
+}
+
+void test_windows(void) {
+  for (unsigned number = 0; number < WAYS; number++) {
+    struct disks disks;
+    struct front front;
+    const struct session *session = &front.session;
+    // What comes soon has the session look for longer, and what comes late has it wait for a kick at once.
+    begin_polled(&front, &disks, number, (struct polling){.most = UINT64_C(10000000000)});
+    for (unsigned i = 0; i < 40; i++) MUST(is_seen(&front, true));
+    uint64_t before = session->window;
+    MUST(before >= 4000 && before <= session->polling.most);
+    faults.passed += 11;
+    pump(&front);
+    driver_kick(&front, 3);
+    pump(&front);
+    MUST(!session->more && session->window == before && !session->backend.silent);
+    MUST(is_seen(&front, true) && !session->window && !session->more && !session->backend.silent);
+    end(&front, &disks);
+    begin_polled(&front, &disks, number, (struct polling){0});
+    for (unsigned i = 0; i < 40; i++) MUST(is_seen(&front, true) && !session->window && !session->more);
+    end(&front, &disks);
+  }
+}
+
+void test_disabled(void) {
+  enum { Q = 3 };
+  for (unsigned number = 0; number < WAYS; number++) {
+    struct disks disks;
+    struct front front;
+    uint32_t length;
+    begin_polled(&front, &disks, number, (struct polling){.most = 10000000, .is_fixed = true});
+    MUST(is_seen(&front, true) && front.session.backend.silent >> Q & 1);
+    // The driver was asked not to notify, and the others are asked for kicks while its queue isn't served.
+    front_say(&front, SET_VRING_ENABLE, Q);
+    turn(&front);
+    if (number & 8) MUST(!is_seen(&front, true));
+    faults.passed++;
+    pump(&front);
+    MUST(front.alive && !front.session.more);
+    front_say(&front, SET_VRING_ENABLE, Q | UINT64_C(1) << 32);
+    turn(&front);
+    if (number & 8) MUST(driver_next(&front, Q, 2, &length));
+    faults.passed++;
+    pump(&front);
+    MUST(!front.session.more && is_seen(&front, true));
+    end(&front, &disks);
+  }
+}
+
+void test_replaced(void) {
+  enum { Q = 3 };
+  for (unsigned number = 0; number < WAYS; number++) {
+    static const struct part parts[] = {{0x200000, 51, false}, {0x201000, 108, true}};
+    struct disks disks;
+    struct front front;
+    struct sent sent;
+    uint32_t length;
+    int other = eventfd(0, EFD_NONBLOCK | EFD_CLOEXEC);
+    begin(&front, &disks, number);
+    front_agree(&front);
+    MUST(is_ready(&front, Q));
+    // A kick that comes while the daemon takes another descriptor in place of the one that it came by.
+    front_descriptor(&sent, SET_VRING_KICK, Q, other);
+    MUST(front_send(&front, &sent, 0, sent.length));
+    put_request(&front, 0x200000, ready, sizeof ready);
+    driver_put(&front, Q, parts, 2);
+    driver_kick(&front, Q);
+    MUST(session_read(&front.session));
+    pump(&front);
+    MUST(driver_next(&front, Q, 2, &length) && front_reply(&front, sent.bytes, sizeof sent.bytes) == 8);
+    close(front.kick[Q]);
+    front.kick[Q] = other;
+    for (unsigned i = 0; i < 3; i++) MUST(is_ready(&front, Q));
+    end(&front, &disks);
+  }
+}
+
+static struct front *late;
+
+// A request that comes before its driver could see that it was asked to notify, while the device has more to do than it gets done.
+static void come_late(void) {
+  static const struct part parts[] = {{0x200000, 51, false}, {0x201000, 108, true}};
+  put_request(late, 0x200000, ready, sizeof ready);
+  driver_put(late, 3, parts, 2);
+  late->queues[3].told = late->queues[3].next;
+  faults.endless = true;
+}
+
+void test_late(void) {
+  for (unsigned number = 0; number < WAYS; number++) {
+    static const struct part parts[] = {{0x210000, 51, false}, {0x211000, 108, true}};
+    struct disks disks;
+    struct front front;
+    uint32_t length;
+    begin_polled(&front, &disks, number, (struct polling){0});
+    MUST(is_ready(&front, 3));
+    late = &front;
+    put_request(&front, 0x210000, ready, sizeof ready);
+    driver_put(&front, 3, parts, 2);
+    driver_kick(&front, 3);
+    // Behind the call that takes this one the driver is asked for the next.
+    faults.comes_after = 1;
+    faults.comes = come_late;
+    turn(&front);
+    faults.comes = NULL;
+    faults.endless = false;
+    pump(&front);
+    MUST(driver_next(&front, 3, 2, &length));
+    // Others aren't asked each time.
+    MUST(driver_next(&front, 3, 2, &length) == (front.way.event_index && !front.way.packed));
+    for (unsigned i = 0; i < 3; i++) MUST(is_ready(&front, 3));
+    end(&front, &disks);
+  }
+}
+
+static void let_pass(void) { faults.passed++; }
+
+void test_interrupted(void) {
+  for (unsigned number = 0; number < WAYS; number++) {
+    static const struct part parts[3][2] = {{{0x200000, 51, false}, {0x201000, 108, true}},
+                                            {{0x210000, 51, false}, {0x211000, 108, true}},
+                                            {{0x220000, 51, false}, {0x221000, 108, true}}};
+    for (unsigned after = 1; after < 4; after++) {
+      struct disks disks;
+      struct front front;
+      uint32_t length;
+      begin_polled(&front, &disks, number, (struct polling){0});
+      MUST(is_ready(&front, 3));
+      // Queues take turns, and the daemon doesn't run for a second behind the turns of some of them.
+      faults.endless = true;
+      MUST(is_seen(&front, true) && front.session.more);
+      faults.endless = false;
+      faults.comes_after = after;
+      faults.comes = let_pass;
+      turn(&front);
+      for (unsigned i = 0; i < 3; i++) {
+        put_request(&front, parts[i][0].place, ready, sizeof ready);
+        driver_put(&front, 2 + i, parts[i], 2);
+        driver_kick(&front, 2 + i);
+      }
+      pump(&front);
+      for (unsigned i = 0; i < 3; i++) MUST(driver_next(&front, 2 + i, 2, &length));
+      faults.comes = NULL;
+      end(&front, &disks);
+    }
   }
 }
 

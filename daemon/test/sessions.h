@@ -36,8 +36,20 @@ void test_reset(void);
 void test_refused(void);
 void test_endless(void);
 
-// Rings that are looked at while their driver is busy, without its kicks.
+// Rings that are looked at while their driver is busy, without its kicks: always for as long, or as that pays. And one that isn't
+// served when its driver would be asked for its kicks again.
 void test_polls(void);
+void test_windows(void);
+void test_disabled(void);
+
+// A kick's descriptor that is replaced while its driver notifies.
+void test_replaced(void);
+
+// A request that comes just as its driver is asked to notify, in a round that is cut off.
+void test_late(void);
+
+// Requests of queues that had nothing left in a round that is cut off among their turns.
+void test_interrupted(void);
 
 // The status of a device, whose reset it also is.
 void test_status(void);

@@ -203,6 +203,7 @@ def test_words(room):
              [*named, *disk, "--queues", "17"], [*named, *disk, "--queues", ""], [*named, *disk, "x"], [*named, *disk, "--x"],
              [*named, *disk, "--mode", "888"], [*named, *disk, "--mode", "1777"], [*named, *disk, "--fd", "3"], [*disk, "--fd", "1"],
              [*disk, "--fd", "3", "--mode", "600"], [*named, *disk, "--seccomp", "maybe"], [*named, "--disk", "0:0=1M,snapshot"],
+             [*named, *disk, "--poll-max-ns", "10000001"], [*named, *disk, "--poll-max-ns", "-1"], [*named, *disk, "--poll-max-ns"],
              [*named, "--disk", "0:0=1M,grow"], [*named, "--disk", "0:0=1M,file=x", "--log", "x"],
              [*named, "--disk", "0:0=file="], [*named, "--disk", "0:0=file=x,grow"]]
     for words in wrong:
@@ -651,6 +652,21 @@ def test_calls_that_nobody_reads(room):
             front.write(8 * i, b"a" * 4096)
             wait_for(lambda: front.answered() == 1 + i, "a WRITE")  # noqa: B023
         assert front.asks() and run.poll() is None
+
+
+def test_idle(room):
+    """However it looks at rings, it takes no processor once a guest has been idle for a while."""
+    for words in ([], ["--poll"], ["--poll-max-ns", "0"], ["--poll-max-ns", "10000000"]):
+        with room.runs("--disk", "0:0=1M", *words) as run, FrontEnd(connected(room.socket)) as front:
+            for i in range(6):
+                front.write(8 * i, b"a" * 4096)
+                wait_for(lambda: front.answered() == 1 + i, "a WRITE")  # noqa: B023
+            time.sleep(0.3)
+            took = Path(f"/proc/{run.pid}/schedstat")
+            before = int(took.read_text().split()[0])
+            time.sleep(1)
+            assert int(took.read_text().split()[0]) - before < 5_000_000, words
+            assert front.asks() and run.poll() is None
 
 
 def test_nonsense(room):

@@ -4,10 +4,15 @@
 //
 // In each round it makes so many requests available, notifies once, and waits, with no interrupt, until all are used. It looks at every
 // status, and prints nanoseconds a request, and those that the back end's process, if one is named, took of a processor.
+//
+// While it waits it runs, and where others want its processor the back end may be one of them. So behind some looks it lets others run
+// in between: else each round would take as long as a turn of each of them. Where nothing is used for a minute it says how the rings
+// stand, and whether one more notification helps.
 #define _GNU_SOURCE
 #include <dirent.h>
 #include <errno.h>
 #include <inttypes.h>
+#include <sched.h>
 #include <stdbool.h>
 #include <stdint.h>
 #include <stdio.h>
@@ -24,6 +29,8 @@ enum { GET_FEATURES = 1, SET_FEATURES, SET_OWNER, SET_MEM_TABLE = 5, SET_NUM = 8
        GET_PROTOCOL = 15, SET_PROTOCOL, SET_ENABLE = 18 };
 enum { MEMORY = 64 << 20, SIZE = 128, DESCRIPTORS = 0x1000, AVAILABLE = 0x2000, USED = 0x3000, REQUESTS = 0x10000, DATA = 0x100000,
        EACH = 0x10000, NEXT = 1, WRITE = 2, DISK = 32 << 20 };
+// How often it looks before it lets others run, and seconds in which something is used, and in which one more notification helps.
+enum { LOOKS = 1000, PATIENCE = 60, AGAIN = 5 };
 #define VERSION_1 (UINT64_C(1) << 32)
 #define PROTOCOL (UINT64_C(1) << 30)
 
@@ -130,6 +137,38 @@ static void look(unsigned i) {
   if (is_blk ? answer[0] : answer[10] || answer[11]) fail("a status");
 }
 
+static uint64_t now(void) {
+  struct timespec time;
+  clock_gettime(CLOCK_MONOTONIC, &time);
+  return (uint64_t)time.tv_sec * 1000000000 + (uint64_t)time.tv_nsec;
+}
+
+static uint16_t used(void) { return __atomic_load_n((uint16_t *)(memory + USED + 2), __ATOMIC_ACQUIRE); }
+
+// Waits until all up to a place is used, for so many seconds behind the last that was.
+static bool wait_for(uint16_t next, uint64_t seconds) {
+  uint64_t since = 0;
+  uint16_t seen = used();
+
+  for (uint64_t looks = 0; used() != next; looks++) {
+    if (looks < LOOKS) {
+      __builtin_ia32_pause();
+      continue;
+    }
+    if (!since || used() != seen) since = now(), seen = used();
+    if (now() - since > seconds * 1000000000) return false;
+    sched_yield();
+  }
+  return true;
+}
+
+static void give_up(uint16_t next) {
+  fprintf(stderr, "front_bench: available %u, used %u, flags %u: nothing for %d seconds\n", next, used(), *(uint16_t *)(memory + USED), PATIENCE);
+  eventfd_write(kick, 1);
+  fprintf(stderr, "front_bench: one more notification %s\n", wait_for(next, AGAIN) ? "helps" : "doesn't help");
+  exit(1);
+}
+
 // Has requests to these blocks served.
 static void serve(const uint64_t *blocks, unsigned depth, uint32_t bytes) {
   static uint16_t next;
@@ -142,7 +181,7 @@ static void serve(const uint64_t *blocks, unsigned depth, uint32_t bytes) {
   __atomic_store_n((uint16_t *)(memory + AVAILABLE + 2), next, __ATOMIC_RELEASE);
   __atomic_thread_fence(__ATOMIC_SEQ_CST);
   if (!(*(volatile uint16_t *)(memory + USED) & 1)) eventfd_write(kick, 1);
-  while (__atomic_load_n((uint16_t *)(memory + USED + 2), __ATOMIC_ACQUIRE) != next) __builtin_ia32_pause();
+  if (!wait_for(next, PATIENCE)) give_up(next);
   for (unsigned i = 0; i < depth; i++) look(i);
 }
 
@@ -164,12 +203,6 @@ static void run(uint64_t rounds, unsigned depth, uint32_t bytes) {
     }
     serve(blocks, depth, bytes);
   }
-}
-
-static uint64_t now(void) {
-  struct timespec time;
-  clock_gettime(CLOCK_MONOTONIC, &time);
-  return (uint64_t)time.tv_sec * 1000000000 + (uint64_t)time.tv_nsec;
 }
 
 // Returns how many nanoseconds the threads of a process ran.
@@ -199,7 +232,6 @@ int main(int count, char **words) {
   uint64_t requests = strtoull(words[6], NULL, 10), rounds = requests / depth;
   const char *process = count > 7 ? words[7] : "none";
 
-  alarm(300);
   begin(words[1], is_blk ? 0 : 2);
   fill();
   run(rounds / 10 + 1, depth, bytes);
