@@ -14,8 +14,8 @@ use Rattle.device_model.specs.Event.Wake.{Awakens}
 use Rattle.device_model.specs.Turns.{Turns}
 use Rattle.device_steps.specs.Kept.{KeptSeat, seat_of}
 use Rattle.phases.specs.Inner.Units.{CommitsOrDefers}
-use Rattle.device_steps.specs.Aside.{KeptAside, awakened}
-use Rattle.device_steps.specs.Inner.Aside.{ShareLimit}
+use Rattle.device_steps.specs.Aside.{KeptAside}
+use Rattle.device_steps.specs.Inner.Aside.{awakened, ShareLimit}
 use Rattle.device_steps.specs.Inner.Cursors.{Denies}
 use Rattle.device_steps.proofs.Handing.{begins, is_empty, seat_is, seats_after}
 use Rattle.device_steps.proofs.Stages.{none_wakes, none_resumes}

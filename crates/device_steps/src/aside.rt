@@ -3,7 +3,7 @@
 ghost use Rattle.std.specs.Prelude.{◌≡◌, ◌<◌, ◌+◌, ◌↔◌, [], IfOk, IsTrue, drop, length, slice_get};
 ghost use Rattle.phases.specs.Parts.{hand_of};
 ghost use Rattle.phases.specs.Inner.Units.{CommitsOrDefers};
-ghost use Rattle.device_steps.specs.Aside.{awakened, waiting_of};
+ghost use Rattle.device_steps.specs.Inner.Aside.{awakened, waiting_of};
 ghost use Rattle.device_steps.specs.Inner.Cursors.{Denies};
 
 use foundation::NoMemory;

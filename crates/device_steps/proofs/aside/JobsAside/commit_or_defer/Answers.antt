@@ -1,7 +1,8 @@
 use Rattle.std.proofs.Common.{◌<◌, ◌+◌, length, sym, ap, ◌∙◌, subst}
 use Rattle.phases.specs.Parts.{hand_of}
 use Rattle.phases.specs.Inner.Units.{CommitsOrDefers}
-use Rattle.device_steps.specs.Aside.{KeptAside, waiting_of}
+use Rattle.device_steps.specs.Aside.{KeptAside}
+use Rattle.device_steps.specs.Inner.Aside.{waiting_of}
 use Rattle.device_steps.proofs.Resuming.{room_kept, limit_kept}
 use Rattle.device_steps.proofs.aside.JobsAside.commit_or_defer.Goals as goal
 

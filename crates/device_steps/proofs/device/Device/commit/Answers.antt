@@ -5,7 +5,7 @@ use Rattle.device_model.specs.Events.{Event}
 use Rattle.phases.specs.Parts.{committing_unit}
 use Rattle.device_model.specs.Turns.{Turns}
 use Rattle.device_steps.specs.Kept.{KeptSeat}
-use Rattle.device_steps.specs.Aside.{waiting_of}
+use Rattle.device_steps.specs.Inner.Aside.{waiting_of}
 use Rattle.device_steps.specs.Inner.Kept.{HasLists}
 use Rattle.device_steps.specs.Apart.{standing}
 use Rattle.device_steps.specs.contracts.device.Device.{the_view}
