@@ -1,5 +1,5 @@
 -- The phase that commits the job in a seat's hand takes the turn of its event.
-use Rattle.std.proofs.Common.{◌≡◌, ℕ, Bool, true, false, List, Some, refl, sym, ap, ◌∙◌, subst, inl, inr}
+use Rattle.std.proofs.Common.{◌≡◌, ℕ, Bool, true, false, List, [], ◌∷◌, ◌++◌, Some, refl, sym, ap, ◌∙◌, subst, inl, inr}
 use Rattle.std.proofs.lemmas.Bool.{false≢true}
 use Rattle.unit_model.specs.declared.reason.Reason.{Reason}
 use Rattle.command_model.specs.PlainReply.{PlainReply}
@@ -9,7 +9,7 @@ use Rattle.unit_model.specs.Tasks.{task_of}
 use Rattle.unit_model.specs.Steps.{Step, alive, done}
 use Rattle.unit_model.specs.Marks.{marked}
 use Rattle.unit_model.specs.Enabling.{enabled}
-use Rattle.unit_model.specs.Jobs.{PlainJob}
+use Rattle.unit_model.specs.Jobs.{PlainJob, Jobs}
 use Rattle.unit_model.specs.Unit.{PlainUnit, after as stepped}
 use Rattle.unit_model.specs.Asking.{CannotCommit}
 use Rattle.device_model.specs.Parts.{Outcome, Hand}
@@ -27,10 +27,15 @@ use Rattle.device_model.proofs.Joining.{joins}
 use Rattle.phases.specs.Parts.{committing_unit}
 use Rattle.phases.specs.DoingUnit.{DoesUnit}
 use Rattle.phases.specs.Units.{IsCommitting, ending_after, Commits}
+use Rattle.phases.specs.Inner.Units.{CommitsOrDefers}
 use Rattle.device_steps.specs.Kept.{KeptSeat, seat_of}
 use Rattle.device_steps.specs.Inner.Sound.{IsSound}
 use Rattle.device_steps.proofs.Setting.{set_change, set_same}
 use Rattle.device_steps.proofs.Seats.{seat_set, shown, with_unit_and_seat, moved}
+
+-- the device with other jobs that wait for pages
+abbrev pub with_aside : List PlainJob → PlainWorld → PlainWorld
+with_aside aside w = record w { aside = aside }
 
 -- one of two tests that hold isn't neither
 neither : (a b : Bool) → (a || b) ≡ true → b ≡ false → a ≡ false → ⊥
@@ -107,6 +112,24 @@ module _ (w : PlainWorld) (kept : List KeptSeat) (k : ℕ) (x : PlainJob) (jobs 
       let d = Transition.CommitAborted k x why in
       step d _ _ refl (joins d w held (u, there, does.asks) tt) (unit_left does.is) is refl
 
+  -- the job waits behind those that do
+  defers : (aside : List PlainJob) → DoesUnit (Transition.Defer k x) u v → h ≡ Hand.Empty → aside ≡ w.aside ++ x ∷ []
+      → Turns w (Event.Commit k) true
+      (with_aside aside (with_unit_and_seat w x.unit v kept k (record { hand = h; jobs = jobs; limit = limit })))
+  defers aside does hs is =
+      let d = Transition.Defer k x in
+      let s : KeptSeat = record { hand = Hand.Taken x; jobs = jobs; limit = limit } in
+      let t : KeptSeat = record { hand = h; jobs = jobs; limit = limit } in
+      let set : map seat_of (slice_set kept k t) ≡ change (with_hand Hand.Empty) k w.seats =
+      seat_set (with_hand Hand.Empty) k kept s t at (ap (λ (z : Hand). record { hand = z; out = jobs }) hs)
+      ∙ ap (λ (zs : List Seat). change (with_hand Hand.Empty) k zs) (sym seats) in (
+        d,
+        refl,
+        joins d w held (u, there, does.asks) tt,
+        ap (λ (l : List PlainJob). with_aside l (with_unit_and_seat w x.unit v kept k t)) is
+            ∙ ap (λ (z : PlainWorld). with_aside (w.aside ++ x ∷ []) z) (moved w _ _ _ _ set (unit_left does.is)),
+      )
+
   -- whichever transition of the commit is done
   done_as : (d : Transition) → IsSound w → IsCommitting k x d → DoesUnit d u v → h ≡ Hand.Done x (Outcome.Ended (ending_after d))
       → Done
@@ -138,3 +161,27 @@ commits w kept k place (Hand.Taken x) jobs limit u v h true sound seats at unit 
     (ap (λ i. slice_get w.units i) is ∙ there) d sound of does ends in
     subst (λ i. Turns w (Event.Commit k) true
     (with_unit_and_seat w i v kept k (record { hand = h; jobs = jobs; limit = limit }))) is done
+
+-- or puts the job aside
+pub commits_or_defers : (w : PlainWorld) (kept : List KeptSeat) (k place : ℕ) (hand : Hand) (jobs : List PlainJob) (limit : ℕ)
+    (u v : PlainUnit) (h : Hand) (places : ℕ) (aside : Jobs) (b : Bool) → IsSound w → w.seats ≡ map seat_of kept
+    → slice_get kept k ≡ Some (record { hand = hand; jobs = jobs; limit = limit }) → committing_unit hand ≡ Some place
+    → slice_get w.units place ≡ Some u → CommitsOrDefers hand u (record { jobs = w.aside; limit = places }) b v h aside
+    → Turns w (Event.Commit k) b
+    (with_aside aside.jobs (with_unit_and_seat w place v kept k (record { hand = h; jobs = jobs; limit = limit })))
+commits_or_defers w kept k place Hand.Empty jobs limit u v h places aside b sound seats at unit there c = absurd (nothing unit)
+commits_or_defers w kept k place (Hand.Done x o) jobs limit u v h places aside b sound seats at unit there c = absurd (nothing unit)
+commits_or_defers w kept k place (Hand.Answered p t) jobs limit u v h places aside b sound seats at unit there c =
+    absurd (nothing unit)
+commits_or_defers w kept k place (Hand.Taken x) jobs limit u v h places aside false sound seats at unit there c = absurd c.0
+commits_or_defers w kept k place (Hand.Taken x) jobs limit u v h places aside true sound seats at unit there (inl (c, same_jobs)) =
+    subst (λ (j : Jobs). Turns w (Event.Commit k) true
+    (with_aside j.jobs (with_unit_and_seat w place v kept k (record { hand = h; jobs = jobs; limit = limit })))) (sym same_jobs)
+    (commits w kept k place (Hand.Taken x) jobs limit u v h true sound seats at unit there c)
+commits_or_defers w kept k place (Hand.Taken x) jobs limit u v h places aside true sound seats at unit there (inr c) =
+    let is : x.unit ≡ place = same unit in
+    let (does, free, more) = c k in
+    subst (λ i. Turns w (Event.Commit k) true
+    (with_aside aside.jobs (with_unit_and_seat w i v kept k (record { hand = h; jobs = jobs; limit = limit })))) is
+    (defers w kept k x jobs limit u v h seats at (ap (λ i. slice_get w.units i) is ∙ there) aside.jobs does free
+    (ap (λ (j : Jobs). j.jobs) more))

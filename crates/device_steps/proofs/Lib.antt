@@ -15,6 +15,7 @@ pub mod Pokes
 pub mod Off
 pub mod Finding
 pub mod Handing
+pub mod Resuming
 pub mod Entering
 pub mod Marking
 pub mod Seats

@@ -18,6 +18,7 @@ use Rattle.device_model.specs.Event.Check.{MayCheck}
 use Rattle.device_model.specs.Event.Mark.{MayMark}
 use Rattle.device_model.specs.Event.AnswerTmf.{MayRespond}
 use Rattle.device_model.specs.Event.HandOff.{MayPut, MayTake}
+use Rattle.device_model.specs.Event.Wake.{MayResume}
 use Rattle.device_model.specs.Event.Fetch.{IsOpenTo}
 use Rattle.device_model.specs.Found.{SeatIs}
 use Rattle.device_model.proofs.Lists.{same, nothing}
@@ -285,9 +286,9 @@ job_steps w k h jobs at free busy =
     job_there w k jobs (subst (λ (g : Hand). SeatIs w k g jobs) free at) (λ none. busy (free, none))
 
 -- an idle seat: it takes a job, where it is a worker's and one was handed off
-idle_seat : (w : PlainWorld) (k : ℕ) → w.woken ≡ [] → SeatIs w k Hand.Empty [] → (MayTake w k → ⊥)
+idle_seat : (w : PlainWorld) (k : ℕ) → (MayResume w k → ⊥) → SeatIs w k Hand.Empty [] → (MayTake w k → ⊥)
     → NoneApplies w (of_seat k)
-idle_seat w k woken at never =
+idle_seat w k none at never =
     let i = stages.free w k ([], at) in (
       i.leave,
       (
@@ -296,14 +297,26 @@ idle_seat w k woken at never =
           i.commit,
           (
             (λ (m : MayPut w k). not_empty (ap (λ (s : Seat). s.out) (same (sym m.seat ∙ at)))),
-            (stages.none_resumes w k woken, (never, tt)),
+            (none, (never, tt)),
           ),
         ),
       ),
     )
 
-pub no_worker : (w : PlainWorld) (k : ℕ) → w.woken ≡ [] → SeatIs w k Hand.Empty [] → (k < w.workers → ⊥) → NoneApplies w (of_seat k)
-no_worker w k woken at operator = idle_seat w k woken at (λ (m : MayTake w k). operator m.worker)
+pub no_worker : (w : PlainWorld) (k : ℕ) → SeatIs w k Hand.Empty [] → (k < w.workers → ⊥) → NoneApplies w (of_seat k)
+no_worker w k at operator =
+    idle_seat w k (λ (m : MayResume w k). operator m.worker) at (λ (m : MayTake w k). operator m.worker)
+
+-- or it tries one again
+again : (w : PlainWorld) (k : ℕ) (jobs : List PlainJob) → w.woken ≡ jobs → SeatIs w k Hand.Empty [] → k < w.workers
+    → (jobs ≡ [] → ⊥) → NoneApplies w (of_seat k) → ⊥
+again w k [] is at worker some none = some refl
+again w k (x ∷ rest) is at worker some none =
+    none.1.1.1.1.0 (record { worker = worker; free = ([], at); job = x; rest = rest; first = is })
+
+pub tries_again : (w : PlainWorld) (k : ℕ) → SeatIs w k Hand.Empty [] → k < w.workers → (w.woken ≡ [] → ⊥)
+    → NoneApplies w (of_seat k) → ⊥
+tries_again w k at worker some = again w k w.woken refl at worker some
 
 bare : (w : PlainWorld) (k i : ℕ) → SeatIs w k Hand.Empty [] → k < w.workers → NoneApplies w (of_seat k)
     → (jobs : List PlainJob) → slice_get w.handed_off i ≡ Some jobs → jobs ≡ []
@@ -322,7 +335,7 @@ pub takes : (w : PlainWorld) (k : ℕ) (b : Bool) → w.woken ≡ [] → SeatIs 
     → Denies (NoneApplies w (of_seat k)) b
 takes w k true woken at worker h = λ none. h (λ i jobs there. bare w k i at worker none jobs there)
 takes w k false woken at worker h =
-    idle_seat w k woken at (λ (m : MayTake w k). not_empty (h m.from (m.job ∷ m.rest) m.handed_off))
+    idle_seat w k (stages.none_resumes w k woken) at (λ (m : MayTake w k). not_empty (h m.from (m.job ∷ m.rest) m.handed_off))
 
 -- All of them
 

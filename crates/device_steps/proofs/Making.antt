@@ -56,9 +56,9 @@ everywhere_more P (z ∷ xs) y all h (suc i) x e = everywhere_more P xs y (λ j 
 
 -- the lists of a device that opens
 pub lists_open : (units : List PlainUnit) (count : ℕ) (seats : List KeptSeat)
-    → AreSeats count (64 * length units + 64) seats → HasLists units seats 1025
+    → AreSeats count (64 * length units + 64) seats → HasLists units seats (64 * length units + 64) 1025
 lists_open units count seats is =
-    record { limits = λ k s at. ap (λ (z : KeptSeat). z.limit) (is.each k s at); port = refl }
+    record { limits = λ k s at. ap (λ (z : KeptSeat). z.limit) (is.each k s at); aside = refl; port = refl }
 
 -- seats that open have nothing
 pub seats_idle : (count limit : ℕ) (seats : List KeptSeat) → AreSeats count limit seats
@@ -111,10 +111,11 @@ nothing_in [] none = refl
 nothing_in (x ∷ xs) none = absurd (omega (arith, none))
 
 -- the lists are those of as many units
-pub lists_over : (units over : List PlainUnit) (seats : List KeptSeat) (limit : ℕ) → length over ≡ length units
-    → HasLists units seats limit → HasLists over seats limit
-lists_over units over seats limit many lists =
+pub lists_over : (units over : List PlainUnit) (seats : List KeptSeat) (places limit : ℕ) → length over ≡ length units
+    → HasLists units seats places limit → HasLists over seats places limit
+lists_over units over seats places limit many lists =
     record {
       limits = λ k s at. lists.limits k s at ∙ ap (λ (n : ℕ). 64 * n + 64) (sym many);
+      aside = lists.aside ∙ ap (λ (n : ℕ). 64 * n + 64) (sym many);
       port = lists.port;
     }

@@ -15,32 +15,42 @@ use Rattle.device_model.specs.Transitions.{Transition}
 use Rattle.device_model.specs.Changing.{on_function, with_jobs}
 use Rattle.device_model.specs.Found.{handed_out}
 use Rattle.device_model.specs.Event.Mark.{IsMarking}
+use Rattle.device_model.specs.Event.Wake.{after_wake}
 use Rattle.device_model.specs.Phases.{IsLeft}
 use Rattle.device_model.specs.Addressed.{AreAddressed}
 use Rattle.device_model.specs.Standing.{HaveRoom}
 use Rattle.device_model.specs.Turns.{Turns}
 use Rattle.device_model.proofs.Lists.{same, nothing}
 use Rattle.device_model.proofs.Joining.{joins}
-use Rattle.phases.specs.DoingUnit.{with_more}
-use Rattle.phases.specs.Units.{MarksNext, MarksUnit, mark_at}
+use Rattle.phases.specs.DoingUnit.{HasPlaces, with_more}
+use Rattle.phases.specs.Units.{mark_at}
+use Rattle.phases.specs.Inner.Units.{VisitsUnit, VisitsNext}
+use Rattle.phases.specs.declared.marking.Visited.{Visited}
+use Rattle.phases.specs.declared.marking.Visited.TheVariants as visited
 use Rattle.device_steps.specs.Kept.{KeptSeat, seat_of}
-use Rattle.device_steps.proofs.Setting.{list_of, listing, unit_change, unit_still, seat_there, seat_more, seat_still, has_places, NoneWaits, none_woken}
+use Rattle.device_steps.proofs.Setting.{list_of, listing, unit_change, unit_still, seat_there, seat_more, seat_still, has_places}
 
 -- the list keeps its limit
-limit_of_kind : (inventory : PlainInventory) (f : Opened) (place : ℕ) (kind : Kind) (u : PlainUnit) (out : Jobs) (v : PlainUnit)
-    (g : Opened) (out' : Jobs) → MarksUnit inventory f place kind u out v g out' → out'.limit ≡ out.limit
-limit_of_kind inventory f place (Marking m) u out v g out' (inl h) = ap (λ (j : Jobs). j.limit) h.3
-limit_of_kind inventory f place (Marking m) u out v g out' (inr h) = ap (λ (j : Jobs). j.limit) h.jobs
-limit_of_kind inventory f place (Querying rule) u out v g out' (inl h) = ap (λ (j : Jobs). j.limit) h.3
-limit_of_kind inventory f place (Querying rule) u out v g out' (inr h) = ap (λ (j : Jobs). j.limit) h.1.jobs
+limit_of_kind : (inventory : PlainInventory) (f : Opened) (place : ℕ) (kind : Kind) (u : PlainUnit) (out : Jobs) (x : Visited)
+    (v : PlainUnit) (g : Opened) (out' : Jobs) → VisitsUnit inventory f place kind u out x v g out' → out'.limit ≡ out.limit
+limit_of_kind inventory f place (Marking m) u out visited.Marked v g out' h = ap (λ (j : Jobs). j.limit) h.3
+limit_of_kind inventory f place (Marking m) u out visited.Other v g out' h = ap (λ (j : Jobs). j.limit) h.jobs
+limit_of_kind inventory f place (Marking m) u out visited.Nothing v g out' h = absurd h
+limit_of_kind inventory f place (Querying rule) u out visited.Other v g out' (inl h) = ap (λ (j : Jobs). j.limit) h.3
+limit_of_kind inventory f place (Querying rule) u out visited.Other v g out' (inr h) = ap (λ (j : Jobs). j.limit) h.1.jobs
+limit_of_kind inventory f place (Querying rule) u out visited.Marked v g out' h = absurd h
+limit_of_kind inventory f place (Querying rule) u out visited.Nothing v g out' h = absurd h
 
-pub limit_stays : (inventory : PlainInventory) (f : Opened) (left : List ℕ) (u : PlainUnit) (out : Jobs) (b : Bool) (v : PlainUnit)
-    (g : Opened) (out' : Jobs) → MarksNext inventory f left u out b v g out' → out'.limit ≡ out.limit
-limit_stays inventory f (place ∷ later) u out true v g out' h =
-    limit_of_kind inventory f place f.function.kind u out v g out' h
-limit_stays inventory f (place ∷ later) u out false v g out' h = ap (λ (j : Jobs). j.limit) h.1.jobs
-limit_stays inventory f [] u out true v g out' h = absurd h
-limit_stays inventory f [] u out false v g out' h = ap (λ (j : Jobs). j.limit) h.jobs
+pub limit_stays : (inventory : PlainInventory) (f : Opened) (left : List ℕ) (u : PlainUnit) (out : Jobs) (x : Visited)
+    (v : PlainUnit) (g : Opened) (out' : Jobs) → VisitsNext inventory f left u out x v g out' → out'.limit ≡ out.limit
+limit_stays inventory f (place ∷ later) u out visited.Nothing v g out' h = ap (λ (j : Jobs). j.limit) h.1.jobs
+limit_stays inventory f (place ∷ later) u out visited.Marked v g out' h =
+    limit_of_kind inventory f place f.function.kind u out visited.Marked v g out' h
+limit_stays inventory f (place ∷ later) u out visited.Other v g out' h =
+    limit_of_kind inventory f place f.function.kind u out visited.Other v g out' h
+limit_stays inventory f [] u out visited.Nothing v g out' h = ap (λ (j : Jobs). j.limit) h.jobs
+limit_stays inventory f [] u out visited.Marked v g out' h = absurd h
+limit_stays inventory f [] u out visited.Other v g out' h = absurd h
 
 -- three parts of the device
 abbrev parts : PlainWorld → List PlainUnit → List Seat → Option Opened → PlainWorld
@@ -54,7 +64,7 @@ parts_are w a a' b b' c c' x y z = ap (λ l. parts w l b c) x ∙ ap (λ l. part
 abbrev pub marked_in : PlainWorld → List KeptSeat → ℕ → PlainUnit → ℕ → KeptSeat → Opened → PlainWorld
 marked_in w kept p v n t g = parts w (slice_set w.units p v) (map seat_of (slice_set kept n t)) (Some g)
 
-module _ (w : PlainWorld) (none : NoneWaits w) (kept : List KeptSeat) (are : w.seats ≡ map seat_of kept) (f : Opened)
+module _ (w : PlainWorld) (kept : List KeptSeat) (are : w.seats ≡ map seat_of kept) (f : Opened)
     (addressed : AreAddressed w) (there : w.function ≡ Some f) (p : ℕ) (later : List ℕ) (left : f.function.left ≡ p ∷ later) (u : PlainUnit)
     (u_at : slice_get w.units p ≡ Some u) (s : KeptSeat) (s_at : slice_get kept 0 ≡ Some s)
     (v : PlainUnit) (g : Opened) (out : Jobs) where
@@ -86,26 +96,31 @@ module _ (w : PlainWorld) (none : NoneWaits w) (kept : List KeptSeat) (are : w.s
   still : out ≡ list_of s → map seat_of (slice_set kept 0 (listing out s)) ≡ w.seats
   still is = seat_still w.seats kept are 0 s s_at out is
 
-  -- by what the function does
-  marks_unit : (kind : Kind) → f.function.kind ≡ kind → MarksUnit w.inventory f p kind u (list_of s) v g out
-      → Turns w Event.Mark true (marked_in w kept p v 0 (listing out s) g)
-  marks_unit (Marking m) is (inl h) = (
+  -- tasks are marked, and the jobs that wait are to be tried again
+  marks_tasks : (kind : Kind) → f.function.kind ≡ kind
+      → VisitsUnit w.inventory f p kind u (list_of s) visited.Marked v g out
+      → Turns w Event.Mark true (after_wake (marked_in w kept p v 0 (listing out s) g))
+  marks_tasks (Marking m) is h = (
     Transition.Mark f.chain.ticket (mark_at p u) m (handed_out u (step_by m)),
     refl,
     joins (Transition.Mark f.chain.ticket (mark_at p u) m (handed_out u (step_by m))) w
         (is_left (Marking m) is, (seat_of s, seat_there w.seats kept are 0 s s_at out)) (u, u_at, h.1.asks) tt,
-    parts_are w _ _ _ _ _ _ (unit_change (stepped (step_by m)) w.units p u v u_at h.1.is)
-        (more (handed_out u (step_by m)) h.3) (function_to (marking (mark_at p u)) h.2)
-        ∙ none_woken (parts w _ _ _) none,
+    ap after_wake (parts_are w _ _ _ _ _ _ (unit_change (stepped (step_by m)) w.units p u v u_at h.1.is)
+        (more (handed_out u (step_by m)) h.3) (function_to (marking (mark_at p u)) h.2)),
   )
-  marks_unit (Marking m) is (inr h) = (
+  marks_tasks (Querying rule) is h = absurd h
+
+  -- or a unit is looked at, or the function fails
+  looks : (kind : Kind) → f.function.kind ≡ kind → VisitsUnit w.inventory f p kind u (list_of s) visited.Other v g out
+      → Turns w Event.Mark true (marked_in w kept p v 0 (listing out s) g)
+  looks (Marking m) is h = (
     Transition.MarkRefused f.chain.ticket,
     refl,
     record { how = m; place = p; marking = is_marking (Marking m) is },
     parts_are w _ _ _ _ _ _ (unit_still w.units p u v u_at h.unit) (still h.jobs) (function_to failing h.function),
   )
-  marks_unit (Querying rule) is (inr h) = absurd (h.0 (addressed p u u_at))
-  marks_unit (Querying rule) is (inl h) = (
+  looks (Querying rule) is (inr h) = absurd (h.0 (addressed p u u_at))
+  looks (Querying rule) is (inl h) = (
     Transition.Ask f.chain.ticket p rule (any_met rule (alive u.steps)),
     refl,
     joins (Transition.Ask f.chain.ticket p rule (any_met rule (alive u.steps))) w (is_left (Querying rule) is)
@@ -114,19 +129,40 @@ module _ (w : PlainWorld) (none : NoneWaits w) (kept : List KeptSeat) (are : w.s
         (function_to (asking (any_met rule (alive u.steps))) h.2),
   )
 
--- what a mark does is the event's turn
-pub marks : (w : PlainWorld) (kept : List KeptSeat) → NoneWaits w → w.seats ≡ map seat_of kept → HaveRoom w → AreAddressed w
+-- whether something changed, and the device afterwards, where a mark has the jobs that wait tried again
+abbrev pub is_visit : Visited → Bool
+is_visit visited.Nothing = false
+is_visit visited.Marked = true
+is_visit visited.Other = true
+
+abbrev pub visited_in : Visited → PlainWorld → PlainWorld
+visited_in visited.Nothing w = w
+visited_in visited.Marked w = after_wake w
+visited_in visited.Other w = w
+
+-- a visit's turn, where the function goes on at the place that was found
+visits_at : (w : PlainWorld) (kept : List KeptSeat) → w.seats ≡ map seat_of kept → AreAddressed w
+    → (f : Opened) → w.function ≡ Some f → (p : ℕ) (u : PlainUnit) (s : KeptSeat) → slice_get w.units p ≡ Some u
+    → slice_get kept 0 ≡ Some s → (v : PlainUnit) (g : Opened) (out : Jobs) (later : List ℕ) → f.function.left ≡ p ∷ later
+    → HasPlaces (list_of s) → (x : Visited) → VisitsNext w.inventory f (p ∷ later) u (list_of s) x v g out
+    → Turns w Event.Mark (is_visit x) (visited_in x (marked_in w kept p v 0 (listing out s) g))
+visits_at w kept are addressed f there p u s u_at s_at v g out later is places visited.Nothing h = absurd (h.0 places)
+visits_at w kept are addressed f there p u s u_at s_at v g out later is places visited.Marked h =
+    marks_tasks w kept are f addressed there p later is u u_at s s_at v g out f.function.kind refl h
+visits_at w kept are addressed f there p u s u_at s_at v g out later is places visited.Other h =
+    looks w kept are f addressed there p later is u u_at s s_at v g out f.function.kind refl h
+
+-- what a visit does is the event's turn
+pub visits : (w : PlainWorld) (kept : List KeptSeat) → w.seats ≡ map seat_of kept → HaveRoom w → AreAddressed w
     → ((k : ℕ) (z : KeptSeat) → slice_get kept k ≡ Some z → z.limit ≡ 64 * length w.units + 64)
     → (f : Opened) → w.function ≡ Some f → (p : ℕ) (u : PlainUnit) (s : KeptSeat) → slice_get w.units p ≡ Some u
     → slice_get kept 0 ≡ Some s → (v : PlainUnit) (g : Opened) (out : Jobs) (left : List ℕ) → f.function.left ≡ left
-    → slice_get left 0 ≡ Some p → (b : Bool) → MarksNext w.inventory f left u (list_of s) b v g out
-    → Turns w Event.Mark b (marked_in w kept p v 0 (listing out s) g)
-marks w kept none are room addressed limits f there p u s u_at s_at v g out [] is first b h = absurd (nothing first)
-marks w kept none are room addressed limits f there p u s u_at s_at v g out (place ∷ later) is first false h =
-    absurd (h.0 (has_places w kept 0 s are room limits s_at))
-marks w kept none are room addressed limits f there p u s u_at s_at v g out (place ∷ later) is first true h =
+    → slice_get left 0 ≡ Some p → (x : Visited) → VisitsNext w.inventory f left u (list_of s) x v g out
+    → Turns w Event.Mark (is_visit x) (visited_in x (marked_in w kept p v 0 (listing out s) g))
+visits w kept are room addressed limits f there p u s u_at s_at v g out [] is first x h = absurd (nothing first)
+visits w kept are room addressed limits f there p u s u_at s_at v g out (place ∷ later) is first x h =
     subst
-    (λ k. slice_get w.units k ≡ Some u → Turns w Event.Mark true (marked_in w kept k v 0 (listing out s) g))
+    (λ k. slice_get w.units k ≡ Some u → Turns w Event.Mark (is_visit x) (visited_in x (marked_in w kept k v 0 (listing out s) g)))
     (same first)
-    (λ at. marks_unit w none kept are f addressed there place later is u at s s_at v g out f.function.kind refl h)
+    (λ at. visits_at w kept are addressed f there place u s at s_at v g out later is (has_places w kept 0 s are room limits s_at) x h)
     u_at

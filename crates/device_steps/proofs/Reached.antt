@@ -20,6 +20,7 @@ reached_by w e b w' r s =
       old = r.old;
       trace = record { event = e; action = s.action } ∷ r.trace;
       reached = record { opens = r.reached.opens; runs = (w, r.reached.runs, s.step) };
+      disks = r.disks;
     }
 
 -- a turn leaves as many queues and seats

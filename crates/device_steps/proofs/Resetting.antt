@@ -12,6 +12,7 @@ use Rattle.device_model.specs.World.{Seat, PlainWorld}
 use Rattle.device_model.specs.Events.{Event}
 use Rattle.device_model.specs.Transitions.{Transition}
 use Rattle.device_model.specs.Event.Hard.{hard_code, reports_of}
+use Rattle.device_model.specs.Event.Wake.{after_wake}
 use Rattle.device_model.specs.Found.{handed_out}
 use Rattle.device_model.specs.Addressed.{AreAddressed}
 use Rattle.device_model.specs.Standing.{HaveRoom}
@@ -23,7 +24,7 @@ use Rattle.phases.specs.Resetting.{Resets}
 use Rattle.device_steps.specs.Kept.{KeptSeat, seat_of}
 use Rattle.device_steps.specs.Inner.Steps.{TurnsOrWants}
 use Rattle.device_steps.specs.Sound.{AreFew, lun_of}
-use Rattle.device_steps.proofs.Setting.{list_of, listing, unit_change, unit_still, map_get, seat_there, seat_more, seat_still, has_places, NoneWaits, none_woken}
+use Rattle.device_steps.proofs.Setting.{list_of, listing, unit_change, unit_still, map_get, seat_there, seat_more, seat_still, has_places}
 
 -- the list keeps its limit
 pub reset_limit : (inventory : PlainInventory) (p : ℕ) (u v : PlainUnit) (out out' : Jobs) (x y : List EventRecord)
@@ -59,30 +60,34 @@ reset_as (Ok changed) = Ok changed
 reset_as (Err fault.WrongUnit) = Ok false
 reset_as (Err fault.NoMemory) = Err (record {})
 
+-- a reset has the jobs that wait tried again
+abbrev pub woken_by : Result Bool ResetFault → PlainWorld → PlainWorld
+woken_by (Ok true) w = after_wake w
+woken_by r w = w
+
 -- what a reset does is the event's turn, or memory was refused
-pub resets : (w : PlainWorld) (kept : List KeptSeat) → NoneWaits w → w.seats ≡ map seat_of kept → HaveRoom w → AreAddressed w → AreFew w
+pub resets : (w : PlainWorld) (kept : List KeptSeat) → w.seats ≡ map seat_of kept → HaveRoom w → AreAddressed w → AreFew w
     → ((k : ℕ) (z : KeptSeat) → slice_get kept k ≡ Some z → z.limit ≡ 64 * length w.units + 64)
     → (p : ℕ) (u v : PlainUnit) (s : KeptSeat) (out : Jobs) (waiting : List EventRecord) → slice_get w.units p ≡ Some u
     → slice_get kept w.workers ≡ Some s → (r : Result Bool ResetFault)
     → Resets w.inventory p u (list_of s) w.waiting r v out waiting
-    → TurnsOrWants w (Event.Hard p) (reset_as r) (reset_in w kept p v w.workers (listing out s) waiting)
-resets w kept none are room addressed few limits p u v s out waiting u_at s_at (Ok true) h =
+    → TurnsOrWants w (Event.Hard p) (reset_as r) (woken_by r (reset_in w kept p v w.workers (listing out s) waiting))
+resets w kept are room addressed few limits p u v s out waiting u_at s_at (Ok true) h =
     let jobs = handed_out u (Step.Reset hard_code) in
     let d = Transition.Hard (mark_at p u) jobs in
     let does = h.1 in (
       d,
       refl,
       joins d w (seat_of s, seat_there w.seats kept are w.workers s s_at out) (u, u_at, does.asks) tt,
-      parts_are w _ _ _ _ _ _ (unit_change (stepped (Step.Reset hard_code)) w.units p u v u_at does.is)
+      ap after_wake (parts_are w _ _ _ _ _ _ (unit_change (stepped (Step.Reset hard_code)) w.units p u v u_at does.is)
           (seat_more w.seats kept are w.workers s s_at out jobs h.2)
-          (h.3 ∙ ap (λ (o : Option PlainUnit). w.waiting ++ reports_of o) (sym u_at))
-          ∙ none_woken (reset_parts w _ _ _) none,
+          (h.3 ∙ ap (λ (o : Option PlainUnit). w.waiting ++ reports_of o) (sym u_at))),
     )
-resets w kept none are room addressed few limits p u v s out waiting u_at s_at (Ok false) h =
+resets w kept are room addressed few limits p u v s out waiting u_at s_at (Ok false) h =
     let lun : u.opening.lun ≤ 16383 = few.luns p (lun_of u) (map_get lun_of p w.units u u_at) in
     absurd (h.2 (has_places w kept w.workers s are room limits s_at) (omega (arith, lun)))
-resets w kept none are room addressed few limits p u v s out waiting u_at s_at (Err fault.WrongUnit) h = absurd (h.0 (addressed p u u_at))
-resets w kept none are room addressed few limits p u v s out waiting u_at s_at (Err fault.NoMemory) h = (
+resets w kept are room addressed few limits p u v s out waiting u_at s_at (Err fault.WrongUnit) h = absurd (h.0 (addressed p u u_at))
+resets w kept are room addressed few limits p u v s out waiting u_at s_at (Err fault.NoMemory) h = (
   (u, u_at),
   parts_are w _ _ _ _ _ _ (unit_still w.units p u v u_at h.1.unit)
       (seat_still w.seats kept are w.workers s s_at out h.1.jobs) h.1.waiting,

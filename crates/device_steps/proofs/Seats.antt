@@ -34,15 +34,16 @@ seat_set g k kept s t at is =
     ∙ set_change g k (map seat_of kept) (seat_of s) (map_get seat_of k kept s at))
 
 -- the lists are those that they were, where one unit is set and one seat with the limit that it had
-pub keeps_unit : {room : ℕ} (units : List PlainUnit) (kept : List KeptSeat) (k place : ℕ) (u : PlainUnit)
+pub keeps_unit : {places room : ℕ} (units : List PlainUnit) (kept : List KeptSeat) (k place : ℕ) (u : PlainUnit)
     (s t : KeptSeat) → slice_get kept k ≡ Some s → t.limit ≡ s.limit
-    → HasLists units kept room → HasLists (slice_set units place u) (slice_set kept k t) room
+    → HasLists units kept places room → HasLists (slice_set units place u) (slice_set kept k t) places room
 keeps_unit units kept k place u s t at same_limit h =
     let size = length_set place units u in
     record {
       limits = everywhere_set (λ (z : KeptSeat). z.limit ≡ 64 * length (slice_set units place u) + 64) k kept t
           (λ i z e. h.limits i z e ∙ ap (λ n. 64 * n + 64) (sym size))
           (same_limit ∙ (h.limits k s at ∙ ap (λ n. 64 * n + 64) (sym size)));
+      aside = h.aside ∙ ap (λ n. 64 * n + 64) (sym size);
       port = h.port;
     }
 
@@ -99,11 +100,12 @@ moved_queue w m m' queues queues' seats seats' em eq es =
     ∙ ap (λ (z : List Seat). record w { memory = m'; queues = queues'; seats = z }) es)
 
 -- the lists are those that they were, where one seat is set with the limit that it had
-pub keeps_seat : {room : ℕ} (units : List PlainUnit) (kept : List KeptSeat) (k : ℕ) (s t : KeptSeat)
+pub keeps_seat : {places room : ℕ} (units : List PlainUnit) (kept : List KeptSeat) (k : ℕ) (s t : KeptSeat)
     → slice_get kept k ≡ Some s → t.limit ≡ s.limit
-    → HasLists units kept room → HasLists units (slice_set kept k t) room
+    → HasLists units kept places room → HasLists units (slice_set kept k t) places room
 keeps_seat units kept k s t at same_limit h = record {
   limits = everywhere_set (λ (z : KeptSeat). z.limit ≡ 64 * length units + 64) k kept t
       (λ i z e. h.limits i z e) (same_limit ∙ h.limits k s at);
+  aside = h.aside;
   port = h.port;
 }

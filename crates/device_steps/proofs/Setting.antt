@@ -78,14 +78,15 @@ seat_change g k kept s t at is =
     ∙ set_change g k (map seat_of kept) (seat_of s) (map_get seat_of k kept s at)
 
 -- what the device keeps of its lists, where a seat is set
-pub seat_kept : {room : ℕ} (units : List PlainUnit) (kept : List KeptSeat) (k : ℕ) (s t : KeptSeat)
-    → HasLists units kept room → slice_get kept k ≡ Some s → t.limit ≡ s.limit
-    → HasLists units (slice_set kept k t) room
+pub seat_kept : {places room : ℕ} (units : List PlainUnit) (kept : List KeptSeat) (k : ℕ) (s t : KeptSeat)
+    → HasLists units kept places room → slice_get kept k ≡ Some s → t.limit ≡ s.limit
+    → HasLists units (slice_set kept k t) places room
 seat_kept units kept k s t h at is =
     record {
       limits =
           everywhere_set (λ (z : KeptSeat). z.limit ≡ 64 * length units + 64) k kept t h.limits
           (is ∙ h.limits k s at);
+      aside = h.aside;
       port = h.port;
     }
 
@@ -151,17 +152,6 @@ module _ (seats : List Seat) (kept : List KeptSeat) (are : seats ≡ map seat_of
 pub none_more : (out : Jobs) (s : KeptSeat) → out ≡ with_more [] (list_of s) → out ≡ list_of s
 none_more out s is = is ∙ ap (λ (xs : List PlainJob). record { jobs = xs; limit = s.limit }) (append-nil s.jobs)
 
--- no job waits for pages, and none is to be tried again
-abbrev pub NoneWaits : PlainWorld → Type 0
-NoneWaits w = (w.aside ≡ []) × (w.woken ≡ [])
-
--- where none does, none is woken
-pub none_woken : (w : PlainWorld) → NoneWaits w → w ≡ record w { aside = []; woken = w.woken ++ w.aside }
-none_woken w none =
-    ap (λ (l : List PlainJob). record w { aside = l; woken = w.woken }) none.0
-    ∙ ap (λ (l : List PlainJob). record w { aside = []; woken = l })
-    (none.1 ∙ sym (ap (λ (l : List PlainJob). l ++ w.aside) none.1 ∙ none.0))
-
 -- there is room for all that a unit may hand out
 pub has_places : (w : PlainWorld) (kept : List KeptSeat) (n : ℕ) (s : KeptSeat) → w.seats ≡ map seat_of kept
     → HaveRoom w → ((k : ℕ) (z : KeptSeat) → slice_get kept k ≡ Some z → z.limit ≡ 64 * length w.units + 64)
@@ -173,14 +163,15 @@ has_places w kept n s are room limits at =
     omega (arith, few, many)
 
 -- what the device keeps of its lists, where a unit and a seat are set
-pub unit_kept : {room : ℕ} (units : List PlainUnit) (kept : List KeptSeat) (p : ℕ) (v : PlainUnit) (n : ℕ)
-    (s t : KeptSeat) → HasLists units kept room → slice_get kept n ≡ Some s → t.limit ≡ s.limit
-    → HasLists (slice_set units p v) (slice_set kept n t) room
+pub unit_kept : {places room : ℕ} (units : List PlainUnit) (kept : List KeptSeat) (p : ℕ) (v : PlainUnit) (n : ℕ)
+    (s t : KeptSeat) → HasLists units kept places room → slice_get kept n ≡ Some s → t.limit ≡ s.limit
+    → HasLists (slice_set units p v) (slice_set kept n t) places room
 unit_kept units kept p v n s t h at is =
     record {
       limits =
           everywhere_set (λ (z : KeptSeat). z.limit ≡ 64 * length (slice_set units p v) + 64) n kept t
           (λ k z e. h.limits k z e ∙ ap (λ j. 64 * j + 64) (sym (set_length p units v)))
           (is ∙ h.limits n s at ∙ ap (λ j. 64 * j + 64) (sym (set_length p units v)));
+      aside = h.aside ∙ ap (λ j. 64 * j + 64) (sym (set_length p units v));
       port = h.port;
     }

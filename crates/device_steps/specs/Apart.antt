@@ -24,6 +24,8 @@ pub record PlainDevice : Type 0 where
   pub units : List PlainUnit
   pub seats : List Seat
   pub workers : ℕ
+  pub aside : List PlainJob
+  pub woken : List PlainJob
   pub handed_off : List (List PlainJob)
   pub limit : ℕ
   pub function : Option Opened
@@ -32,7 +34,7 @@ pub record PlainDevice : Type 0 where
   pub waiting : List EventRecord
   pub tells_changes : Bool
 
--- the device with these bytes in memory, which is shared or not; no job waits for pages, since all disks are in memory
+-- the device with these bytes in memory, which is shared or not
 abbrev pub standing : Bool → List ℕ → PlainDevice → PlainWorld
 standing shared m d =
     record {
@@ -43,8 +45,8 @@ standing shared m d =
       units = d.units;
       seats = d.seats;
       workers = d.workers;
-      aside = [];
-      woken = [];
+      aside = d.aside;
+      woken = d.woken;
       handed_off = d.handed_off;
       limit = d.limit;
       function = d.function;

@@ -1,5 +1,6 @@
 pub mod Kept
 pub mod Off
+pub mod Aside
 pub mod Sound
 pub mod Apart
 pub mod Settling

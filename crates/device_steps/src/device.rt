@@ -1,5 +1,6 @@
 //! The parts of the device.
 
+use crate::aside::JobsAside;
 use crate::bay::Bay;
 use crate::handed_off::HandedOff;
 use crate::seat::Seat;
@@ -9,8 +10,9 @@ use request_intake::Inventory;
 use std::marker::Model;
 use unit_history::UnitState;
 
-/// The parts of the device but memory: queues with their slots, units, seats, the hand-off, the function, the event
-/// port and the events that wait for it. A host keeps it beside its memory, and lends each step that memory.
+/// The parts of the device but memory: queues with their slots, units, seats, the jobs that wait for pages, the hand-off,
+/// the function, the event port and the events that wait for it. A host keeps it beside its memory, and lends each step
+/// that memory.
 #[derive(Drop)]
 pub struct Device {
     pub(crate) inventory: Inventory,
@@ -18,6 +20,7 @@ pub struct Device {
     pub(crate) units: Vec<UnitState>,
     pub(crate) seats: Vec<Seat>,
     pub(crate) workers: u16,
+    pub(crate) jobs_aside: JobsAside,
     pub(crate) handed_off: HandedOff,
     pub(crate) function: Option<OpenFunction>,
     pub(crate) port: EventPort,
@@ -40,6 +43,8 @@ impl Model for Device {
       units = d.units.items;
       seats = map seat_of d.seats.items;
       workers = d.workers;
+      aside = d.jobs_aside.aside;
+      woken = d.jobs_aside.woken;
       handed_off = d.handed_off.lists;
       limit = d.handed_off.limit;
       function = d.function;
@@ -49,5 +54,5 @@ impl Model for Device {
       tells_changes = d.tells_changes;
     } };
 
-    ghost invariant = { λ d. HasLists d.units.items d.seats.items d.port.limit };
+    ghost invariant = { λ d. HasLists d.units.items d.seats.items d.jobs_aside.limit d.port.limit };
 }

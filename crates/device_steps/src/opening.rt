@@ -10,6 +10,7 @@ ghost use Rattle.std.specs.Vec.{vec_capacity};
 ghost use Rattle.device_steps.specs.Opening.{IsOpeningApart, AreOpening, AreFresh, AreDisksOf, opening_unit, AreDisksFor, over_disks};
 ghost use Rattle.device_steps.specs.Inner.Opening.{AreSeats};
 
+use crate::aside::JobsAside;
 use crate::bay::Bay;
 use crate::device::Device;
 use crate::handed_off::HandedOff;
@@ -126,6 +127,7 @@ pub fn open_device<M: Memory>(
         config.workers as usize + 1,
         MOST_TASKS * units.len() + MOST_TASKS,
     )?;
+    let jobs_aside = JobsAside::new(alloc, MOST_TASKS * units.len() + MOST_TASKS)?;
     let handed_off = HandedOff::new(alloc, seats.len(), config.handoff as usize)?;
     // One place more than a queue may have chains outstanding, so that a full port keeps no fault from being found.
     let Ok(port) = EventPort::new(alloc, MOST_DESCRIPTORS as usize + 1) else {
@@ -137,6 +139,7 @@ pub fn open_device<M: Memory>(
         units,
         seats,
         workers: config.workers,
+        jobs_aside,
         handed_off,
         function: None,
         port,

@@ -89,7 +89,8 @@ impl Device {
         false
     }
 
-    /// Returns true if this seat has a step to take: by its hand, with a job to hand off, or with one to take.
+    /// Returns true if this seat has a step to take: by its hand, with a job to hand off, with one to try again, or with one
+    /// to take.
     fn seat_goes_on(&self, number: u16) -> bool
         requires there { number < length self.now.seats }
         ensures { (shared : Bool) (m : List ℕ) → Denies (NoneApplies (standing shared m self.now) (of_seat number)) result }
@@ -103,6 +104,9 @@ impl Device {
         }
         if number >= self.workers {
             return false;
+        }
+        if self.jobs_aside.has_woken() {
+            return true;
         }
         self.handed_off.has_job()
     }

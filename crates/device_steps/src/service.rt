@@ -94,6 +94,9 @@ impl Device {
         if self.put(number) {
             return true;
         }
+        if self.resume(number) {
+            return true;
+        }
         self.take(number)
     }
 

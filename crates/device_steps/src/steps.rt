@@ -17,10 +17,10 @@ use device_model::Event;
 use foundation::NoMemory;
 use guest_mem::{GuestMem, Memory, WritableMemory};
 use phases::{
-    ResetFault, ResizeFault, phase_answer_in, phase_answer_tmf_in, phase_check, phase_commit,
+    ResetFault, ResizeFault, Visited, phase_answer_in, phase_answer_tmf_in, phase_check,
     phase_direct_in, phase_enter, phase_fetch_control_in, phase_fetch_event_in, phase_fetch_in,
-    phase_hard, phase_leave, phase_mark, phase_prepare, phase_raise_in, phase_resize,
-    phase_start_pages,
+    phase_hard, phase_leave, phase_prepare, phase_raise_in, phase_resize, phase_start_pages,
+    phase_visit,
 };
 
 /// Returns the seat that serves a request queue.
@@ -301,7 +301,8 @@ impl Device {
         true
     }
 
-    /// Commits the job in a seat's hand. A host calls it for a Commit.
+    /// Commits the job in a seat's hand, or puts it aside where its command needs pages of its disk that aren't in memory.
+    /// A host calls it for a Commit.
     pub fn commit(&mut self, number: u16) -> bool
         ensures { TurnsAlone self.old (AnEvent.Commit number) result self.new }
     {
@@ -315,7 +316,11 @@ impl Device {
         if place >= self.units.len() {
             return false;
         }
-        phase_commit(&mut self.units[place], &mut self.seats[at].hand)
+        if !self.jobs_aside.has_room() {
+            return false;
+        }
+        self.jobs_aside
+            .commit_or_defer(&mut self.units[place], &mut self.seats[at].hand)
     }
 
     /// Answers the job in a seat's hand. A host calls it for an Answer.
@@ -375,7 +380,8 @@ impl Device {
         phase_leave(&mut self.units[place], &mut seat.hand, &mut seat.out)
     }
 
-    /// Has the open function mark its next unit, or look at it. A host calls it for a Mark.
+    /// Has the open function mark its next unit, or look at it. A mark has the jobs that wait for pages tried again. A host
+    /// calls it for a Mark.
     pub fn mark(&mut self) -> bool
         ensures { TurnsAlone self.old AnEvent.Mark result self.new }
     {
@@ -388,12 +394,18 @@ impl Device {
         if place >= self.units.len() || self.seats.is_empty() {
             return false;
         }
-        phase_mark(
+        match phase_visit(
             &mut self.units[place],
             &self.inventory,
             open,
             &mut self.seats[0].out,
-        )
+        ) {
+            Visited::Nothing => return false,
+            Visited::Other => return true,
+            Visited::Marked => {}
+        }
+        self.jobs_aside.wake();
+        true
     }
 
     /// Has the open function see that its first mark is clear. A host calls it for a Check.
@@ -461,7 +473,8 @@ impl Device {
         phase_answer_tmf_in(&mut self.bays[0].queue, memory, &mut self.function)
     }
 
-    /// Resets a unit for the operator. A host calls it for a Hard. `NoMemory` where the step or its event was refused memory.
+    /// Resets a unit for the operator, and has the jobs that wait for pages tried again. A host calls it for a Hard. `NoMemory`
+    /// where the step or its event was refused memory.
     pub fn hard(&mut self, place: u16) -> Result<bool, NoMemory>
         requires seated { length self.old.seats ≡ self.old.workers + 1 }
         ensures { TurnsAloneOrWants self.old (AnEvent.Hard place) result self.new }
@@ -477,10 +490,13 @@ impl Device {
             &mut self.seats[seat].out,
             &mut self.waiting,
         ) {
-            Ok(changed) => Ok(changed),
-            Err(ResetFault::WrongUnit) => Ok(false),
-            Err(ResetFault::NoMemory) => Err(NoMemory),
+            Ok(true) => {}
+            Ok(false) => return Ok(false),
+            Err(ResetFault::WrongUnit) => return Ok(false),
+            Err(ResetFault::NoMemory) => return Err(NoMemory),
         }
+        self.jobs_aside.wake();
+        Ok(true)
     }
 
     /// Gives the unit at a place so many blocks; nothing changes where there is none, or no unit may have so many. A host
@@ -541,21 +557,29 @@ impl Device {
         raised
     }
 
-    /// Has the jobs that wait for pages tried again. A host calls it for a Wake. No job waits, since all disks are in memory:
-    /// nothing changes.
+    /// Has the jobs that wait for pages tried again. A host calls it for a Wake.
     pub fn wake(&mut self) -> bool
         ensures { TurnsAlone self.old AnEvent.Wake result self.new }
     {
-        false
+        self.jobs_aside.wake()
     }
 
-    /// Has a seat take the first job that is to be tried again. A host calls it for a Resume. There is none, since no job
-    /// waits.
+    /// Has a worker take the first job that is to be tried again. A host calls it for a Resume.
     pub fn resume(&mut self, number: u16) -> bool
         ensures { TurnsAlone self.old (AnEvent.Resume number) result self.new }
     {
-        let _seat = number;
-        false
+        let at = number as usize;
+        if at >= self.seats.len() || number >= self.workers {
+            return false;
+        }
+        if !self.seats[at].has_empty_hand() {
+            return false;
+        }
+        let Some(job) = self.jobs_aside.next() else {
+            return false;
+        };
+        self.seats[at].hold(job);
+        true
     }
 
     /// Takes one event in any memory. A host calls it in a phase that wrote nothing yet. Returns true if it changed

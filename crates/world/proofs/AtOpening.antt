@@ -1,5 +1,5 @@
 -- The queues, the units and the seats of a device that opens.
-use Rattle.std.proofs.Common.{◌≡◌, ◌≤◌, ◌^◌, ℕ, Bool, true, None, Some, Option, refl, List, [], ◌∷◌, ◌+◌, ◌<◌, ◌&&◌, length, zero, suc, arith, ap, sym, ◌∙◌, subst, map}
+use Rattle.std.proofs.Common.{◌≡◌, ◌≤◌, ◌^◌, ℕ, Bool, true, false, None, Some, Option, refl, List, [], ◌∷◌, ◌+◌, ◌<◌, ◌&&◌, length, zero, suc, arith, ap, sym, ◌∙◌, subst, map}
 use Rattle.std.specs.Prelude.{replicate, slice_get, nat_le, is_none}
 use Rattle.std.specs.List.{list_all}
 use Rattle.std.proofs.lemmas.Bool.{and_parts}
@@ -18,6 +18,7 @@ use Rattle.unit_model.specs.Receipts.{unit_address}
 use Rattle.scsi_codec.specs.declared.lun.Address.{Address}
 use Rattle.device_model.specs.Addressed.{IsAddressed}
 use Rattle.device_model.specs.Parts.{Slot}
+use Rattle.device_model.specs.Standing.{NoneIsBacked}
 use Rattle.device_model.specs.World.{PlainQueue, PlainWorld, Everywhere, IsNewQueue, IsNewUnit, Opens}
 use Rattle.device_model.proofs.Lists.{nothing, same}
 use Rattle.virtqueue.specs.Queue.{opening_ring, opening_queue, placement_of}
@@ -122,6 +123,13 @@ addressed_open wanted inventory units fresh is k u at =
           ∙ map_get (λ (s : UnitSpec). s.profile) k wanted found.0 found.1
           ∙ ap (λ (z : PlainUnit). Some z.opening.profile) one,
     )
+
+-- its disk is in memory
+none_backed : (wanted : List UnitSpec) (units : List PlainUnit) → AreFresh wanted units
+    → Everywhere (λ (i : ℕ) (u : PlainUnit). u.backed ≡ false) units
+none_backed wanted units fresh =
+    each_made (λ (k : ℕ) (u : UnitSpec). opening_unit (map address_of wanted) u) (λ (k : ℕ) (u : PlainUnit). u.backed ≡ false)
+    wanted units fresh.count fresh.each (λ k u. refl)
 
 -- and so where they are over disks
 over_each : (P : ℕ → PlainUnit → Type 0) (units : List PlainUnit) (disks : List PagedStore)
@@ -241,7 +249,12 @@ opens_whole size c w is o =
     let t = taken size c is in
     let units = units_named c.units.items t.units in
     record {
-      reached = record { old = w; trace = []; reached = record { opens = opens size c w is o; runs = refl } };
+      reached = record {
+        old = w;
+        trace = [];
+        reached = record { opens = opens size c w is o; runs = refl };
+        disks = none_backed c.units.items w.units o.units;
+      };
       few = record {
         several = omega (arith, some_queues (form_of c.features) size c.queues.items t.queues, o.queues.count);
         queues = omega (arith, few_queues (form_of c.features) size c.queues.items t.queues, o.queues.count);
@@ -315,7 +328,15 @@ module _ (size : ℕ) (c : Config) (disks : List PagedStore) (bare w : PlainWorl
   opens_over_whole =
       let few = (opens_whole size c bare is o).few in
       record {
-        reached = record { old = w; trace = []; reached = record { opens = opens_over; runs = refl } };
+        reached = record {
+          old = w;
+          trace = [];
+          reached = record { opens = opens_over; runs = refl };
+          disks =
+              subst NoneIsBacked (sym over)
+              (over_each (λ (i : ℕ) (u : PlainUnit). u.backed ≡ false) bare.units disks (λ i u disk h. h)
+              (none_backed c.units.items bare.units o.units));
+        };
         few = subst AreFew (sym over) (record {
           several = few.several;
           queues = few.queues;

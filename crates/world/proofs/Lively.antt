@@ -56,6 +56,7 @@ any_steady any shared a b d long h =
           old = r.old;
           trace = occurrence_of (refill b) ∷ r.trace;
           reached = any r.old r.trace (standing shared a d) b long r.reached;
+          disks = r.disks;
         };
         few = few_in shared b d (has_few shared a d h.whole.few);
       };
@@ -201,6 +202,8 @@ device_of w =
       units = w.units;
       seats = w.seats;
       workers = w.workers;
+      aside = w.aside;
+      woken = w.woken;
       handed_off = w.handed_off;
       limit = w.limit;
       function = w.function;

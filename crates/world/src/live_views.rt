@@ -1,7 +1,7 @@
 //! The views that a device in a memory of the embedder's gives of itself. Of the memory nothing is known between two calls
 //! but its size; of the device each view tells what [`World`](crate::World)'s does.
 
-ghost use Rattle.std.specs.Prelude.{◌≡◌, ◌≤◌, ◌+◌, ◌*◌, true, length, IfOk, IfSome, slice_get};
+ghost use Rattle.std.specs.Prelude.{◌≡◌, ◌≤◌, ◌+◌, ◌*◌, [], true, length, IfOk, IfSome, slice_get};
 ghost use Rattle.std.specs.Option.{option_copied, option_map};
 ghost use Rattle.ring_core.specs.State.{IsLawful};
 ghost use Rattle.ring_core.specs.Position.{position};
@@ -14,6 +14,7 @@ ghost use Rattle.world.specs.LiveWorld.{IsReachedIn};
 ghost use Rattle.device_steps.specs.Views.{unit_of, IsPlaceAmong, fault_of, status_of, GivesBlocks, GivesChanges};
 
 use crate::live_world::LiveWorld;
+use device_model::waiting_laws::a_device_in_memory_defers_nothing;
 use device_steps::{Bay, all_are_sound};
 use foundation::NoMemory;
 use guest_mem::WritableMemory;
@@ -27,6 +28,15 @@ impl<M: WritableMemory> LiveWorld<M> {
     pub fn some_trace_led_here(&self)
         ensures { IsReachedIn M.shared (M.extent self.now.memory) self.now.device }
     {
+        let _ = &self.memory;
+    }
+
+    /// Shows that no job waits for pages of its unit's disk, and none is to be tried again, since all disks are in memory.
+    pub fn none_waits(&self)
+        ensures aside { self.now.device.aside ≡ [] }
+        ensures woken { self.now.device.woken ≡ [] }
+    {
+        a_device_in_memory_defers_nothing();
         let _ = &self.memory;
     }
 

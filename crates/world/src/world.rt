@@ -9,6 +9,7 @@ use config::{Config, StartFault};
 use device_model::Event;
 use device_model::laws::every_run_goes_on;
 use device_model::trace_laws::the_promise_is_kept;
+use device_model::waiting_laws::a_device_in_memory_defers_nothing;
 use device_steps::{Cursor, Device, Progress, all_are_sound, are_disks_for, open_device, poke};
 use foundation::NoMemory;
 use guest_mem::{GuestMem, Memory, StillMem};
@@ -143,6 +144,15 @@ impl World {
     pub fn some_trace_led_here(&self)
         ensures { IsReached self.now }
     {
+        let _ = &self.memory;
+    }
+
+    /// Shows that no job waits for pages of its unit's disk, and none is to be tried again, since all disks are in memory.
+    pub fn none_waits(&self)
+        ensures aside { self.now.aside ≡ [] }
+        ensures woken { self.now.woken ≡ [] }
+    {
+        a_device_in_memory_defers_nothing();
         let _ = &self.memory;
     }
 

@@ -6,6 +6,7 @@ use Rattle.ring_core.specs.State.{features_of}
 use Rattle.ring_core.specs.declared.layout.Layout.{Layout}
 use Rattle.event_queue.specs.Port.{PlainPort}
 use Rattle.device_steps.specs.Kept.{seat_of}
+use Rattle.device_steps.specs.Aside.{KeptAside}
 use Rattle.device_steps.specs.Opening.{AreOpening, AreFresh}
 use Rattle.device_steps.specs.Inner.Opening.{AreSeats}
 use Rattle.device_steps.proofs.Making.{lists_open, seats_idle, seats_many}
@@ -18,7 +19,13 @@ invariant_of-result g c =
     let lists = lists_open c.in_ok-units.units.items (c.args.config.now.workers + 1) c.in_ok-seats.seats.items
     (subst (λ (n : ℕ). AreSeats (c.args.config.now.workers + 1) (64 * n + 64) c.in_ok-seats.seats.items)
     (c.len.ensures ∙ c.in_ok-units.units.ok.0) is) in
-    record { limits = lists.limits; port = ap (λ (p : PlainPort). p.limit) c.in-Ok.ensures }
+    record {
+      limits = lists.limits;
+      aside =
+          ap (λ (k : KeptAside). k.limit) c.in_ok-jobs_aside.ensures
+          ∙ ap (λ (n : ℕ). 64 * n + 64) (c.len-2.ensures ∙ c.in_ok-units.units.ok.0);
+      port = ap (λ (p : PlainPort). p.limit) c.in-Ok.ensures;
+    }
 
 pub returns : goal.returns
 returns g c =
@@ -39,12 +46,12 @@ returns g c =
       handed_off = c.in_ok-handed_off.ensures.bare;
       lists =
           c.in_ok-handed_off.ensures.lists
-          ∙ omega (arith, c.len-2.ensures, c.in_ok-seats.seats.ok.0, length-map c.in_ok-seats.seats.items seat_of);
+          ∙ omega (arith, c.len-3.ensures, c.in_ok-seats.seats.ok.0, length-map c.in_ok-seats.seats.items seat_of);
       function = refl;
-      aside = refl;
-      woken = refl;
+      aside = ap (λ (k : KeptAside). k.aside) c.in_ok-jobs_aside.ensures;
+      woken = ap (λ (k : KeptAside). k.woken) c.in_ok-jobs_aside.ensures;
       buffers = ap (λ (p : PlainPort). p.buffers) c.in-Ok.ensures;
       missed = ap (λ (p : PlainPort). p.missed) c.in-Ok.ensures;
-      waiting = c.new-3.ensures;
+      waiting = c.new-4.ensures;
       tells_changes = c.tells_changes.ensures;
     }

@@ -23,6 +23,7 @@ invariant_of-self g c =
     λ ws. g.M.Memory.stored c.phase_fetch_event_in-fetched.new.memory ≡ g.M.Memory.storing (g.M.Memory.stored c.args.memory.now) (stores_of ws) in
     record {
       limits = c.self.invariant.limits;
+      aside = c.self.invariant.aside;
       port = event_limit g.M.Memory.shared stored _ _ r.0 r.2.0 some.0 d.port _ c.phase_fetch_event_in-fetched.result r.2.2
           ∙ c.self.invariant.port;
     }

@@ -20,6 +20,7 @@ invariant_of-self g c =
     let r = c.phase_raise_in-raised.ensures.raises some.0 some.1 in
     record {
       limits = c.self.invariant.limits;
+      aside = c.self.invariant.aside;
       port = raise_limit g.M.Memory.shared d.waiting _ _ r.0 r.2.0 some.0 d.port _ _ c.phase_raise_in-raised.result r.2.2
           ∙ c.self.invariant.port;
     }

@@ -6,7 +6,7 @@ use Rattle.device_steps.specs.Apart.{PlainDevice, standing}
 use Rattle.device_steps.specs.Kept.{KeptSeat, seat_of}
 use Rattle.device_steps.specs.contracts.device.Device.{the_view}
 use Rattle.device_steps.proofs.Seats.{shown}
-use Rattle.device_steps.proofs.Looks.{false_true, hand_steps, job_steps, idle_there, no_worker, takes}
+use Rattle.device_steps.proofs.Looks.{false_true, hand_steps, job_steps, idle_there, no_worker, takes, tries_again}
 use Rattle.device_steps.proofs.device.Device.seat_goes_on.Goals as goal
 
 pub returns-then-not-has_empty_hand : goal.returns-then-not-has_empty_hand
@@ -50,8 +50,23 @@ returns-then-number-self c shared m =
     (slice_get_read d.seats.items d.seats.len k s d.seats.ok.0
     (omega (arith, there, d.seats.ok.0, length-map d.seats.items seat_of)) c.index-seat.ensures) in
     rw (← c.self.view_is)
-    (no_worker w k refl (idle_there w k s.hand s.jobs at (c.if-not-is_idle.ensures.0 refl))
+    (no_worker w k (idle_there w k s.hand s.jobs at (c.if-not-is_idle.ensures.0 refl))
     (λ worker. omega (arith, worker, c.if-number-self.true)))
+
+pub returns-then-has_woken : goal.returns-then-has_woken
+returns-then-has_woken c shared m =
+    let d = c.self.inside in
+    let w = standing shared m (the_view d) in
+    let k = c.args.number in
+    let s : KeptSeat = c.index-seat.result.now in
+    let there : k < length (map seat_of d.seats.items) =
+    subst (λ (z : PlainDevice). k < length z.seats) (sym c.self.view_is) c.requires.there in
+    let at = shown w d.seats.items k s refl
+    (slice_get_read d.seats.items d.seats.len k s d.seats.ok.0
+    (omega (arith, there, d.seats.ok.0, length-map d.seats.items seat_of)) c.index-seat.ensures) in
+    rw (← c.self.view_is)
+    (tries_again w k (idle_there w k s.hand s.jobs at (c.if-not-is_idle.ensures.0 refl)) c.if-number-self.false
+    (rw c.if-has_woken.true at c.has_woken.ensures))
 
 pub returns : goal.returns
 returns c shared m =
@@ -65,6 +80,6 @@ returns c shared m =
     (slice_get_read d.seats.items d.seats.len k s d.seats.ok.0
     (omega (arith, there, d.seats.ok.0, length-map d.seats.items seat_of)) c.index-seat.ensures) in
     rw (← c.self.view_is)
-    (takes w k c.has_job.result refl
+    (takes w k c.has_job.result (rw c.if-has_woken.false at c.has_woken.ensures)
     (idle_there w k s.hand s.jobs at (c.if-not-is_idle.ensures.0 refl)) c.if-number-self.false
     c.has_job.ensures)

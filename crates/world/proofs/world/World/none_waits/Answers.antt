@@ -1,0 +1,18 @@
+use Rattle.std.proofs.Common.{◌≡◌, false, [], ap, sym, ◌∙◌, subst}
+use Rattle.device_model.specs.World.{PlainWorld}
+use Rattle.device_steps.specs.Apart.{standing}
+use Rattle.world.proofs.world.World.none_waits.Goals as goal
+
+pub returns-clause-aside : goal.returns-clause-aside
+returns-clause-aside c =
+    let w = standing false c.self.inside.memory c.self.inside.device in
+    let r = c.self.invariant.whole.reached in
+    subst (λ (z : PlainWorld). z.aside ≡ []) c.self.view_is
+    (c.a_device_in_memory_defers_nothing.ensures.none r.old r.trace w r.reached r.disks).0
+
+pub returns-clause-woken : goal.returns-clause-woken
+returns-clause-woken c =
+    let w = standing false c.self.inside.memory c.self.inside.device in
+    let r = c.self.invariant.whole.reached in
+    subst (λ (z : PlainWorld). z.woken ≡ []) c.self.view_is
+    (c.a_device_in_memory_defers_nothing.ensures.none r.old r.trace w r.reached r.disks).1
