@@ -26,6 +26,7 @@ mod evicting;
 mod fencing;
 mod fetching;
 mod given;
+mod in_place;
 mod laws;
 mod mark;
 mod noting;
@@ -45,6 +46,7 @@ mod writing_back;
 pub use backed::BackedStore;
 pub use dealing::{Dealing, GivenPage};
 pub use disk::Disk;
+pub use in_place::BlocksInPlace;
 pub use laws::{
     a_crash_leaves_what_was_flushed, a_flush_begins, a_flush_goes_on, what_is_owed_is_due,
 };

@@ -20,6 +20,7 @@ mod before;
 mod by_id;
 mod bytes;
 mod chain;
+mod cursor;
 mod descriptor;
 mod fault;
 mod laws;
@@ -35,6 +36,7 @@ pub use base::RingBase;
 pub use before::Before;
 pub use bytes::{FIRST_BYTES, gather, scatter};
 pub use chain::{Chain, Draft, Fetched};
+pub use cursor::Cursor;
 pub use descriptor::{Descriptor, DescriptorFlags, Part};
 pub use fault::RingFault;
 pub use laws::{
