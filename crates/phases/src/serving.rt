@@ -91,8 +91,8 @@ impl<'a, M: WritableMemory> Answering for Answer<'a, M> {
     }
 
     #[inline(always)]
-    fn answer_read(&mut self, arrival: &Arrival, data: BlocksInPlace<'_>) -> Record<u8> {
-        let (len, recorded) = write_read(self.memory, arrival.chain(), &arrival.lengths(), data);
+    fn answer_read(&mut self, arrival: &Arrival, blocks: BlocksInPlace<'_>) -> Record<u8> {
+        let (len, recorded) = write_read(self.memory, arrival.chain(), &arrival.lengths(), blocks);
         self.len = len;
         recorded
     }

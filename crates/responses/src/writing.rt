@@ -160,14 +160,15 @@ fn write_pages<M: WritableMemory>(
     requires fits { M.extent memory.old ≡ chain.now.memory }
     requires room { RESPONSE_BYTES + length (first.now ++ rest) ≤ writable_total chain.now.parts }
     requires less { RESPONSE_BYTES + length (first.now ++ rest) < 2 ^ 32 }
-    ensures written { result.0 ≡ RESPONSE_BYTES + length (first.now ++ rest) }
-    ensures recorded { result.1.items ≡ first.now ++ rest }
+    ensures written { result.0 ≡ RESPONSE_BYTES + length (first.now ++ rest.entry) }
+    ensures recorded { result.1.items ≡ first.now ++ rest.entry }
     ensures memory { Wrote (M.may_be memory.old) (M.may_be memory.new)
-        (scatter_writes chain.now.parts 0 (head.now ++ (first.now ++ rest))) }
+        (scatter_writes chain.now.parts 0 (head.now ++ (first.now ++ rest.entry))) }
     ensures stores { M.stored memory.new
-        ≡ M.storing (M.stored memory.old) (stores_of (scatter_writes chain.now.parts 0 (head.now ++ (first.now ++ rest)))) }
+        ≡ M.storing (M.stored memory.old) (stores_of (scatter_writes chain.now.parts 0 (head.now ++ (first.now ++ rest.entry)))) }
     ensures size { M.extent memory.new ≡ M.extent memory.old }
 {
+    let _parts = chain.parts();
     let len = RESPONSE_BYTES + first.len() + rest.len();
     let mut cursor = Cursor::new(chain);
     cursor.write(memory, head);
@@ -182,7 +183,7 @@ fn write_pages<M: WritableMemory>(
     (len as u32, written)
 }
 
-/// Writes response OK of a READ that is GOOD, with these data, as [`write_reply`] does of such a reply: so data are
+/// Writes response OK of a READ that is GOOD, with the data of these blocks, as [`write_reply`] does of such a reply: so data are
 /// written from where they stand, with no reply made of them. Returns how many bytes it wrote, and the data as proofs see
 /// them.
 #[inline(always)]
@@ -190,26 +191,26 @@ pub fn write_read<M: WritableMemory>(
     memory: &mut M,
     chain: &Chain,
     lengths: &ChainLengths,
-    data: BlocksInPlace<'_>,
+    blocks: BlocksInPlace<'_>,
 ) -> (u32, Record<u8>)
     requires fits { M.extent memory.old ≡ chain.now.memory }
     requires sum { lengths.now.readable + lengths.now.writable ≤ 2 ^ 32 }
     requires whole { lengths.now.writable ≡ writable_total chain.now.parts }
     requires room { RESPONSE_BYTES ≤ lengths.now.writable }
     requires less { lengths.now.writable < 2 ^ 32 }
-    requires data { length data ≤ lengths.now.writable - RESPONSE_BYTES }
-    ensures written { result.0 ≡ length (answer_of_reply lengths.now (good_data data)) }
-    ensures recorded { result.1.items ≡ data }
+    requires data { length blocks ≤ lengths.now.writable - RESPONSE_BYTES }
+    ensures written { result.0 ≡ length (answer_of_reply lengths.now (good_data blocks.entry)) }
+    ensures recorded { result.1.items ≡ blocks.entry }
     ensures memory { Wrote (M.may_be memory.old) (M.may_be memory.new)
-        (scatter_writes chain.now.parts 0 (answer_of_reply lengths.now (good_data data))) }
+        (scatter_writes chain.now.parts 0 (answer_of_reply lengths.now (good_data blocks.entry))) }
     ensures stores { M.stored memory.new
         ≡ M.storing (M.stored memory.old)
-        (stores_of (scatter_writes chain.now.parts 0 (answer_of_reply lengths.now (good_data data)))) }
+        (stores_of (scatter_writes chain.now.parts 0 (answer_of_reply lengths.now (good_data blocks.entry)))) }
     ensures size { M.extent memory.new ≡ M.extent memory.old }
 {
     let mut head = [0; RESPONSE_BYTES];
-    put_response_ok(&mut head, lengths, GOOD, None, data.len() as u32);
-    let mut rest = data;
+    put_response_ok(&mut head, lengths, GOOD, None, blocks.len() as u32);
+    let mut rest = blocks;
     let first = rest.take_page();
     if rest.is_empty() {
         let len = write_response(memory, chain, &head, first);

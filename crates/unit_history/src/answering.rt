@@ -27,11 +27,11 @@ pub trait Answering {
         requires fits { IfOk ran.now (λ r. length r.payload.items ≤ (need_of arrival.now.entry.command).into) }
         ensures { answers self.old arrival.now (ending_of_run (plain_run ran.now)) self.new };
 
-    /// Writes what answers a READ that is GOOD, with these data, and returns them as proofs see them.
-    fn answer_read(&mut self, arrival: &Arrival, data: BlocksInPlace<'_>) -> Record<u8>
+    /// Writes what answers a READ that is GOOD, with the data of these blocks, and returns them as proofs see them.
+    fn answer_read(&mut self, arrival: &Arrival, blocks: BlocksInPlace<'_>) -> Record<u8>
         requires may { may_answer self.old arrival.now }
         requires sends { (need_of arrival.now.entry.command).out ≡ 0 }
-        requires fits { length data ≤ (need_of arrival.now.entry.command).into }
-        ensures recorded { result.items ≡ data }
-        ensures written { answers self.old arrival.now (Ending.Replied (success arrival.now.entry.command data)) self.new };
+        requires fits { length blocks ≤ (need_of arrival.now.entry.command).into }
+        ensures recorded { result.items ≡ blocks.entry }
+        ensures written { answers self.old arrival.now (Ending.Replied (success arrival.now.entry.command blocks.entry)) self.new };
 }

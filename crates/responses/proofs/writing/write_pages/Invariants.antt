@@ -2,8 +2,8 @@ use Rattle.std.proofs.Common.{◌≡◌, ℕ, List, ◌+◌, ◌++◌, length}
 use Rattle.ring_core.specs.Writes.{Wrote, scatter_writes, stores_of}
 use Rattle.responses.proofs.writing.write_pages.Given as goal
 
-abbrev pub invariant-loop-left : goal.invariant-loop-left
-invariant-loop-left g l =
+abbrev pub invariant-loop-cursor : goal.invariant-loop-cursor
+invariant-loop-cursor g l =
     record {
       split : l.fn.first ++ l.fn.rest ≡ l.written.items ++ l.left;
       parts : l.cursor.parts ≡ l.chain.parts;
@@ -14,5 +14,5 @@ invariant-loop-left g l =
       size : g.M.Memory.extent l.memory ≡ g.M.Memory.extent l.fn.memory;
     }
 
-abbrev pub decreases-loop-left : goal.decreases-loop-left
-decreases-loop-left g l = length l.left
+abbrev pub decreases-loop-cursor : goal.decreases-loop-cursor
+decreases-loop-cursor g l = length l.left
