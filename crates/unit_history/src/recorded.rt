@@ -97,14 +97,14 @@ impl RecordedReply {
 
     /// Returns what is replied to a READ that ended with these data, of so many bytes.
     #[inline(always)]
-    pub(crate) fn of_read(data: Record<u8>, len: u32) -> RecordedReply
-        requires { len ≡ length data.items }
-        ensures { result ≡ good_data data.items }
+    pub(crate) fn of_read(payload: Record<u8>, len: u32) -> RecordedReply
+        requires { len ≡ length payload.items }
+        ensures { result ≡ good_data payload.items }
     {
         RecordedReply {
             status: GOOD,
             sense: None,
-            payload: data,
+            payload,
             moved: len,
             data_bytes: u64::from(len),
         }

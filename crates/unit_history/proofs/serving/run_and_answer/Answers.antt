@@ -1,5 +1,6 @@
-use Rattle.std.proofs.Common.{◌≡◌, ◌∙◌, ap, List, ℕ, false, None, subst}
+use Rattle.std.proofs.Common.{◌≡◌, ◌∙◌, ap, List, ℕ, false, None, IsTrue, subst}
 use Rattle.block_commands.specs.Inner.Told.{facts_of}
+use Rattle.block_commands.specs.Inner.Ready.{is_read}
 use Rattle.backed_store.specs.Disks as disks
 use Rattle.cdb.specs.declared.commands.Command.{Command}
 use Rattle.command_model.specs.Inner.PlainReply.{good_data}
@@ -8,7 +9,15 @@ use Rattle.unit_history.proofs.Alone.{ran_in_place, held_for}
 use Rattle.unit_history.proofs.serving.run_and_answer.Goals as goal
 
 pub read_in_place-requires : goal.read_in_place-requires
-read_in_place-requires g c = ?
+read_in_place-requires g c =
+    let store = c.args.store.now in
+    let entry = c.args.arrival.now.entry in
+    record {
+      held = λ calm b reads.
+          held_for (disks.holds store) (disks.has_room store) (disks.size_of store) entry.command entry.data_out
+          (told c.args.facts.now c.args.attentions.now) c.tell_oldest.new.facts c.tell_oldest.ensures c.requires.ready calm b
+          (subst (λ (command : Command). IsTrue (is_read (disks.size_of store) command b)) c.command-command.ensures reads);
+    }
 
 pub returns-in-Some-clause-performed : goal.returns-in-Some-clause-performed
 returns-in-Some-clause-performed g c =
