@@ -8,3 +8,4 @@ pub mod Known
 pub mod Pairs
 pub mod Fenced
 pub mod Flushing
+pub mod Lengths

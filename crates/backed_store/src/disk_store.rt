@@ -84,8 +84,8 @@ impl Store for Disk {
 }
 
 impl Disk {
-    ghost use Rattle.std.specs.Prelude.{◌≡◌, ℕ, ◌+◌, ◌*◌, ◌^◌, ◌<◌, ◌≤◌, length, IfOk, IfSome, OnErr, IsTrue, IsFalse, false, nat_lt, min, if◌then◌else◌};
-    ghost use Rattle.block_store.specs.Blocks.{run, zero_block};
+    ghost use Rattle.std.specs.Prelude.{◌≡◌, ℕ, ◌+◌, ◌^◌, ◌<◌, ◌≤◌, IfOk, IfSome, OnErr, IsTrue, IsFalse, false, nat_lt, min, if◌then◌else◌};
+    ghost use Rattle.block_store.specs.Blocks.{zero_block};
     ghost use Rattle.block_store.specs.Drafts.{edges_draft, prepared_draft};
     ghost use Rattle.block_store.specs.Inner.Drafts.{IsAsCopied};
     ghost use Rattle.block_store.specs.Pages.{covered};
@@ -124,20 +124,6 @@ impl Disk {
         match self {
             Disk::Whole(_) => true,
             Disk::Backed(store) => store.is_flushed(number),
-        }
-    }
-
-    /// Returns the bytes of `count` blocks from `first` on where they stand, which spares a copy; `None` where they lie
-    /// in more than one page, or aren't in memory. Takes no memory.
-    #[inline(always)]
-    pub fn blocks_in_place(&self, first: u64, count: u32) -> Option<&[u8]>
-        requires range { first + count ≤ size_of self.now }
-        ensures bytes { IfSome result (λ bytes. bytes.now ≡ run (blocks_of self.now) first count) }
-        ensures len { IfSome result (λ bytes. length bytes.now ≡ BLOCK_BYTES * count) }
-    {
-        match self {
-            Disk::Whole(store) => store.blocks_in_place(first, count),
-            Disk::Backed(store) => store.blocks_in_place(first, count),
         }
     }
 

@@ -7,7 +7,7 @@
 //! nothing that is held. A page that the host can't read isn't on its way until it is asked for again. At most as many
 //! pages are held as the budget allows. An eviction finds a page that may go and isn't spared, if there is one. Where no
 //! change up to a number is unkept, the storage has each block that didn't change later. A page stays dirty from its oldest
-//! change on until that is kept.
+//! change on until that is kept. [`BlocksInPlace`] gives the bytes of each block once, in order.
 //!
 //! A flush waits for the changes that were made before it. Once none of these is owed, a crash leaves each block as it was
 //! when the flush began, or later (`a_crash_leaves_what_was_flushed`). No call makes it wait for more, unless a write of the
@@ -26,6 +26,7 @@ mod evicting;
 mod fencing;
 mod fetching;
 mod given;
+mod in_place;
 mod laws;
 mod mark;
 mod noting;
@@ -45,6 +46,7 @@ mod writing_back;
 pub use backed::BackedStore;
 pub use dealing::{Dealing, GivenPage};
 pub use disk::Disk;
+pub use in_place::BlocksInPlace;
 pub use laws::{
     a_crash_leaves_what_was_flushed, a_flush_begins, a_flush_goes_on, what_is_owed_is_due,
 };

@@ -1,32 +1,17 @@
 //! Parts of a range that lie in one page.
 
-ghost use Rattle.std.specs.Prelude.{◌≡◌, ℕ, ◌+◌, ◌*◌, ◌/◌, ◌%◌, ◌<◌, ◌≤◌, IsTrue, IfSome, length};
+ghost use Rattle.std.specs.Prelude.{◌≡◌, ℕ, ◌+◌, ◌*◌, ◌/◌, ◌%◌, ◌<◌, ◌≤◌, IsTrue, length};
 ghost use Rattle.block_store.specs.Blocks.{block_count, overwritten, filled, run};
 ghost use Rattle.block_store.specs.Inner.Pages.{is_beside};
 ghost use Rattle.backed_store.specs.Stores.{contents, holds, has_room, IsHost};
 
 use crate::backed::BackedStore;
-use crate::numbers::{in_page, page_of, place_of};
+use crate::numbers::{page_of, place_of};
 use block_store::{BLOCK_BYTES, blocks_at};
 
 impl BackedStore {
-    /// Returns the bytes of `count` blocks from `first` on where they stand, which spares a copy; `None` where they lie in
-    /// more than one page, or aren't in memory.
+    /// Returns the bytes of `count` blocks of one page that is in memory, where they stand.
     #[inline(always)]
-    pub fn blocks_in_place(&self, first: u64, count: u32) -> Option<&[u8]>
-        requires range { first + count ≤ self.now.capacity }
-        ensures bytes { IfSome result (λ bytes. bytes.now ≡ run (contents self.now) first count) }
-        ensures len { IfSome result (λ bytes. length bytes.now ≡ BLOCK_BYTES * count) }
-    {
-        let count = count as usize;
-        if in_page(first, count) < count {
-            return None;
-        }
-        let bytes = self.cache.slots.held(page_of(first))?;
-        Some(blocks_at(bytes, place_of(first), count))
-    }
-
-    /// Returns the bytes of `count` blocks of one page that is in memory.
     pub(crate) fn part(&self, first: u64, count: usize) -> &[u8]
         requires fits { first % 8 + count ≤ 8 }
         requires held { IsTrue (holds self.now first) }

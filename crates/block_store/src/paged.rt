@@ -7,7 +7,7 @@ ghost use Rattle.block_store.specs.Drafts.{edges_draft, prepared_draft};
 ghost use Rattle.block_store.specs.Inner.Drafts.{IsAsCopied};
 
 use crate::edges::{Edges, Prepared};
-use crate::numbers::{PAGE_BLOCKS, in_page, in_row, page_end, page_from, page_of, place_of};
+use crate::numbers::{PAGE_BLOCKS, in_row, page_end, page_from, page_of, place_of};
 use crate::pages::Pages;
 use crate::{BLOCK_BYTES, Readiness, Store, row};
 use foundation::NoMemory;
@@ -41,23 +41,18 @@ impl PagedStore {
 }
 
 impl PagedStore {
-    ghost use Rattle.std.specs.Prelude.{length, ◌*◌, IfSome};
+    ghost use Rattle.std.specs.Prelude.{length, ◌*◌, ◌%◌};
     ghost use Rattle.block_store.specs.Blocks.{run};
 
-    /// Returns the bytes of `count` blocks from `first` on where they stand, which spares a copy; `None` where they lie
-    /// in more than one page. The range lies below the capacity, which the caller sees to; an empty one may stand at it.
-    /// Takes no memory.
+    /// Returns the bytes of `count` blocks of one page where they stand, which spares a copy: zeros where the page isn't
+    /// there. Takes no memory.
     #[inline(always)]
-    pub fn blocks_in_place(&self, first: u64, count: u32) -> Option<&[u8]>
-        requires range { first + count ≤ ⟦<PagedStore as Store>⟧.size self.now }
-        ensures bytes { IfSome result (λ bytes. bytes.now ≡ run (⟦<PagedStore as Store>⟧.block_at self.now) first count) }
-        ensures len { IfSome result (λ bytes. length bytes.now ≡ BLOCK_BYTES * count) }
+    pub fn blocks_in_place(&self, first: u64, count: usize) -> &[u8]
+        requires page { first % 8 + count ≤ 8 }
+        ensures bytes { result.now ≡ run (⟦<PagedStore as Store>⟧.block_at self.now) first count }
+        ensures len { length result.now ≡ BLOCK_BYTES * count }
     {
-        let count = count as usize;
-        if in_page(first, count) < count {
-            return None;
-        }
-        Some(self.pages.part(first, count))
+        self.pages.part(first, count)
     }
 
     /// Copies the pages that a range covers in part, at most two, so that a write of the range can be prepared away

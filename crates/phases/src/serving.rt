@@ -22,8 +22,9 @@ use crate::direct_chain::DirectChain;
 use crate::refusal::Refusal;
 use crate::response::{write_outcome, write_run};
 use crate::slot::Slot;
+use backed_store::BlocksInPlace;
 use command_model::Reply;
-use foundation::NoMemory;
+use foundation::{NoMemory, Record};
 use guest_mem::{GuestMem, WritableMemory};
 use responses::write_read;
 use ring_core::Answered;
@@ -90,8 +91,10 @@ impl<'a, M: WritableMemory> Answering for Answer<'a, M> {
     }
 
     #[inline(always)]
-    fn answer_read(&mut self, arrival: &Arrival, data: &[u8]) {
-        self.len = write_read(self.memory, arrival.chain(), &arrival.lengths(), data);
+    fn answer_read(&mut self, arrival: &Arrival, blocks: BlocksInPlace<'_>) -> Record<u8> {
+        let (len, recorded) = write_read(self.memory, arrival.chain(), &arrival.lengths(), blocks);
+        self.len = len;
+        recorded
     }
 }
 

@@ -3,7 +3,8 @@
 //! # Proved
 //!
 //! The bytes that are written are the response and the data, and nothing else is: where they lie in one part at once, else
-//! part by part. Each is stored once, in its order. No call takes memory.
+//! part by part. Each is stored once, in its order. The data of a READ are written from where they stand, page after page.
+//! No call takes memory.
 #![tactic(auto)]
 
 mod writing;

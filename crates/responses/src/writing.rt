@@ -10,10 +10,12 @@ ghost use Rattle.command_model.specs.Inner.PlainReply.{good_data};
 ghost use Rattle.request_intake.specs.Answers.{answer_of_reply};
 ghost use Rattle.responses.specs.Inner.FirstPart.{first_open};
 
+use backed_store::BlocksInPlace;
 use command_model::{GOOD, Reply};
+use foundation::Record;
 use guest_mem::WritableMemory;
 use request_intake::{ChainLengths, DirectAnswer, put_response_ok};
-use ring_core::{Chain, Part, scatter};
+use ring_core::{Chain, Cursor, Part, scatter};
 use scsi_codec::RESPONSE_BYTES;
 
 /// Returns the first part of these that may be written.
@@ -146,32 +148,75 @@ pub fn write_reply<M: WritableMemory>(
     write_response(memory, chain, &head, reply.payload.as_slice())
 }
 
-/// Writes response OK of a READ that is GOOD, with these data, as [`write_reply`] does of such a reply: so data are
-/// written from where they stand, with no reply made of them.
+/// Writes a response and the data of a READ over the writable parts of a chain, page after page. Returns how many bytes it
+/// wrote, and the data as proofs see them.
+fn write_pages<M: WritableMemory>(
+    memory: &mut M,
+    chain: &Chain,
+    head: &[u8; RESPONSE_BYTES],
+    first: &[u8],
+    rest: BlocksInPlace<'_>,
+) -> (u32, Record<u8>)
+    requires fits { M.extent memory.old ≡ chain.now.memory }
+    requires room { RESPONSE_BYTES + length (first.now ++ rest) ≤ writable_total chain.now.parts }
+    requires less { RESPONSE_BYTES + length (first.now ++ rest) < 2 ^ 32 }
+    ensures written { result.0 ≡ RESPONSE_BYTES + length (first.now ++ rest.entry) }
+    ensures recorded { result.1.items ≡ first.now ++ rest.entry }
+    ensures memory { Wrote (M.may_be memory.old) (M.may_be memory.new)
+        (scatter_writes chain.now.parts 0 (head.now ++ (first.now ++ rest.entry))) }
+    ensures stores { M.stored memory.new
+        ≡ M.storing (M.stored memory.old) (stores_of (scatter_writes chain.now.parts 0 (head.now ++ (first.now ++ rest.entry)))) }
+    ensures size { M.extent memory.new ≡ M.extent memory.old }
+{
+    let _parts = chain.parts();
+    let len = RESPONSE_BYTES + first.len() + rest.len();
+    let mut cursor = Cursor::new(chain);
+    cursor.write(memory, head);
+    cursor.write(memory, first);
+    let mut written = Record::new().and_all(first);
+    let mut left = rest;
+    while !left.is_empty() {
+        let page = left.take_page();
+        cursor.write(memory, page);
+        written.extend_from_slice(page);
+    }
+    (len as u32, written)
+}
+
+/// Writes response OK of a READ that is GOOD, with the data of these blocks, as [`write_reply`] does of such a reply: so data are
+/// written from where they stand, with no reply made of them. Returns how many bytes it wrote, and the data as proofs see
+/// them.
 #[inline(always)]
 pub fn write_read<M: WritableMemory>(
     memory: &mut M,
     chain: &Chain,
     lengths: &ChainLengths,
-    data: &[u8],
-) -> u32
+    blocks: BlocksInPlace<'_>,
+) -> (u32, Record<u8>)
     requires fits { M.extent memory.old ≡ chain.now.memory }
     requires sum { lengths.now.readable + lengths.now.writable ≤ 2 ^ 32 }
     requires whole { lengths.now.writable ≡ writable_total chain.now.parts }
     requires room { RESPONSE_BYTES ≤ lengths.now.writable }
     requires less { lengths.now.writable < 2 ^ 32 }
-    requires data { length data.now ≤ lengths.now.writable - RESPONSE_BYTES }
-    ensures written { result ≡ length (answer_of_reply lengths.now (good_data data.now)) }
+    requires data { length blocks ≤ lengths.now.writable - RESPONSE_BYTES }
+    ensures written { result.0 ≡ length (answer_of_reply lengths.now (good_data blocks.entry)) }
+    ensures recorded { result.1.items ≡ blocks.entry }
     ensures memory { Wrote (M.may_be memory.old) (M.may_be memory.new)
-        (scatter_writes chain.now.parts 0 (answer_of_reply lengths.now (good_data data.now))) }
+        (scatter_writes chain.now.parts 0 (answer_of_reply lengths.now (good_data blocks.entry))) }
     ensures stores { M.stored memory.new
         ≡ M.storing (M.stored memory.old)
-        (stores_of (scatter_writes chain.now.parts 0 (answer_of_reply lengths.now (good_data data.now)))) }
+        (stores_of (scatter_writes chain.now.parts 0 (answer_of_reply lengths.now (good_data blocks.entry)))) }
     ensures size { M.extent memory.new ≡ M.extent memory.old }
 {
     let mut head = [0; RESPONSE_BYTES];
-    put_response_ok(&mut head, lengths, GOOD, None, data.len() as u32);
-    write_response(memory, chain, &head, data)
+    put_response_ok(&mut head, lengths, GOOD, None, blocks.len() as u32);
+    let mut rest = blocks;
+    let first = rest.take_page();
+    if rest.is_empty() {
+        let len = write_response(memory, chain, &head, first);
+        return (len, Record::new().and_all(first));
+    }
+    write_pages(memory, chain, &head, first, rest)
 }
 
 /// Writes an answer that needs no unit over the writable parts of a chain, which have room for it. Returns how many

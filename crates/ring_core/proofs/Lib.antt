@@ -17,3 +17,4 @@ pub mod GoingOn
 pub mod Notifying
 pub mod Walking
 pub mod InStores
+pub mod Placed

@@ -1,4 +1,5 @@
 -- No public clause of the device, of its hosts or of the library for C, and no law, rests on these.
 pub mod Narrow
+pub mod Cursor
 pub mod Walking
 pub mod Table

@@ -71,7 +71,12 @@ pub fn gather<M: Memory>(
 }
 
 /// Writes into a writable part from its byte `skip` on, and answers how many bytes.
-fn fill_part<M: WritableMemory>(memory: &mut M, part: &Part, skip: u64, bytes: &[u8]) -> usize
+pub(crate) fn fill_part<M: WritableMemory>(
+    memory: &mut M,
+    part: &Part,
+    skip: u64,
+    bytes: &[u8],
+) -> usize
     requires inside { part.now.addr + part.now.len ≤ M.extent memory.old }
     requires skip { skip < part.now.len }
     ensures written { result ≡ min (length bytes.now) (part.now.len - skip) }

@@ -9,8 +9,8 @@
 //!
 //! A queue of either form is one plain record with its log, and offers exactly one thing with a given memory
 //! (`one_offer`, `some_offer`). It begins at the indices of its layout, so a device goes on in a ring that another
-//! one served. `scatter` writes over a chain's writable parts in order, and nothing else. A narrowed chain has the
-//! first writable bytes, where they were.
+//! one served. `scatter` writes over a chain's writable parts in order, and nothing else; a [`Cursor`] does so in many
+//! goes, each behind the one before it. A narrowed chain has the first writable bytes, where they were.
 #![tactic(auto)]
 
 mod answered;
@@ -20,6 +20,7 @@ mod before;
 mod by_id;
 mod bytes;
 mod chain;
+mod cursor;
 mod descriptor;
 mod fault;
 mod laws;
@@ -35,6 +36,7 @@ pub use base::RingBase;
 pub use before::Before;
 pub use bytes::{FIRST_BYTES, gather, scatter};
 pub use chain::{Chain, Draft, Fetched};
+pub use cursor::Cursor;
 pub use descriptor::{Descriptor, DescriptorFlags, Part};
 pub use fault::RingFault;
 pub use laws::{

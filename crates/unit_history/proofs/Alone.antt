@@ -1,14 +1,16 @@
 -- A request that is served where no task is alive: what its unit is then.
-use Rattle.std.proofs.Common.{◌≡◌, ℕ, ◌+◌, ◌-◌, ◌≤◌, Bool, true, false, not, ◌||◌, cond, List, [], ◌∷◌, map, length, Option, Some, None, is_some, Result, Ok, Err, refl, sym, ◌∙◌, ap, subst, arith}
+use Rattle.std.proofs.Common.{◌≡◌, ℕ, ◌+◌, ◌-◌, ◌≤◌, Bool, true, false, not, ◌||◌, cond, List, [], ◌∷◌, map, length, Option, Some, None, is_some, IsTrue, Result, Ok, Err, refl, sym, ◌∙◌, ap, subst, arith}
 use Rattle.ring_core.specs.declared.log.Ticket.{Ticket}
 use Rattle.block_store.specs.Blocks.{Blocks}
 use Rattle.foundation.specs.declared.NoMemory.{NoMemory}
 use Rattle.unit_attention.specs.declared.code.Code.{Code}
 use Rattle.block_commands.specs.declared.facts.UnitFacts.{UnitFacts}
 use Rattle.block_commands.specs.Inner.Told.{facts_of}
+use Rattle.block_commands.specs.Inner.Ready.{is_read, IsReady as CommandReady}
 use Rattle.cdb.specs.declared.commands.Command.{Command}
 use Rattle.cdb.specs.Need.{need_of}
-use Rattle.command_model.specs.Attention.{takes}
+use Rattle.command_model.specs.Attention.{takes, is_stopped, met}
+use Rattle.sense.specs.declared.Sense.{Sense}
 use Rattle.command_model.specs.PlainReply.{PlainReply, success}
 use Rattle.command_model.specs.Inner.PlainReply.{good_data}
 use Rattle.command_model.specs.Replies.{reply_of}
@@ -86,6 +88,19 @@ ran_in_place facts facts' capacity command out bytes r blocks pending is reply s
       stored = λ b. sym (ap (λ (w : PlainReply). block_after command out w.status blocks b) replied ∙ same b);
       pends = none_taken command pending (ap (λ (f : UnitFacts). f.pending) (sym is) ∙ calm);
     }
+
+none_met : (command : Command) (pending : Option Sense) → pending ≡ None → met command pending ≡ None
+none_met command pending none = elim (is_stopped command) as (λ b. cond b pending None ≡ None) [
+  | true ↦ none
+  | false ↦ refl
+]
+
+-- what a command reads is in memory where it is ready, and meets no attention
+pub held_for : (held room : ℕ → Bool) (size : ℕ) (command : Command) (out : List ℕ) (facts facts' : UnitFacts) → facts' ≡ facts
+    → (met command facts.pending ≡ None → CommandReady held room size command out) → facts'.pending ≡ None
+    → (b : ℕ) → IsTrue (is_read size command b) → IsTrue (held b)
+held_for held room size command out facts facts' is ready calm =
+    (ready (none_met command facts.pending (sym (ap (λ (f : UnitFacts). f.pending) is) ∙ calm))).read
 
 by_none : (a : TaskAttribute) → blocks a [] [] ≡ false
 by_none Simple = refl

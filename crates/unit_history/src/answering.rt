@@ -7,8 +7,9 @@ ghost use Rattle.unit_model.specs.Jobs.{PlainJob};
 ghost use Rattle.command_model.specs.PlainReply.{success};
 ghost use Rattle.unit_history.specs.Endings.{ending_of_run, plain_run};
 
+use backed_store::BlocksInPlace;
 use command_model::Reply;
-use foundation::NoMemory;
+use foundation::{NoMemory, Record};
 use task_set::Arrival;
 
 /// Writes what answers a request, by what came of its command.
@@ -26,10 +27,11 @@ pub trait Answering {
         requires fits { IfOk ran.now (λ r. length r.payload.items ≤ (need_of arrival.now.entry.command).into) }
         ensures { answers self.old arrival.now (ending_of_run (plain_run ran.now)) self.new };
 
-    /// Writes what answers a READ that is GOOD, with these data.
-    fn answer_read(&mut self, arrival: &Arrival, data: &[u8])
+    /// Writes what answers a READ that is GOOD, with the data of these blocks, and returns them as proofs see them.
+    fn answer_read(&mut self, arrival: &Arrival, blocks: BlocksInPlace<'_>) -> Record<u8>
         requires may { may_answer self.old arrival.now }
         requires sends { (need_of arrival.now.entry.command).out ≡ 0 }
-        requires fits { length data.now ≤ (need_of arrival.now.entry.command).into }
-        ensures { answers self.old arrival.now (Ending.Replied (success arrival.now.entry.command data.now)) self.new };
+        requires fits { length blocks ≤ (need_of arrival.now.entry.command).into }
+        ensures recorded { result.items ≡ blocks.entry }
+        ensures written { answers self.old arrival.now (Ending.Replied (success arrival.now.entry.command blocks.entry)) self.new };
 }

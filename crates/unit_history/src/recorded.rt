@@ -95,18 +95,18 @@ impl RecordedReply {
         }
     }
 
-    /// Returns what is replied to a READ that ended with these data.
+    /// Returns what is replied to a READ that ended with these data, of so many bytes.
     #[inline(always)]
-    pub(crate) fn of_read(data: &[u8]) -> RecordedReply
-        requires { length data.now < 2 ^ 32 }
-        ensures { result ≡ good_data data.now }
+    pub(crate) fn of_read(payload: Record<u8>, len: u32) -> RecordedReply
+        requires { len ≡ length payload.items }
+        ensures { result ≡ good_data payload.items }
     {
         RecordedReply {
             status: GOOD,
             sense: None,
-            payload: Record::new().and_all(data),
-            moved: data.len() as u32,
-            data_bytes: data.len() as u64,
+            payload,
+            moved: len,
+            data_bytes: u64::from(len),
         }
     }
 

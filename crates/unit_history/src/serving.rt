@@ -43,8 +43,7 @@ fn recorded_run(room: &mut Vec<u8>, ran: Result<Reply, NoMemory>) -> Result<Reco
     }
 }
 
-/// Runs the command of a request, and has what answers it written: the data of a READ from where they stand, if its
-/// blocks lie in one page. Returns what the log has of that; `NoMemory` where memory was refused.
+/// Runs the command of a request, and has what answers it written: the data of a READ from where they stand. Returns what the log has of that; `NoMemory` where memory was refused.
 #[inline(always)]
 fn run_and_answer<A: Answering>(
     alloc: Global,
@@ -70,8 +69,9 @@ fn run_and_answer<A: Answering>(
     let command = arrival.command();
     tell_oldest(facts, attentions);
     if let Some(data) = read_in_place(store, &command, facts) {
-        answering.answer_read(arrival, data);
-        return Ok(RecordedReply::of_read(data));
+        let len = data.len() as u32;
+        let recorded = answering.answer_read(arrival, data);
+        return Ok(RecordedReply::of_read(recorded, len));
     }
     let ran = run(
         alloc,

@@ -1,4 +1,4 @@
-use Rattle.std.proofs.Common.{◌≡◌, ◌+◌, ◌<◌, ◌≤◌, ◌/◌, ◌%◌, ◌∙◌, ap, length}
+use Rattle.std.proofs.Common.{◌/◌, ◌%◌, ◌∙◌, ap, length}
 use Rattle.block_store.specs.Kept.{kept, blocks_of}
 use Rattle.block_store.specs.Inner.Padding.{length-blocks_in}
 use Rattle.block_store.proofs.Runs.{length-run}
