@@ -173,10 +173,13 @@ static void watch_answers(struct front *front, struct log *log) {
 
 static void begin(struct front *front, struct disks *disks, unsigned number, bool on_file) {
   char why[200];
+  struct way way = way_of(number);
+  // Where rings are polled, when drivers are asked again depends on the time, and so do the pages that this is written to.
+  way.polling.most = 0;
   memset(disks, 0, sizeof *disks);
   if (on_file) load_make(disks, "1M", "");
   else MUST(disks_add(disks, "0:0=1M", why, sizeof why));
-  front_begin(front, disks, way_of(number));
+  front_begin(front, disks, way);
   front_agree(front);
   // Behind this one drivers are asked to notify by nobody but of queues that were kicked.
   MUST(command(front, 2, ready, sizeof ready, NULL, 0, NULL, 0) == 0);
