@@ -43,7 +43,8 @@ fn recorded_run(room: &mut Vec<u8>, ran: Result<Reply, NoMemory>) -> Result<Reco
     }
 }
 
-/// Runs the command of a request, and has what answers it written: the data of a READ from where they stand. Returns what the log has of that; `NoMemory` where memory was refused.
+/// Runs the command of a request, and has what answers it written: the data of a READ from where they stand. Returns what
+/// the log has of that; `NoMemory` where memory was refused.
 #[inline(always)]
 fn run_and_answer<A: Answering>(
     alloc: Global,
