@@ -25,7 +25,7 @@ fn mark_tasks(unit: &mut UnitState, mark: MarkBy, out: &mut JobList) -> Result<P
     }
 }
 
-/// What a step of the open function did.
+/// The outcome of a step of the open function.
 #[derive(Clone, Copy, Debug, PartialEq, Eq)]
 pub enum Visited {
     /// Nothing: no unit is left, or the list has fewer than 64 free places.
