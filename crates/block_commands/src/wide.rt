@@ -89,7 +89,7 @@ pub(crate) fn wide<S: Store>(
     }
 }
 
-/// Returns the data of MODE SENSE (SPC-4 §6.11), unless saved values are asked for.
+/// Returns the data of MODE SENSE (SPC-4 §6.13), unless saved values are asked for.
 fn mode_sense(
     alloc: Global,
     format: SenseFormat,

@@ -1,4 +1,6 @@
+pub mod Deciding
 pub mod Finding
+pub mod Gaining
 pub mod Profiled
 pub mod Rows
 pub mod WideRows

@@ -4,6 +4,8 @@ ghost use Rattle.std.specs.Prelude.{◌≡◌, ◌≢◌, ℕ, List, IsTrue, IsF
 ghost use Rattle.cdb.specs.Decoding.{command};
 ghost use Rattle.cdb.specs.Fields.{bit, bits, byte, number};
 ghost use Rattle.cdb.specs.Opcodes.{control_of, is_profiled};
+ghost use Rattle.cdb.specs.Profiles.{is_gained};
+ghost use Rattle.cdb.specs.Usage.{ActionDecides, OfEach, PlainDecides, action_commands, plain_commands};
 ghost use Rattle.cdb.specs.declared.profile.Profile.{Profile};
 
 use crate::{Command, MOST_COMPARE_BLOCKS, MOST_TRANSFER_BLOCKS, MOST_WRITE_SAME_BLOCKS};
@@ -32,6 +34,22 @@ pub fn read_10()
         → number 7 8 a ≡ number 7 8 b
         → bit 9 2 a ≡ bit 9 2 b
         → command profile a ≡ command profile b }
+{}
+
+/// The wide profile decodes each command of the narrow one alike, but for what `is_gained` lists: there the narrow profile
+/// refuses the CDB. So each command that is good in the narrow profile is the same in the wide one.
+pub fn profiles()
+    ensures alike { (cdb : List ℕ) → IsTrue (is_profiled Profile.Narrow (byte 0 cdb)) → IsFalse (is_gained cdb)
+        → command Profile.Wide cdb ≡ command Profile.Narrow cdb }
+    ensures gained { (cdb : List ℕ) → IsTrue (is_gained cdb)
+        → command Profile.Narrow cdb ≡ Command.Bad (byte 0 cdb) }
+{}
+
+/// The bits that are 1 in a command's usage map, but for those of fields that are taken and change nothing, decide all.
+/// Two CDBs of a command that agree in these fields and in NACA are decoded alike, whatever else stands in them.
+pub fn usage_bits_matter()
+    ensures plain { OfEach PlainDecides plain_commands }
+    ensures actions { OfEach ActionDecides action_commands }
 {}
 
 /// The limits that the profile has: of READ and WRITE, of WRITE SAME, and of COMPARE AND WRITE.

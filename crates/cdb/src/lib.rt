@@ -25,6 +25,6 @@ pub use decoding::decode;
 pub use profile::Profile;
 pub use transfers::{Transfer, need};
 pub use wide_commands::{
-    CodesAsked, FormatList, ModeDescriptor, ModeForm, ModePages, ModeRequest, ModeValues,
-    VerifyData, WideCommand,
+    CodesAsked, DefectForm, DefectFormat, DefectRequest, FormatList, ModeDescriptor, ModeForm,
+    ModePages, ModeRequest, ModeValues, VerifyData, WideCommand,
 };

@@ -1,0 +1,8 @@
+use Rattle.cdb.proofs.Deciding.{plain_decide, action_decide}
+use Rattle.cdb.proofs.laws.usage_bits_matter.Goals as goal
+
+pub returns-clause-plain : goal.returns-clause-plain
+returns-clause-plain c = plain_decide
+
+pub returns-clause-actions : goal.returns-clause-actions
+returns-clause-actions c = action_decide
