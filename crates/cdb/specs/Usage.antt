@@ -1,6 +1,6 @@
 -- The fields of the commands that a unit of the wide profile evaluates, SPC-4 §6.35.3: the bits that are 1 in their CDB
 -- usage data.
-use Rattle.std.specs.Prelude.{ℕ, ◌≡◌, ◌+◌, ◌-◌, ◌^◌, ◌==◌, ◌&&◌, nat_le, List, [], ◌∷◌, if◌then◌else◌}
+use Rattle.std.specs.Prelude.{ℕ, ◌≡◌, ◌+◌, ◌-◌, ◌^◌, ◌==◌, ◌&&◌, nat_le, List, [], ◌∷◌, ◌≢◌, ◌%◌, map, Bool, true, if◌then◌else◌}
 use Rattle.cdb.specs.Fields.{bits, byte, number}
 use Rattle.cdb.specs.Decoding.{command}
 use Rattle.cdb.specs.declared.profile.Profile.TheVariants.{Wide}
@@ -145,3 +145,30 @@ ActionDecides c =
 abbrev pub OfEach : {A : Type 0} → (A → Type 0) → List A → Type 0
 OfEach P [] = Unit {0}
 OfEach P (x ∷ later) = P x × OfEach P later
+
+-- what a field has of byte k, as the number that byte k is without the other bits
+abbrev pub part_of : Field → ℕ → List ℕ → ℕ
+part_of (Field.Bits i high low) k cdb = if k == i then byte k cdb % 2 ^ (high + 1) - byte k cdb % 2 ^ low else 0
+part_of (Field.Whole i) k cdb = if k == i then byte k cdb else 0
+part_of (Field.Number i j) k cdb = if nat_le i k && nat_le k j then byte k cdb else 0
+
+-- the 16 bytes of a CDB without a field
+abbrev pub without : Field → List ℕ → List ℕ
+without field cdb =
+    map (λ k. byte k cdb - part_of field k cdb)
+    (0 ∷ 1 ∷ 2 ∷ 3 ∷ 4 ∷ 5 ∷ 6 ∷ 7 ∷ 8 ∷ 9 ∷ 10 ∷ 11 ∷ 12 ∷ 13 ∷ 14 ∷ 15 ∷ [])
+
+-- a field decides by itself: two CDBs that ask for the same command, and differ in this field alone, mean different things
+pub record Matters (asks : List ℕ → Bool) (field : Field) : Type 0 where
+  pub a : List ℕ
+  pub b : List ℕ
+  pub a_asks : asks a ≡ true
+  pub b_asks : asks b ≡ true
+  pub alike : without field a ≡ without field b
+  pub differ : command Wide a ≢ command Wide b
+
+abbrev pub PlainMatters : ℕ × List Field × List Field → Type 0
+PlainMatters c = OfEach (Matters (λ cdb. byte 0 cdb == c.0)) c.1
+
+abbrev pub ActionMatters : ℕ × ℕ × List Field × List Field → Type 0
+ActionMatters c = OfEach (Matters (λ cdb. (byte 0 cdb == c.0) && (bits 1 4 0 cdb == c.1))) c.2

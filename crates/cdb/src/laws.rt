@@ -5,7 +5,7 @@ ghost use Rattle.cdb.specs.Decoding.{command};
 ghost use Rattle.cdb.specs.Fields.{bit, bits, byte, number};
 ghost use Rattle.cdb.specs.Opcodes.{control_of, is_profiled};
 ghost use Rattle.cdb.specs.Profiles.{is_gained};
-ghost use Rattle.cdb.specs.Usage.{ActionDecides, OfEach, PlainDecides, action_commands, plain_commands};
+ghost use Rattle.cdb.specs.Usage.{ActionDecides, ActionMatters, OfEach, PlainDecides, PlainMatters, action_commands, plain_commands};
 ghost use Rattle.cdb.specs.declared.profile.Profile.{Profile};
 
 use crate::{Command, MOST_COMPARE_BLOCKS, MOST_TRANSFER_BLOCKS, MOST_WRITE_SAME_BLOCKS};
@@ -45,11 +45,14 @@ pub fn profiles()
         → command Profile.Narrow cdb ≡ Command.Bad (byte 0 cdb) }
 {}
 
-/// The bits that are 1 in a command's usage map, but for those of fields that are taken and change nothing, decide all.
-/// Two CDBs of a command that agree in these fields and in NACA are decoded alike, whatever else stands in them.
+/// A usage map has ones where a unit evaluates a field (SPC-4 §6.35.3). Two CDBs of a command that agree in NACA and in the
+/// fields that decide are decoded alike: a bit outside of them changes nothing, nor does a field that is taken alone. Each
+/// field that decides does so by itself: two CDBs that differ in it alone are decoded differently.
 pub fn usage_bits_matter()
     ensures plain { OfEach PlainDecides plain_commands }
     ensures actions { OfEach ActionDecides action_commands }
+    ensures each_plain { OfEach PlainMatters plain_commands }
+    ensures each_action { OfEach ActionMatters action_commands }
 {}
 
 /// The limits that the profile has: of READ and WRITE, of WRITE SAME, and of COMPARE AND WRITE.

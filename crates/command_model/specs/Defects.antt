@@ -1,5 +1,5 @@
 -- The data of READ DEFECT DATA, SBC-3 §5.17 and §5.18. A unit keeps no list of defects, so each list is empty.
-use Rattle.std.specs.Prelude.{ℕ, ◌+◌, ◌*◌, Bool, List, [], ◌∷◌, ◌++◌, replicate, if◌then◌else◌}
+use Rattle.std.specs.Prelude.{ℕ, ◌+◌, List, [], ◌∷◌, ◌++◌, replicate, if◌then◌else◌}
 use Rattle.cdb.specs.declared.wide_commands.DefectRequest.{DefectRequest}
 use Rattle.cdb.specs.declared.wide_commands.DefectForm.{DefectForm}
 use Rattle.cdb.specs.declared.wide_commands.DefectForm.TheVariants.{Ten, Twelve}
