@@ -1,5 +1,5 @@
 -- The commands of the narrow profile in the wide one.
-use Rattle.std.proofs.Common.{arith, ◌≡◌, ℕ, ◌==◌, List, [], ◌∷◌, Bool, true, false, ◌||◌, ◌&&◌, not, if◌then◌else◌, None, refl, sym, ap, ◌∙◌, subst}
+use Rattle.std.proofs.Common.{arith, ◌≡◌, ◌≢◌, ℕ, ◌==◌, List, [], ◌∷◌, Bool, true, false, ◌||◌, ◌&&◌, not, if◌then◌else◌, None, refl, sym, ap, ◌∙◌, subst}
 use Rattle.std.specs.List.{list_any}
 use Rattle.std.specs.Prelude.{is_none}
 use Rattle.std.proofs.lemmas.Bool.{eqb-true}
@@ -10,10 +10,11 @@ use Rattle.cdb.specs.Profiles.{is_gained}
 use Rattle.cdb.specs.Opcodes.{is_profiled, narrow_opcodes}
 use Rattle.cdb.specs.Usage.{OfEach}
 use Rattle.cdb.specs.Decoding.{any, row_of, command_by, command}
+use Rattle.cdb.proofs.Profiled.{unknown}
 use Rattle.cdb.specs.declared.profile.Profile.{Profile}
 use Rattle.cdb.specs.declared.profile.Profile.TheVariants.{Narrow, Wide}
 use Rattle.cdb.specs.declared.commands.Command.{Command}
-use Rattle.cdb.specs.declared.commands.Command.TheVariants.{Bad, Inquiry}
+use Rattle.cdb.specs.declared.commands.Command.TheVariants.{Bad, Inquiry, Unknown}
 
 -- an opcode of a list has what each opcode of the list has
 of_each : (P : ℕ → Type 0) (ks : List ℕ) → OfEach P ks → (x : ℕ) → list_any (λ k. k == x) ks ≡ true → P x
@@ -245,3 +246,14 @@ gained cdb h =
     (λ h. either (x == 0x9e && action == 0x12) false h
     (λ is. refused_action cdb (eqb-true x 0x9e (left (x == 0x9e) _ is)) (eqb-true action 0x12 (right (x == 0x9e) _ is)))
     (λ h. absurd (cc)))))
+
+pub good : (cdb : List ℕ) → command Narrow cdb ≢ Unknown → command Narrow cdb ≢ Bad (byte 0 cdb) → command Wide cdb ≡ command Narrow cdb
+good cdb is_known is_good =
+    (elim (is_profiled Narrow (byte 0 cdb)) as (λ b. is_profiled Narrow (byte 0 cdb) ≡ b → command Wide cdb ≡ command Narrow cdb) [
+      | true ↦ λ profiled.
+          (elim (is_gained cdb) as (λ b. is_gained cdb ≡ b → command Wide cdb ≡ command Narrow cdb) [
+            | true ↦ λ is. absurd (is_good (gained cdb is))
+            | false ↦ λ is. alike cdb profiled is
+          ]) refl
+      | false ↦ λ other. absurd (is_known (unknown Narrow cdb other))
+    ]) refl

@@ -43,6 +43,9 @@ pub fn profiles()
         → command Profile.Wide cdb ≡ command Profile.Narrow cdb }
     ensures gained { (cdb : List ℕ) → IsTrue (is_gained cdb)
         → command Profile.Narrow cdb ≡ Command.Bad (byte 0 cdb) }
+    ensures good { (cdb : List ℕ) → command Profile.Narrow cdb ≢ Command.Unknown
+        → command Profile.Narrow cdb ≢ Command.Bad (byte 0 cdb)
+        → command Profile.Wide cdb ≡ command Profile.Narrow cdb }
 {}
 
 /// A usage map has ones where a unit evaluates a field (SPC-4 §6.35.3). Two CDBs of a command that agree in NACA and in the
