@@ -27,7 +27,6 @@ BUDGET = {"proof": 480, "tests": 240, "edits": 120}
 QUIET = {
     "foundation": 10,
     "scsi_codec": 34,
-    "cdb": 35,
     "request_intake": 44,
     "event_queue": 22,
 }

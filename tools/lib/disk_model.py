@@ -31,8 +31,9 @@ TEST_UNIT_READY, UNMAP, CAPACITY_10, CAPACITY_16 = 0x00, 0x42, 0x25, 0x9e
 KNOWN = (*RANGED, INQUIRY, REPORT_LUNS, REQUEST_SENSE, TEST_UNIT_READY, UNMAP, CAPACITY_10, CAPACITY_16)
 
 # Those besides of the wide profile that this model has.
-FORMAT_UNIT = 0x04
-WIDE = (*OR_WRITE, FORMAT_UNIT)
+FORMAT_UNIT, DEFECTS_10, DEFECTS_12 = 0x04, 0x37, 0xb7
+DEFECTS = (DEFECTS_10, DEFECTS_12)
+WIDE = (*OR_WRITE, FORMAT_UNIT, *DEFECTS)
 
 # Where the control byte stands, by an opcode's group; its bit 2 is NACA (SAM-5 §5.2).
 CONTROL, NACA = {0: 5, 1: 9, 2: 9, 4: 15, 5: 11}, 4
@@ -71,6 +72,11 @@ def has_no_data_out(cdb):
     return cdb[0] == 0x93 and bool(cdb[1] & 1)
 
 
+def defects_asked(cdb):
+    """Returns REQ_PLIST, REQ_GLIST and DEFECT LIST FORMAT of a READ DEFECT DATA (SBC-3 §5.17, §5.18)."""
+    return cdb[2 if cdb[0] == DEFECTS_10 else 1] & 0x1f
+
+
 def is_bad(cdb, is_wide=False):
     """Returns true if the fields of a known command block are refused."""
     code = cdb[0]
@@ -85,7 +91,9 @@ def is_bad(cdb, is_wide=False):
     if code in (REQUEST_SENSE, UNMAP):
         return bool(cdb[1] & 1)
     if code == FORMAT_UNIT:
-        return bool(cdb[1] & 0xc7) or cdb[1] & 0x18 == 8
+        return bool(cdb[1] & 0xc7)
+    if code in DEFECTS:
+        return defects_asked(cdb) & 7 > 5
     if code in WRITE_SAME:
         return bool(cdb[1] & (0xf7 if code == 0x93 and not is_wide else 0xf6)) or not 0 < range_of(cdb)[1] <= MOST_SAME
     if code in (0x08, 0x0a) or code not in (*READ, *WRITE, *COMPARE, *OR_WRITE):
@@ -104,7 +112,8 @@ def need(cdb, is_wide=False):
         size = BLOCK * range_of(cdb)[1]
         return (0, size) if code in READ else (2 * size, 0) if code in COMPARE else (size, 0)
     out = BLOCK if code in WRITE_SAME else number(cdb[7:9]) if code == UNMAP else 0
-    allocations = {INQUIRY: cdb[3:5], REQUEST_SENSE: cdb[4:5], REPORT_LUNS: cdb[6:10], CAPACITY_16: cdb[10:14], CAPACITY_10: b"\x08"}
+    allocations = {INQUIRY: cdb[3:5], REQUEST_SENSE: cdb[4:5], REPORT_LUNS: cdb[6:10], CAPACITY_16: cdb[10:14], CAPACITY_10: b"\x08",
+                   DEFECTS_10: cdb[7:9], DEFECTS_12: cdb[6:10]}
     return out, number(allocations.get(code, b""))
 
 
@@ -316,6 +325,8 @@ class Disk:
             return self.unmap(cdb, out)
         if code == FORMAT_UNIT:
             return self.format(out[:need(cdb, True)[0]])
+        if code in DEFECTS:
+            return "", bytes((0, defects_asked(cdb))).ljust(4 if code == DEFECTS_10 else 8, b"\0")[:need(cdb, True)[1]], 0
         if code == INQUIRY:
             if cdb[1] & 1:
                 raise NotModelled("a page of INQUIRY")

@@ -1,5 +1,4 @@
 pub mod Comparisons
-pub mod Deciding
 pub mod Descriptors
 pub mod ModePages
 pub mod Oring

@@ -15,7 +15,7 @@ ghost use Rattle.command_model.specs.PlainReply.{success, refusal, sent_in};
 ghost use Rattle.command_model.specs.Statuses.{good, check_condition};
 ghost use Rattle.command_model.specs.Attention.{takes};
 ghost use Rattle.command_model.specs.Capacity.{is_in_range};
-ghost use Rattle.command_model.specs.Codes.{ActionDecides, OfEach, PlainDecides, action_commands, is_told, plain_commands};
+ghost use Rattle.command_model.specs.Codes.{is_told};
 ghost use Rattle.command_model.specs.Comparing.{to_compare};
 ghost use Rattle.command_model.specs.Effects.{block_after};
 ghost use Rattle.command_model.specs.Facts.{Facts};
@@ -162,10 +162,3 @@ pub fn codes_are_told()
 {
     opcodes();
 }
-
-/// The fields of which its usage maps are the bits decide all: two CDBs of a command that agree in these, and in NACA,
-/// mean the same.
-pub fn usage_maps_decide()
-    ensures plain { OfEach PlainDecides plain_commands }
-    ensures actions { OfEach ActionDecides action_commands }
-{}

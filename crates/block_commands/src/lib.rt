@@ -14,6 +14,7 @@ mod capacity;
 mod codes;
 mod compare;
 mod data;
+mod defects;
 mod disks;
 mod execution;
 mod extents;

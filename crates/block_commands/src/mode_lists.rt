@@ -1,4 +1,4 @@
-//! The parameter list of MODE SELECT (SPC-4 §6.9, §7.5.5).
+//! The parameter list of MODE SELECT (SPC-4 §6.11, §7.5.5).
 
 ghost use Rattle.std.specs.Prelude.{◌≡◌, ◌≤◌, Ok, Err, MatchResult, length};
 ghost use Rattle.cdb.specs.declared.wide_commands.ModeDescriptor.{ModeDescriptor};

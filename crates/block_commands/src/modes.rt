@@ -1,4 +1,4 @@
-//! The data of MODE SENSE (SPC-4 §6.11, §7.5, SBC-3 §6.4).
+//! The data of MODE SENSE (SPC-4 §6.13, §7.5, SBC-3 §6.5).
 
 ghost use Rattle.std.specs.Prelude.{◌≡◌, ◌≤◌, ◌++◌, false, true, length, take, IfOk, OnOk};
 ghost use Rattle.command_model.specs.Modes.{block_descriptor, descriptor_length, is_mask, d_sense, is_saved, long_lba, mode_data, mode_header, page_list};

@@ -10,6 +10,7 @@ ghost use Rattle.block_commands.specs.Inner.Ready.{is_changed_wide, is_near_wide
 
 use crate::codes::operation_codes;
 use crate::data::{cut, without_data};
+use crate::defects::defect_data;
 use crate::failure::Failure;
 use crate::format_unit::format_unit;
 use crate::mode_lists::mode_select;
@@ -72,9 +73,11 @@ pub(crate) fn wide<S: Store>(
             }
             Ok(cut(alloc, &lba_status(store.capacity(), lba), allocation)?)
         }
-        WideCommand::ReportOperationCodes { asked, allocation } => {
-            operation_codes(alloc, asked, allocation)
-        }
+        WideCommand::ReportOperationCodes {
+            asked,
+            timeouts,
+            allocation,
+        } => operation_codes(alloc, asked, timeouts, allocation),
         WideCommand::Verify { sent, blocks, lba } => {
             without_data(alloc, verify(alloc, store, sent, lba, blocks, bytes))
         }
@@ -86,10 +89,11 @@ pub(crate) fn wide<S: Store>(
             without_data(alloc, or_write(alloc, store, lba, blocks, bytes))
         }
         WideCommand::FormatUnit { list } => without_data(alloc, format_unit(store, list, bytes)),
+        WideCommand::ReadDefectData(request) => Ok(defect_data(alloc, &request)?),
     }
 }
 
-/// Returns the data of MODE SENSE (SPC-4 §6.11), unless saved values are asked for.
+/// Returns the data of MODE SENSE (SPC-4 §6.13), unless saved values are asked for.
 fn mode_sense(
     alloc: Global,
     format: SenseFormat,

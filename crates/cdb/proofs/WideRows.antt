@@ -20,10 +20,10 @@ other x k row is lacks same =
     cc
 
 own_none : (x : ℕ) →
-    x ≢ 0x04 → x ≢ 0x12 → x ≢ 0x03 → x ≢ 0x15 → x ≢ 0x1a → x ≢ 0x1b → x ≢ 0x1d → x ≢ 0x1e → x ≢ 0x2e → x ≢ 0x2f → x ≢ 0x34 → x ≢ 0x55
-    → x ≢ 0x5a → x ≢ 0x8b → x ≢ 0x8e → x ≢ 0x8f → x ≢ 0x90 → x ≢ 0x93 → x ≢ 0x9e → x ≢ 0xa3 → x ≢ 0xae → x ≢ 0xaf
+    x ≢ 0x04 → x ≢ 0x12 → x ≢ 0x03 → x ≢ 0x15 → x ≢ 0x1a → x ≢ 0x1b → x ≢ 0x1d → x ≢ 0x1e → x ≢ 0x2e → x ≢ 0x2f → x ≢ 0x34 → x ≢ 0x37 → x ≢ 0x55
+    → x ≢ 0x5a → x ≢ 0x8b → x ≢ 0x8e → x ≢ 0x8f → x ≢ 0x90 → x ≢ 0x93 → x ≢ 0x9e → x ≢ 0xa3 → x ≢ 0xae → x ≢ 0xaf → x ≢ 0xb7
     → find (λ row. row.opcode == x) (inquiry_row Wide ∷ sense_row Wide ∷ wide_rows) ≡ None
-own_none x a04 a1 a3s a15 a2 a3 a4 a5 a6 a7 a8 a55 a9 b8b b1 b2 b3 b93 b4 a163 b5 b6 = grind (arith, nat_tests)
+own_none x a04 a1 a3s a15 a2 a3 a4 a5 a6 a7 a8 a37 a55 a9 b8b b1 b2 b3 b93 b4 a163 b5 b6 b7 = grind (arith, nat_tests)
 
 wide_none : (x : ℕ) → find (λ row. row.opcode == x) (inquiry_row Wide ∷ sense_row Wide ∷ wide_rows) ≡ None → row_of Narrow x ≡ None →
     row_of Wide x ≡ None
@@ -36,12 +36,12 @@ by_narrow cdb lacks = sym (ap (λ found. command_by found cdb) lacks)
 
 pub by_none_at : (cdb : List ℕ) → row_of Narrow (byte 0 cdb) ≡ None →
     let x = byte 0 cdb in
-    x ≢ 0x04 → x ≢ 0x15 → x ≢ 0x1a → x ≢ 0x1b → x ≢ 0x1d → x ≢ 0x1e → x ≢ 0x2e → x ≢ 0x2f → x ≢ 0x34 → x ≢ 0x55 → x ≢ 0x5a
-    → x ≢ 0x8b → x ≢ 0x8e → x ≢ 0x8f → x ≢ 0x90 → x ≢ 0xa3 → x ≢ 0xae → x ≢ 0xaf → Unknown ≡ command Wide cdb
+    x ≢ 0x04 → x ≢ 0x15 → x ≢ 0x1a → x ≢ 0x1b → x ≢ 0x1d → x ≢ 0x1e → x ≢ 0x2e → x ≢ 0x2f → x ≢ 0x34 → x ≢ 0x37 → x ≢ 0x55 → x ≢ 0x5a
+    → x ≢ 0x8b → x ≢ 0x8e → x ≢ 0x8f → x ≢ 0x90 → x ≢ 0xa3 → x ≢ 0xae → x ≢ 0xaf → x ≢ 0xb7 → Unknown ≡ command Wide cdb
 unfolding command
-by_none_at cdb lacks a04 a15 a2 a3 a4 a5 a6 a7 a8 a55 a9 b8b b1 b2 b3 a163 b5 b6 =
+by_none_at cdb lacks a04 a15 a2 a3 a4 a5 a6 a7 a8 a37 a55 a9 b8b b1 b2 b3 a163 b5 b6 b7 =
     let x = byte 0 cdb in
-    let own = own_none x a04 (other x 0x12 _ refl lacks) (other x 0x03 _ refl lacks) a15 a2 a3 a4 a5 a6 a7 a8 a55 a9 b8b b1 b2 b3 (other x 0x93 _ refl lacks) (other x 0x9e _ refl lacks) a163 b5 b6 in
+    let own = own_none x a04 (other x 0x12 _ refl lacks) (other x 0x03 _ refl lacks) a15 a2 a3 a4 a5 a6 a7 a8 a37 a55 a9 b8b b1 b2 b3 (other x 0x93 _ refl lacks) (other x 0x9e _ refl lacks) a163 b5 b6 b7 in
     sym (ap (λ found. command_by found cdb) (wide_none x own lacks))
 
 none_either : (profile : Profile) (cdb : List ℕ) → Unknown ≡ command Narrow cdb → Unknown ≡ command Wide cdb →
@@ -54,8 +54,8 @@ pub by_none : (profile : Profile) (cdb : List ℕ) →
     x ≢ 0x00 → x ≢ 0x03 → x ≢ 0x08 → x ≢ 0x0a → x ≢ 0x12 → x ≢ 0x25 → x ≢ 0x28 → x ≢ 0x2a → x ≢ 0x35
     → x ≢ 0x41 → x ≢ 0x42 → x ≢ 0x88 → x ≢ 0x89 → x ≢ 0x8a → x ≢ 0x91 → x ≢ 0x93 → x ≢ 0x9e
     → x ≢ 0xa0 → x ≢ 0xa8 → x ≢ 0xaa
-    → x ≢ 0x04 → x ≢ 0x15 → x ≢ 0x1a → x ≢ 0x1b → x ≢ 0x1d → x ≢ 0x1e → x ≢ 0x2e → x ≢ 0x2f → x ≢ 0x34 → x ≢ 0x55 → x ≢ 0x5a
-    → x ≢ 0x8b → x ≢ 0x8e → x ≢ 0x8f → x ≢ 0x90 → x ≢ 0xa3 → x ≢ 0xae → x ≢ 0xaf → Unknown ≡ command profile cdb
-by_none profile cdb a1 a2 a3 a4 a5 a6 a7 a8 a9 b1 b2 b3 b4 b5 b6 b7 b8 b9 d1 d2 e04 e15 e1 e2 e3 e4 e5 e6 e7 e55 e8 e8b e9 f1 f2 e163 f3 f4 =
+    → x ≢ 0x04 → x ≢ 0x15 → x ≢ 0x1a → x ≢ 0x1b → x ≢ 0x1d → x ≢ 0x1e → x ≢ 0x2e → x ≢ 0x2f → x ≢ 0x34 → x ≢ 0x37 → x ≢ 0x55 → x ≢ 0x5a
+    → x ≢ 0x8b → x ≢ 0x8e → x ≢ 0x8f → x ≢ 0x90 → x ≢ 0xa3 → x ≢ 0xae → x ≢ 0xaf → x ≢ 0xb7 → Unknown ≡ command profile cdb
+by_none profile cdb a1 a2 a3 a4 a5 a6 a7 a8 a9 b1 b2 b3 b4 b5 b6 b7 b8 b9 d1 d2 e04 e15 e1 e2 e3 e4 e5 e6 e7 e37 e55 e8 e8b e9 f1 f2 e163 f3 f4 f5 =
     let lacks = narrow_none (byte 0 cdb) a1 a2 a3 a4 a5 a6 a7 a8 a9 b1 b2 b3 b4 b5 b6 b7 b8 b9 d1 d2 in
-    none_either profile cdb (by_narrow cdb lacks) (by_none_at cdb lacks e04 e15 e1 e2 e3 e4 e5 e6 e7 e55 e8 e8b e9 f1 f2 e163 f3 f4)
+    none_either profile cdb (by_narrow cdb lacks) (by_none_at cdb lacks e04 e15 e1 e2 e3 e4 e5 e6 e7 e37 e55 e8 e8b e9 f1 f2 e163 f3 f4 f5)

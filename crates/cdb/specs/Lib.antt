@@ -3,5 +3,7 @@ pub mod Fields
 pub mod Need
 pub mod Opcodes
 pub mod Profile
+pub mod Profiles
+pub mod Usage
 pub mod WideProfile
 pub mod Inner

@@ -5,7 +5,7 @@ use Rattle.cdb.specs.declared.transfers.Transfer.{Transfer}
 use Rattle.cdb.specs.declared.commands.Command.{Command}
 use Rattle.cdb.specs.declared.commands.Command.TheVariants.{TestUnitReady, RequestSense, Read, Write, Inquiry, ReadCapacity10, ReadCapacity16, SynchronizeCache, WriteSame, Unmap, CompareAndWrite, ReportLuns, Wide, Bad, Unknown}
 use Rattle.cdb.specs.declared.wide_commands.WideCommand.{WideCommand}
-use Rattle.cdb.specs.declared.wide_commands.WideCommand.TheVariants.{ModeSense, ModeSelect, ReportTaskManagement, ReportOperationCodes, GetLbaStatus, Verify, WriteZeros, OrWrite, FormatUnit}
+use Rattle.cdb.specs.declared.wide_commands.WideCommand.TheVariants.{ModeSense, ModeSelect, ReportTaskManagement, ReportOperationCodes, GetLbaStatus, Verify, WriteZeros, OrWrite, FormatUnit, ReadDefectData}
 use Rattle.cdb.specs.declared.wide_commands.FormatList.{FormatList}
 use Rattle.cdb.specs.declared.wide_commands.FormatList.TheVariants.{NoList, ShortHeader, LongHeader}
 use Rattle.cdb.specs.declared.wide_commands.VerifyData.{VerifyData}
@@ -39,11 +39,12 @@ wide_need (ModeSense request) = bytes_in request.allocation
 wide_need (ModeSelect form list_length) = bytes_out list_length
 wide_need (ReportTaskManagement extended allocation) = bytes_in allocation
 wide_need (GetLbaStatus allocation lba) = bytes_in allocation
-wide_need (ReportOperationCodes asked allocation) = bytes_in allocation
+wide_need (ReportOperationCodes asked timeouts allocation) = bytes_in allocation
 wide_need (Verify sent count lba) = bytes_out (512 * sent_blocks sent count)
 wide_need (WriteZeros count lba) = no_bytes
 wide_need (OrWrite count lba) = bytes_out (512 * count)
 wide_need (FormatUnit list) = bytes_out (header_bytes list)
+wide_need (ReadDefectData request) = bytes_in request.allocation
 
 abbrev pub need_of : Command → Transfer
 need_of TestUnitReady = no_bytes

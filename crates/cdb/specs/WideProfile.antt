@@ -5,13 +5,16 @@ use Rattle.cdb.specs.Fields.{byte, bits, bit, number, is_set, is_over}
 use Rattle.cdb.specs.Profile.{Row, row, never, protect}
 use Rattle.cdb.specs.declared.commands.Command.{Command}
 use Rattle.cdb.specs.declared.commands.Command.TheVariants.{TestUnitReady, Write, ReadCapacity16, SynchronizeCache, WriteSame, Wide}
-use Rattle.cdb.specs.declared.wide_commands.WideCommand.TheVariants.{ModeSense, ModeSelect, ReportTaskManagement, ReportOperationCodes, GetLbaStatus, Verify, WriteZeros, OrWrite, FormatUnit}
+use Rattle.cdb.specs.declared.wide_commands.WideCommand.TheVariants.{ModeSense, ModeSelect, ReportTaskManagement, ReportOperationCodes, GetLbaStatus, Verify, WriteZeros, OrWrite, FormatUnit, ReadDefectData}
 use Rattle.cdb.specs.declared.wide_commands.FormatList.{FormatList}
 use Rattle.cdb.specs.declared.wide_commands.FormatList.TheVariants.{NoList, ShortHeader, LongHeader}
 use Rattle.cdb.specs.declared.wide_commands.CodesAsked.{CodesAsked}
-use Rattle.cdb.specs.declared.wide_commands.CodesAsked.TheVariants.{AllCommands, OneCommand, OneServiceAction}
+use Rattle.cdb.specs.declared.wide_commands.CodesAsked.TheVariants.{AllCommands, OneCommand, OneServiceAction, OneOfEither}
+use Rattle.cdb.specs.declared.wide_commands.DefectForm.{DefectForm}
+use Rattle.cdb.specs.declared.wide_commands.DefectForm.TheVariants as defect
+use Rattle.cdb.specs.declared.wide_commands.DefectFormat.{DefectFormat}
+use Rattle.cdb.specs.declared.wide_commands.DefectFormat.TheVariants.{ShortBlock, ExtendedBytesFromIndex, ExtendedPhysicalSector, LongBlock, BytesFromIndex, PhysicalSector}
 use Rattle.cdb.specs.declared.wide_commands.VerifyData.TheVariants.{EachBlock, OneBlock}
-use Rattle.cdb.specs.declared.wide_commands.ModeRequest.{ModeRequest}
 use Rattle.cdb.specs.declared.wide_commands.ModeForm.{ModeForm}
 use Rattle.cdb.specs.declared.wide_commands.ModeForm.TheVariants.{Six, Ten}
 use Rattle.cdb.specs.declared.wide_commands.ModeDescriptor.{ModeDescriptor}
@@ -21,7 +24,7 @@ use Rattle.cdb.specs.declared.wide_commands.ModePages.TheVariants.{ErrorRecovery
 use Rattle.cdb.specs.declared.wide_commands.ModeValues.{ModeValues}
 use Rattle.cdb.specs.declared.wide_commands.ModeValues.TheVariants.{Current, Changeable, Default, Saved}
 
--- the mode pages by page code, SPC-4 §7.5 and SBC-3 §6.4
+-- the mode pages by page code, SPC-4 §7.5 and SBC-3 §6.5
 abbrev pub mode_codes : List (ℕ × ModePages)
 mode_codes =
     (0x01, ErrorRecovery)
@@ -34,7 +37,7 @@ mode_codes =
 abbrev pub mode_pages_of : ℕ → Option ModePages
 mode_pages_of code = option_map (λ page. page.1) (find (λ page. page.0 == code) mode_codes)
 
--- the field PC, SPC-4 §6.11
+-- the field PC, SPC-4 §6.13
 abbrev pub mode_values : ℕ → ModeValues
 mode_values control =
     if control == 0 then Current
@@ -66,7 +69,7 @@ select_causes cdb = not (bit 1 4 cdb) ∷ bit 1 0 cdb ∷ []
 
 -- WRITE AND VERIFY, SBC-3 §5.37: BYTCHK 10b and 11b, and what makes a WRITE bad
 abbrev pub written_causes : ℕ → List ℕ → List Bool
-written_causes count cdb = bit 1 2 cdb ∷ protect cdb ∷ is_over 2048 count ∷ []
+written_causes count cdb = is_over 1 (bits 1 2 1 cdb) ∷ protect cdb ∷ is_over 2048 count ∷ []
 
 -- VERIFY, SBC-3 §5.29: BYTCHK 10b, VRPROTECT
 abbrev pub verified_causes : ℕ → List ℕ → List Bool
@@ -105,11 +108,11 @@ abbrev pub service_row : Row
 service_row = row 0x9e 15 action_causes action_meaning
 
 -- MAINTENANCE IN: a service action but REPORT SUPPORTED OPERATION CODES and REPORT SUPPORTED TASK MANAGEMENT FUNCTIONS; of
--- the first RCTD, and a reporting option over 010b; of the second an allocation length below 4
+-- the first a reporting option over 011b; of the second an allocation length below 4
 abbrev pub maintenance_causes : List ℕ → List Bool
 maintenance_causes cdb =
     not (bits 1 4 0 cdb == 0x0c || bits 1 4 0 cdb == 0x0d)
-    ∷ (bits 1 4 0 cdb == 0x0c && (bit 2 7 cdb || is_over 2 (bits 2 2 0 cdb)))
+    ∷ (bits 1 4 0 cdb == 0x0c && is_over 3 (bits 2 2 0 cdb))
     ∷ (bits 1 4 0 cdb == 0x0d && nat_lt (number 6 9 cdb) 4)
     ∷ []
 
@@ -117,30 +120,59 @@ maintenance_causes cdb =
 abbrev pub codes_asked : ℕ → ℕ → ℕ → CodesAsked
 codes_asked option opcode action =
     if option == 0 then AllCommands
-    else (if option == 1 then OneCommand opcode else OneServiceAction opcode action)
+    else (if option == 1 then OneCommand opcode
+    else (if option == 2 then OneServiceAction opcode action else OneOfEither opcode action))
 
 abbrev pub maintenance_meaning : List ℕ → Command
 maintenance_meaning cdb =
     if bits 1 4 0 cdb == 0x0c
-    then Wide (ReportOperationCodes (codes_asked (bits 2 2 0 cdb) (byte 3 cdb) (number 4 5 cdb)) (number 6 9 cdb))
+    then Wide (ReportOperationCodes (codes_asked (bits 2 2 0 cdb) (byte 3 cdb) (number 4 5 cdb)) (bit 2 7 cdb) (number 6 9 cdb))
     else Wide (ReportTaskManagement (bit 2 7 cdb) (number 6 9 cdb))
 
--- FORMAT UNIT, SBC-3 §5.3: FMTPINFO; DEFECT LIST FORMAT; CMPLST without FMTDATA
+-- FORMAT UNIT, SBC-3 §5.3: FMTPINFO; DEFECT LIST FORMAT. CMPLST changes nothing where no list of defects is taken.
 abbrev pub format_causes : List ℕ → List Bool
-format_causes cdb =
-    is_set (bits 1 7 6 cdb) ∷ is_set (bits 1 2 0 cdb) ∷ (bit 1 3 cdb && not (bit 1 4 cdb)) ∷ []
+format_causes cdb = is_set (bits 1 7 6 cdb) ∷ is_set (bits 1 2 0 cdb) ∷ []
 
 -- the parameter list by FMTDATA and LONGLIST
 abbrev pub format_list : Bool → Bool → FormatList
 format_list has_list is_long = if has_list then (if is_long then LongHeader else ShortHeader) else NoList
 
+-- the formats of an address descriptor by DEFECT LIST FORMAT, SBC-3 §5.3.2; 110b is vendor specific, 111b reserved
+abbrev pub defect_formats : List (ℕ × DefectFormat)
+defect_formats =
+    (0, ShortBlock)
+    ∷ (1, ExtendedBytesFromIndex)
+    ∷ (2, ExtendedPhysicalSector)
+    ∷ (3, LongBlock)
+    ∷ (4, BytesFromIndex)
+    ∷ (5, PhysicalSector)
+    ∷ []
+
+abbrev pub defect_format_of : ℕ → Option DefectFormat
+defect_format_of code = option_map (λ format. format.1) (find (λ format. format.0 == code) defect_formats)
+
+-- READ DEFECT DATA, SBC-3 §5.17: a format that there isn't
+abbrev pub defect_causes : ℕ → List Bool
+defect_causes code = is_none (defect_format_of code) ∷ []
+
+-- READ DEFECT DATA in a form: REQ_PLIST, REQ_GLIST, DEFECT LIST FORMAT, allocation length
+abbrev pub defects_asked : DefectForm → Bool → Bool → ℕ → ℕ → Command
+defects_asked form primary grown code allocation =
+    Wide (ReadDefectData (record {
+      form = form;
+      primary = primary;
+      grown = grown;
+      format = unwrap_or (defect_format_of code) ShortBlock;
+      allocation = allocation;
+    }))
+
 abbrev pub wide_rows : List Row
 wide_rows =
     -- FORMAT UNIT, SBC-3 §5.3
     row 0x04 5 format_causes (λ cdb. Wide (FormatUnit (format_list (bit 1 4 cdb) (bit 1 5 cdb))))
-    -- MODE SELECT (6), SPC-4 §6.9
+    -- MODE SELECT (6), SPC-4 §6.11
     ∷ row 0x15 5 select_causes (λ cdb. Wide (ModeSelect Six (byte 4 cdb)))
-    -- MODE SENSE (6), SPC-4 §6.11: DBD is bit 3 of byte 1
+    -- MODE SENSE (6), SPC-4 §6.13: DBD is bit 3 of byte 1
     ∷ row 0x1a 5 mode_causes
     (λ cdb. mode_sense_of Six (if bit 1 3 cdb then Absent else Short) (byte 4 cdb) cdb)
     -- START STOP UNIT, SBC-3 §5.25: POWER CONDITION, LOEJ, and START where it is 0
@@ -151,8 +183,8 @@ wide_rows =
     ∷ row 0x1d 5
     (λ cdb. is_set (bits 1 7 5 cdb) ∷ is_set (number 3 4 cdb) ∷ [])
     (λ cdb. TestUnitReady)
-    -- PREVENT ALLOW MEDIUM REMOVAL, SBC-3 §5.10: the obsolete values of PREVENT
-    ∷ row 0x1e 5 (λ cdb. bit 4 1 cdb ∷ []) (λ cdb. TestUnitReady)
+    -- PREVENT ALLOW MEDIUM REMOVAL, SBC-3 §5.10: the obsolete values of PREVENT, 10b and 11b
+    ∷ row 0x1e 5 (λ cdb. is_over 1 (bits 4 1 0 cdb) ∷ []) (λ cdb. TestUnitReady)
     -- WRITE AND VERIFY (10), SBC-3 §5.37
     ∷ row 0x2e 9
     (λ cdb. written_causes (number 7 8 cdb) cdb)
@@ -163,9 +195,13 @@ wide_rows =
     (λ cdb. verified (number 2 5 cdb) (number 7 8 cdb) cdb)
     -- PRE-FETCH (10), SBC-3 §5.8
     ∷ row 0x34 9 never (λ cdb. SynchronizeCache (number 2 5 cdb) (number 7 8 cdb))
-    -- MODE SELECT (10), SPC-4 §6.10
+    -- READ DEFECT DATA (10), SBC-3 §5.17
+    ∷ row 0x37 9
+    (λ cdb. defect_causes (bits 2 2 0 cdb))
+    (λ cdb. defects_asked defect.Ten (bit 2 4 cdb) (bit 2 3 cdb) (bits 2 2 0 cdb) (number 7 8 cdb))
+    -- MODE SELECT (10), SPC-4 §6.12
     ∷ row 0x55 9 select_causes (λ cdb. Wide (ModeSelect Ten (number 7 8 cdb)))
-    -- MODE SENSE (10), SPC-4 §6.12: DBD is bit 3 of byte 1, LLBAA bit 4
+    -- MODE SENSE (10), SPC-4 §6.14: DBD is bit 3 of byte 1, LLBAA bit 4
     ∷ row 0x5a 9 mode_causes
     (λ cdb. mode_sense_of Ten (if bit 1 3 cdb then Absent else (if bit 1 4 cdb then Long else Short)) (number 7 8 cdb) cdb)
     -- ORWRITE (16), SBC-3 §5.5: ORPROTECT
@@ -196,4 +232,8 @@ wide_rows =
     ∷ row 0xaf 11
     (λ cdb. verified_causes (number 6 9 cdb) cdb)
     (λ cdb. verified (number 2 5 cdb) (number 6 9 cdb) cdb)
+    -- READ DEFECT DATA (12), SBC-3 §5.18. The list is empty, so none of it stands behind any ADDRESS DESCRIPTOR INDEX.
+    ∷ row 0xb7 11
+    (λ cdb. defect_causes (bits 1 2 0 cdb))
+    (λ cdb. defects_asked defect.Twelve (bit 1 4 cdb) (bit 1 3 cdb) (bits 1 2 0 cdb) (number 6 9 cdb))
     ∷ []

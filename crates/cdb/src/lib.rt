@@ -5,6 +5,9 @@
 //!
 //! `decode` is the table of commands of the profile (`cdb/specs/Profile.antt`), with every cause that makes a command
 //! block bad. `need` is how many bytes each moves, at most 1,048,576 from the driver.
+//!
+//! The wide profile decodes a command of the narrow one alike, but for a short list of what it takes besides
+//! (`laws::profiles`). Its usage maps have ones where a field is decoded, and nowhere else (`laws::usage_bits_matter`).
 #![tactic(auto)]
 
 mod commands;
@@ -25,6 +28,6 @@ pub use decoding::decode;
 pub use profile::Profile;
 pub use transfers::{Transfer, need};
 pub use wide_commands::{
-    CodesAsked, FormatList, ModeDescriptor, ModeForm, ModePages, ModeRequest, ModeValues,
-    VerifyData, WideCommand,
+    CodesAsked, DefectForm, DefectFormat, DefectRequest, FormatList, ModeDescriptor, ModeForm,
+    ModePages, ModeRequest, ModeValues, VerifyData, WideCommand,
 };

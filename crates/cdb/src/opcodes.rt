@@ -60,6 +60,8 @@ pub(crate) const VERIFY_10: u8 = 0x2f;
 
 pub(crate) const PRE_FETCH_10: u8 = 0x34;
 
+pub(crate) const READ_DEFECT_DATA_10: u8 = 0x37;
+
 pub(crate) const MODE_SELECT_10: u8 = 0x55;
 
 pub(crate) const MODE_SENSE_10: u8 = 0x5a;
@@ -77,3 +79,5 @@ pub(crate) const MAINTENANCE_IN: u8 = 0xa3;
 pub(crate) const WRITE_AND_VERIFY_12: u8 = 0xae;
 
 pub(crate) const VERIFY_12: u8 = 0xaf;
+
+pub(crate) const READ_DEFECT_DATA_12: u8 = 0xb7;

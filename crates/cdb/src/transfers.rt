@@ -64,6 +64,7 @@ fn wide_need(command: &WideCommand) -> Transfer
         WideCommand::WriteZeros { .. } => Transfer { out: 0, into: 0 },
         WideCommand::OrWrite { blocks, .. } => from_driver(u32::from(blocks) * BLOCK_BYTES),
         WideCommand::FormatUnit { list } => from_driver(header_bytes(list)),
+        WideCommand::ReadDefectData(request) => from_device(request.allocation),
     }
 }
 

@@ -4,9 +4,9 @@
 /// for it.
 #[derive(Clone, Copy, PartialEq, Eq)]
 pub enum WideCommand {
-    /// MODE SENSE (6) or (10) (SPC-4 §6.11, §6.12).
+    /// MODE SENSE (6) or (10) (SPC-4 §6.13, §6.14).
     ModeSense(ModeRequest),
-    /// MODE SELECT (6) or (10) (SPC-4 §6.9, §6.10).
+    /// MODE SELECT (6) or (10) (SPC-4 §6.11, §6.12).
     ModeSelect {
         /// The form of the header.
         form: ModeForm,
@@ -31,6 +31,8 @@ pub enum WideCommand {
     ReportOperationCodes {
         /// The commands to tell of.
         asked: CodesAsked,
+        /// True if command timeouts descriptors are asked for: RCTD is 1.
+        timeouts: bool,
         /// The most bytes to return.
         allocation: u32,
     },
@@ -63,6 +65,49 @@ pub enum WideCommand {
         /// The parameter list that is sent.
         list: FormatList,
     },
+    /// READ DEFECT DATA (10) or (12) (SBC-3 §5.17, §5.18).
+    ReadDefectData(DefectRequest),
+}
+
+/// What a READ DEFECT DATA asks for.
+#[derive(Clone, Copy, PartialEq, Eq)]
+pub struct DefectRequest {
+    /// The form of the header.
+    pub form: DefectForm,
+    /// True if the primary defect list is asked for: REQ_PLIST is 1.
+    pub primary: bool,
+    /// True if the grown defect list is asked for: REQ_GLIST is 1.
+    pub grown: bool,
+    /// The format of the list.
+    pub format: DefectFormat,
+    /// The most bytes to return.
+    pub allocation: u32,
+}
+
+/// The form of defect data: its header (SBC-3 §5.17, §5.18).
+#[derive(Clone, Copy, PartialEq, Eq)]
+pub enum DefectForm {
+    /// 4 bytes, of READ DEFECT DATA (10).
+    Ten,
+    /// 8 bytes, of READ DEFECT DATA (12).
+    Twelve,
+}
+
+/// The format of the address descriptors of a list of defects: the field DEFECT LIST FORMAT (SBC-3 §5.3.2).
+#[derive(Clone, Copy, PartialEq, Eq)]
+pub enum DefectFormat {
+    /// 000b: blocks, by addresses of 32 bits.
+    ShortBlock,
+    /// 001b: bytes from index, extended.
+    ExtendedBytesFromIndex,
+    /// 010b: physical sectors, extended.
+    ExtendedPhysicalSector,
+    /// 011b: blocks, by addresses of 64 bits.
+    LongBlock,
+    /// 100b: bytes from index.
+    BytesFromIndex,
+    /// 101b: physical sectors.
+    PhysicalSector,
 }
 
 /// The parameter list of a FORMAT UNIT: the bits FMTDATA and LONGLIST (SBC-3 §5.3). A unit takes no list of defects, so it
@@ -89,6 +134,13 @@ pub enum CodesAsked {
     },
     /// 010b: that of an opcode and a service action.
     OneServiceAction {
+        /// The opcode.
+        opcode: u8,
+        /// The service action.
+        action: u16,
+    },
+    /// 011b: that of an opcode and a service action, or of an opcode without service actions, where the other is 0.
+    OneOfEither {
         /// The opcode.
         opcode: u8,
         /// The service action.
@@ -129,7 +181,7 @@ pub enum ModeForm {
     Ten,
 }
 
-/// The block descriptor of a mode parameter list (SBC-3 §6.4.2).
+/// The block descriptor of a mode parameter list (SBC-3 §6.5.2).
 #[derive(Clone, Copy, PartialEq, Eq)]
 pub enum ModeDescriptor {
     /// None: DBD is 1.
@@ -140,7 +192,7 @@ pub enum ModeDescriptor {
     Long,
 }
 
-/// The mode pages that a page code names (SPC-4 §7.5, SBC-3 §6.4).
+/// The mode pages that a page code names (SPC-4 §7.5, SBC-3 §6.5).
 #[derive(Clone, Copy, PartialEq, Eq)]
 pub enum ModePages {
     /// Page 01h, Read-Write Error Recovery.
@@ -155,7 +207,7 @@ pub enum ModePages {
     All,
 }
 
-/// The values of mode parameters that a MODE SENSE asks for: the field PC (SPC-4 §6.11).
+/// The values of mode parameters that a MODE SENSE asks for: the field PC (SPC-4 §6.13).
 #[derive(Clone, Copy, PartialEq, Eq)]
 pub enum ModeValues {
     /// 00b: as they are.

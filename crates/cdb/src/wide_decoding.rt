@@ -1,10 +1,10 @@
 //! From the bytes of a CDB to its command, where the wide profile alone has its opcode.
 
-ghost use Rattle.std.specs.Prelude.{◌≡◌, ◌<◌, ◌≤◌, ◌∷◌, ◌==◌, [], IfSome, None};
+ghost use Rattle.std.specs.Prelude.{◌≡◌, ◌<◌, ◌≤◌, ◌∷◌, ◌/◌, ◌%◌, ◌^◌, ◌==◌, [], IfSome, None};
 ghost use Rattle.std.specs.List.{list_any};
 ghost use Rattle.cdb.specs.Fields.{bit, bits, byte, is_over, is_set};
 ghost use Rattle.cdb.specs.Profile.{protect};
-ghost use Rattle.cdb.specs.WideProfile.{codes_asked, format_list, mode_causes, mode_pages_of, mode_sense_of, mode_values, select_causes, subpages, verified, verified_causes};
+ghost use Rattle.cdb.specs.WideProfile.{codes_asked, defect_causes, defect_format_of, defects_asked, format_list, mode_causes, mode_pages_of, mode_sense_of, mode_values, select_causes, subpages, verified, verified_causes};
 ghost use Rattle.cdb.specs.Decoding.{command, row_of};
 ghost use Rattle.cdb.specs.Inner.Decoding.{fields_of, unless};
 ghost use Rattle.cdb.specs.Need.{need_of};
@@ -17,8 +17,8 @@ use crate::fields::{
 use crate::opcodes;
 use crate::profile::Profile;
 use crate::wide_commands::{
-    CodesAsked, FormatList, ModeDescriptor, ModeForm, ModePages, ModeRequest, ModeValues,
-    VerifyData, WideCommand,
+    CodesAsked, DefectForm, DefectFormat, DefectRequest, FormatList, ModeDescriptor, ModeForm,
+    ModePages, ModeRequest, ModeValues, VerifyData, WideCommand,
 };
 use byteorder::{BigEndian, ByteOrder};
 
@@ -34,7 +34,7 @@ const REPORT_TASK_MANAGEMENT: u8 = 0x0d;
 /// The least allocation length of the latter.
 const LEAST_TASK_MANAGEMENT_BYTES: u32 = 4;
 
-/// The subpage code that asks for a page with all its subpages (SPC-4 §6.11).
+/// The subpage code that asks for a page with all its subpages (SPC-4 §6.13).
 const ALL_SUBPAGES: u8 = 0xff;
 
 /// Decodes a CDB whose opcode the narrow profile lacks.
@@ -99,6 +99,7 @@ fn wide_10(cdb: &[u8; CDB_BYTES]) -> Command
         opcodes::WRITE_AND_VERIFY_10 => write_and_verify(cdb, blocks_10(cdb)),
         opcodes::VERIFY_10 => verify(cdb, blocks_10(cdb)),
         opcodes::PRE_FETCH_10 => Some(synchronize_cache(blocks_10(cdb))),
+        opcodes::READ_DEFECT_DATA_10 => read_defect_data_10(cdb),
         opcodes::MODE_SELECT_10 => {
             mode_select(cdb, ModeForm::Ten, BigEndian::read_u16(&cdb[7..9]))
         }
@@ -140,6 +141,7 @@ fn wide_12(cdb: &[u8; CDB_BYTES]) -> Command
         opcodes::MAINTENANCE_IN => maintenance_in(cdb),
         opcodes::WRITE_AND_VERIFY_12 => write_and_verify(cdb, blocks_12(cdb)),
         opcodes::VERIFY_12 => verify(cdb, blocks_12(cdb)),
+        opcodes::READ_DEFECT_DATA_12 => read_defect_data_12(cdb),
         _ => return Command::Unknown,
     };
     under_control(cdb, 11, fields)
@@ -149,12 +151,12 @@ fn wide_12(cdb: &[u8; CDB_BYTES]) -> Command
 /// written is there, so nothing is left to verify.
 fn write_and_verify(cdb: &[u8; CDB_BYTES], blocks: Blocks) -> Option<Command>
     ensures meaning { result
-        ≡ unless (bit 1 2 cdb.now ∷ protect cdb.now ∷ is_over 2048 blocks.count ∷ [])
+        ≡ unless (is_over 1 (bits 1 2 1 cdb.now) ∷ protect cdb.now ∷ is_over 2048 blocks.count ∷ [])
         (Command.Write blocks.lba blocks.count) }
     ensures data_out { IfSome result (λ c. (need_of c).out ≤ 1048576) }
 {
-    let reserved = has_bit(cdb[1], 2);
-    if reserved {
+    let byte_check = low_bits(cdb[1] >> 1, 2);
+    if byte_check > 1 {
         return None;
     }
     write(cdb, blocks)
@@ -168,8 +170,7 @@ fn format_unit(cdb: &[u8; CDB_BYTES]) -> Option<Command>
     let protection = cdb[1] >> 6;
     let defect_format = low_bits(cdb[1], 3);
     let has_list = has_bit(cdb[1], 4);
-    let complete_list = has_bit(cdb[1], 3);
-    if protection != 0 || defect_format != 0 || (complete_list && !has_list) {
+    if protection != 0 || defect_format != 0 {
         return None;
     }
     Some(Command::Wide(WideCommand::FormatUnit {
@@ -265,11 +266,59 @@ fn prevent_allow(cdb: &[u8; CDB_BYTES]) -> Option<Command>
     ensures meaning { result ≡ fields_of Profile.Wide 0x1e cdb.now }
     ensures data_out { IfSome result (λ c. (need_of c).out ≤ 1048576) }
 {
-    let obsolete = has_bit(cdb[4], 1);
-    if obsolete {
+    let prevent = low_bits(cdb[4], 2);
+    if prevent > 1 {
         return None;
     }
     Some(Command::TestUnitReady)
+}
+
+/// Decodes READ DEFECT DATA (10).
+fn read_defect_data_10(cdb: &[u8; CDB_BYTES]) -> Option<Command>
+    ensures meaning { result ≡ fields_of Profile.Wide 0x37 cdb.now }
+    ensures data_out { IfSome result (λ c. (need_of c).out ≤ 1048576) }
+{
+    let allocation = BigEndian::read_u16(&cdb[7..9]);
+    read_defect_data(DefectForm::Ten, cdb[2], u32::from(allocation))
+}
+
+/// Decodes READ DEFECT DATA (12).
+fn read_defect_data_12(cdb: &[u8; CDB_BYTES]) -> Option<Command>
+    ensures meaning { result ≡ fields_of Profile.Wide 0xb7 cdb.now }
+    ensures data_out { IfSome result (λ c. (need_of c).out ≤ 1048576) }
+{
+    read_defect_data(DefectForm::Twelve, cdb[1], BigEndian::read_u32(&cdb[6..10]))
+}
+
+/// Decodes READ DEFECT DATA, of this form. The byte of options has REQ_PLIST, REQ_GLIST and DEFECT LIST FORMAT.
+fn read_defect_data(form: DefectForm, options: u8, allocation: u32) -> Option<Command>
+    ensures meaning { result
+        ≡ unless (defect_causes (options % 2 ^ 3))
+        (defects_asked form (options / 2 ^ 4 % 2 == 1) (options / 2 ^ 3 % 2 == 1) (options % 2 ^ 3) allocation) }
+    ensures data_out { IfSome result (λ c. (need_of c).out ≤ 1048576) }
+{
+    Some(Command::Wide(WideCommand::ReadDefectData(DefectRequest {
+        form,
+        primary: has_bit(options, 4),
+        grown: has_bit(options, 3),
+        format: defect_format(low_bits(options, 3))?,
+        allocation,
+    })))
+}
+
+/// Returns the format of this DEFECT LIST FORMAT, 0 to 7, if the standard has it.
+fn defect_format(code: u8) -> Option<DefectFormat>
+    ensures { result ≡ defect_format_of code }
+{
+    match code {
+        0 => Some(DefectFormat::ShortBlock),
+        1 => Some(DefectFormat::ExtendedBytesFromIndex),
+        2 => Some(DefectFormat::ExtendedPhysicalSector),
+        3 => Some(DefectFormat::LongBlock),
+        4 => Some(DefectFormat::BytesFromIndex),
+        5 => Some(DefectFormat::PhysicalSector),
+        _ => None,
+    }
 }
 
 /// Decodes MODE SELECT, of this form.
@@ -295,13 +344,12 @@ fn maintenance_in(cdb: &[u8; CDB_BYTES]) -> Option<Command>
     let allocation = BigEndian::read_u32(&cdb[6..10]);
     match service_action {
         REPORT_OPERATION_CODES => {
-            let timeouts = has_bit(cdb[2], 7);
-            if timeouts {
-                return None;
-            }
             let action = BigEndian::read_u16(&cdb[4..6]);
-            let asked = codes_asked(low_bits(cdb[2], 3), cdb[3], action)?;
-            Some(Command::Wide(WideCommand::ReportOperationCodes { asked, allocation }))
+            Some(Command::Wide(WideCommand::ReportOperationCodes {
+                asked: codes_asked(low_bits(cdb[2], 3), cdb[3], action)?,
+                timeouts: has_bit(cdb[2], 7),
+                allocation,
+            }))
         }
         REPORT_TASK_MANAGEMENT => {
             if allocation < LEAST_TASK_MANAGEMENT_BYTES {
@@ -318,12 +366,13 @@ fn maintenance_in(cdb: &[u8; CDB_BYTES]) -> Option<Command>
 
 /// Returns the commands that a reporting option, 0 to 7, asks for, if the device has that option.
 fn codes_asked(option: u8, opcode: u8, action: u16) -> Option<CodesAsked>
-    ensures { result ≡ unless (is_over 2 option ∷ []) (codes_asked option opcode action) }
+    ensures { result ≡ unless (is_over 3 option ∷ []) (codes_asked option opcode action) }
 {
     match option {
         0 => Some(CodesAsked::AllCommands),
         1 => Some(CodesAsked::OneCommand { opcode }),
         2 => Some(CodesAsked::OneServiceAction { opcode, action }),
+        3 => Some(CodesAsked::OneOfEither { opcode, action }),
         _ => None,
     }
 }

@@ -1,129 +1,13 @@
 -- The commands that a unit of the wide profile supports, as REPORT SUPPORTED OPERATION CODES tells them, SPC-4 §6.35.
-use Rattle.std.specs.Prelude.{ℕ, ◌≡◌, ◌+◌, ◌-◌, ◌*◌, ◌/◌, ◌^◌, ◌==◌, Bool, ◌&&◌, ◌||◌, nat_le, List, [], ◌∷◌, ◌++◌, length, map, take, sum_by, Option, None, Some, Ok, Err, find, option_map, is_some, if◌then◌else◌}
+use Rattle.std.specs.Prelude.{ℕ, ◌+◌, ◌*◌, ◌/◌, ◌==◌, Bool, ◌&&◌, ◌||◌, List, [], ◌∷◌, ◌++◌, length, map, replicate, take, sum_by, Option, None, Some, Ok, Err, find, option_map, is_some, if◌then◌else◌}
 use Rattle.std.specs.List.{list_any, flat_map}
-use Rattle.std.specs.Int.{w16, w32, to_be_bytes}
+use Rattle.std.specs.Int.{w32, to_be_bytes}
 use Rattle.sense.specs.Conditions.{invalid_field_in_cdb}
-use Rattle.cdb.specs.Fields.{bits, byte, number}
-use Rattle.cdb.specs.Decoding.{command}
-use Rattle.cdb.specs.declared.profile.Profile.TheVariants.{Wide}
 use Rattle.cdb.specs.Opcodes.{control_of, length_of_group}
+use Rattle.cdb.specs.Usage.{Field, mask_of, plain_commands, action_commands}
 use Rattle.cdb.specs.declared.wide_commands.CodesAsked.{CodesAsked}
-use Rattle.cdb.specs.declared.wide_commands.CodesAsked.TheVariants.{AllCommands, OneCommand, OneServiceAction}
+use Rattle.cdb.specs.declared.wide_commands.CodesAsked.TheVariants.{AllCommands, OneCommand, OneServiceAction, OneOfEither}
 use Rattle.command_model.specs.Data.{Answer}
-
--- a field of a CDB: bits high to low of a byte, a whole byte, or bytes i to j as one number
-pub data Field : Type 0 where
-  Bits : ℕ → ℕ → ℕ → Field
-  Whole : ℕ → Field
-  Number : ℕ → ℕ → Field
-
--- what a CDB has there
-abbrev pub value_of : Field → List ℕ → ℕ
-value_of (Field.Bits i high low) cdb = bits i high low cdb
-value_of (Field.Whole i) cdb = byte i cdb
-value_of (Field.Number i j) cdb = number i j cdb
-
--- the bits of byte k that a field has, as a number
-abbrev pub mask_of : Field → ℕ → ℕ
-mask_of (Field.Bits i high low) k = if k == i then 2 ^ (high + 1) - 2 ^ low else 0
-mask_of (Field.Whole i) k = if k == i then 0xff else 0
-mask_of (Field.Number i j) k = if nat_le i k && nat_le k j then 0xff else 0
-
--- a command without service actions: its opcode, and the fields that a unit evaluates, SPC-4 §6.35.3, but for the opcode
--- and NACA (bit 2 of the control byte). DPO, FUA, IMMED and UNMAP are taken, and change nothing: they stand last.
-abbrev pub plain_commands : List (ℕ × List Field)
-plain_commands =
-    -- TEST UNIT READY
-    (0x00, [])
-    -- REQUEST SENSE: DESC, allocation length
-    ∷ (0x03, Field.Bits 1 0 0 ∷ Field.Whole 4 ∷ [])
-    -- FORMAT UNIT: FMTPINFO, LONGLIST, FMTDATA, CMPLST, DEFECT LIST FORMAT
-    ∷ (0x04, Field.Bits 1 7 6 ∷ Field.Bits 1 5 5 ∷ Field.Bits 1 4 4 ∷ Field.Bits 1 3 3 ∷ Field.Bits 1 2 0 ∷ [])
-    -- READ (6): address, length
-    ∷ (0x08, Field.Bits 1 4 0 ∷ Field.Number 2 3 ∷ Field.Whole 4 ∷ [])
-    -- WRITE (6)
-    ∷ (0x0a, Field.Bits 1 4 0 ∷ Field.Number 2 3 ∷ Field.Whole 4 ∷ [])
-    -- INQUIRY: EVPD, page code, allocation length
-    ∷ (0x12, Field.Bits 1 0 0 ∷ Field.Whole 2 ∷ Field.Number 3 4 ∷ [])
-    -- MODE SELECT (6): PF, SP, list length
-    ∷ (0x15, Field.Bits 1 4 4 ∷ Field.Bits 1 0 0 ∷ Field.Whole 4 ∷ [])
-    -- MODE SENSE (6): DBD, PC, page code, subpage code, allocation length
-    ∷ (0x1a, Field.Bits 1 3 3 ∷ Field.Bits 2 7 6 ∷ Field.Bits 2 5 0 ∷ Field.Whole 3 ∷ Field.Whole 4 ∷ [])
-    -- START STOP UNIT: POWER CONDITION, LOEJ, START, IMMED
-    ∷ (0x1b, Field.Bits 4 7 4 ∷ Field.Bits 4 1 1 ∷ Field.Bits 4 0 0 ∷ Field.Bits 1 0 0 ∷ [])
-    -- SEND DIAGNOSTIC: SELF-TEST CODE, list length
-    ∷ (0x1d, Field.Bits 1 7 5 ∷ Field.Number 3 4 ∷ [])
-    -- PREVENT ALLOW MEDIUM REMOVAL: the obsolete bit of PREVENT
-    ∷ (0x1e, Field.Bits 4 1 1 ∷ [])
-    -- READ CAPACITY (10)
-    ∷ (0x25, [])
-    -- READ (10): RDPROTECT, address, blocks, DPO and FUA
-    ∷ (0x28, Field.Bits 1 7 5 ∷ Field.Number 2 5 ∷ Field.Number 7 8 ∷ Field.Bits 1 4 3 ∷ [])
-    -- WRITE (10)
-    ∷ (0x2a, Field.Bits 1 7 5 ∷ Field.Number 2 5 ∷ Field.Number 7 8 ∷ Field.Bits 1 4 3 ∷ [])
-    -- WRITE AND VERIFY (10): also the upper bit of BYTCHK; DPO without FUA
-    ∷ (0x2e, Field.Bits 1 2 2 ∷ Field.Bits 1 7 5 ∷ Field.Number 2 5 ∷ Field.Number 7 8 ∷ Field.Bits 1 4 4 ∷ [])
-    -- VERIFY (10): also BYTCHK
-    ∷ (0x2f, Field.Bits 1 2 1 ∷ Field.Bits 1 7 5 ∷ Field.Number 2 5 ∷ Field.Number 7 8 ∷ Field.Bits 1 4 4 ∷ [])
-    -- PRE-FETCH (10): address, blocks, IMMED
-    ∷ (0x34, Field.Number 2 5 ∷ Field.Number 7 8 ∷ Field.Bits 1 1 1 ∷ [])
-    -- SYNCHRONIZE CACHE (10)
-    ∷ (0x35, Field.Number 2 5 ∷ Field.Number 7 8 ∷ Field.Bits 1 1 1 ∷ [])
-    -- WRITE SAME (10): WRPROTECT, ANCHOR, the obsolete bits, address, blocks, UNMAP
-    ∷ (0x41, Field.Bits 1 7 5 ∷ Field.Bits 1 4 4 ∷ Field.Bits 1 2 1 ∷ Field.Number 2 5 ∷ Field.Number 7 8 ∷ Field.Bits 1 3 3 ∷ [])
-    -- UNMAP: ANCHOR, list length
-    ∷ (0x42, Field.Bits 1 0 0 ∷ Field.Number 7 8 ∷ [])
-    -- MODE SELECT (10)
-    ∷ (0x55, Field.Bits 1 4 4 ∷ Field.Bits 1 0 0 ∷ Field.Number 7 8 ∷ [])
-    -- MODE SENSE (10): also LLBAA
-    ∷ (0x5a, Field.Bits 1 4 4 ∷ Field.Bits 1 3 3 ∷ Field.Bits 2 7 6 ∷ Field.Bits 2 5 0 ∷ Field.Whole 3 ∷ Field.Number 7 8 ∷ [])
-    -- READ (16)
-    ∷ (0x88, Field.Bits 1 7 5 ∷ Field.Number 2 9 ∷ Field.Number 10 13 ∷ Field.Bits 1 4 3 ∷ [])
-    -- COMPARE AND WRITE
-    ∷ (0x89, Field.Bits 1 7 5 ∷ Field.Number 2 9 ∷ Field.Whole 13 ∷ Field.Bits 1 4 3 ∷ [])
-    -- WRITE (16)
-    ∷ (0x8a, Field.Bits 1 7 5 ∷ Field.Number 2 9 ∷ Field.Number 10 13 ∷ Field.Bits 1 4 3 ∷ [])
-    -- ORWRITE (16): ORPROTECT, address, blocks, DPO and FUA
-    ∷ (0x8b, Field.Bits 1 7 5 ∷ Field.Number 2 9 ∷ Field.Number 10 13 ∷ Field.Bits 1 4 3 ∷ [])
-    -- WRITE AND VERIFY (16)
-    ∷ (0x8e, Field.Bits 1 2 2 ∷ Field.Bits 1 7 5 ∷ Field.Number 2 9 ∷ Field.Number 10 13 ∷ Field.Bits 1 4 4 ∷ [])
-    -- VERIFY (16)
-    ∷ (0x8f, Field.Bits 1 2 1 ∷ Field.Bits 1 7 5 ∷ Field.Number 2 9 ∷ Field.Number 10 13 ∷ Field.Bits 1 4 4 ∷ [])
-    -- PRE-FETCH (16)
-    ∷ (0x90, Field.Number 2 9 ∷ Field.Number 10 13 ∷ Field.Bits 1 1 1 ∷ [])
-    -- SYNCHRONIZE CACHE (16)
-    ∷ (0x91, Field.Number 2 9 ∷ Field.Number 10 13 ∷ Field.Bits 1 1 1 ∷ [])
-    -- WRITE SAME (16): also NDOB
-    ∷ (
-      0x93,
-      Field.Bits 1 7 5 ∷ Field.Bits 1 4 4 ∷ Field.Bits 1 2 1 ∷ Field.Bits 1 0 0 ∷ Field.Number 2 9 ∷ Field.Number 10 13
-          ∷ Field.Bits 1 3 3 ∷ [],
-    )
-    -- REPORT LUNS: SELECT REPORT, allocation length
-    ∷ (0xa0, Field.Whole 2 ∷ Field.Number 6 9 ∷ [])
-    -- READ (12)
-    ∷ (0xa8, Field.Bits 1 7 5 ∷ Field.Number 2 5 ∷ Field.Number 6 9 ∷ Field.Bits 1 4 3 ∷ [])
-    -- WRITE (12)
-    ∷ (0xaa, Field.Bits 1 7 5 ∷ Field.Number 2 5 ∷ Field.Number 6 9 ∷ Field.Bits 1 4 3 ∷ [])
-    -- WRITE AND VERIFY (12)
-    ∷ (0xae, Field.Bits 1 2 2 ∷ Field.Bits 1 7 5 ∷ Field.Number 2 5 ∷ Field.Number 6 9 ∷ Field.Bits 1 4 4 ∷ [])
-    -- VERIFY (12)
-    ∷ (0xaf, Field.Bits 1 2 1 ∷ Field.Bits 1 7 5 ∷ Field.Number 2 5 ∷ Field.Number 6 9 ∷ Field.Bits 1 4 4 ∷ [])
-    ∷ []
-
--- a command with a service action, which stands in bits 4 to 0 of byte 1: its opcode, the service action, and the fields
--- besides
-abbrev pub action_commands : List (ℕ × ℕ × List Field)
-action_commands =
-    -- READ CAPACITY (16): allocation length
-    (0x9e, 0x10, Field.Number 10 13 ∷ [])
-    -- GET LBA STATUS: address, allocation length
-    ∷ (0x9e, 0x12, Field.Number 2 9 ∷ Field.Number 10 13 ∷ [])
-    -- REPORT SUPPORTED OPERATION CODES: RCTD, REPORTING OPTIONS, requested opcode and service action, allocation length
-    ∷ (0xa3, 0x0c, Field.Bits 2 7 7 ∷ Field.Bits 2 2 0 ∷ Field.Whole 3 ∷ Field.Number 4 5 ∷ Field.Number 6 9 ∷ [])
-    -- REPORT SUPPORTED TASK MANAGEMENT FUNCTIONS: REPD, allocation length
-    ∷ (0xa3, 0x0d, Field.Bits 2 7 7 ∷ Field.Number 6 9 ∷ [])
-    ∷ []
 
 abbrev pub cdb_length : ℕ → ℕ
 cdb_length opcode = length_of_group (opcode / 32)
@@ -140,66 +24,69 @@ usage_data opcode action fields =
 
 -- that of an opcode without service actions, if the unit has it
 unfoldable pub plain_usage : ℕ → Option (List ℕ)
-plain_usage opcode = option_map (λ c. usage_data c.0 0 c.1) (find (λ c. c.0 == opcode) plain_commands)
+plain_usage opcode = option_map (λ c. usage_data c.0 0 (c.1 ++ c.2)) (find (λ c. c.0 == opcode) plain_commands)
 
 -- that of an opcode and a service action
 unfoldable pub action_usage : ℕ → ℕ → Option (List ℕ)
 action_usage opcode action =
-    option_map (λ c. usage_data c.0 c.1 c.2) (find (λ c. (c.0 == opcode) && (c.1 == action)) action_commands)
+    option_map (λ c. usage_data c.0 c.1 (c.2 ++ c.3)) (find (λ c. (c.0 == opcode) && (c.1 == action)) action_commands)
 
 -- whether an opcode has service actions
 abbrev pub has_actions : ℕ → Bool
 has_actions opcode = list_any (λ known. known == opcode) (0x9e ∷ 0xa3 ∷ [])
 
--- one command, SPC-4 §6.35.3: SUPPORT 001b where the unit lacks it; else 011b, the CDB's length and the usage data
-abbrev pub one_command : ℕ → Option (List ℕ) → List ℕ
-one_command opcode None = 0x00 ∷ 0x01 ∷ 0x00 ∷ 0x00 ∷ []
-one_command opcode (Some usage) = (0x00 ∷ 0x03 ∷ 0x00 ∷ cdb_length opcode ∷ []) ++ take (cdb_length opcode) usage
+-- a command timeouts descriptor, SPC-4 §6.35.4: 10 bytes follow; no timeout is indicated
+abbrev pub no_timeouts : List ℕ
+no_timeouts = (0x00 ∷ 0x0a ∷ []) ++ replicate 10 0x00
 
--- all commands, SPC-4 §6.35.2: how many bytes follow; a descriptor of 8 bytes for each, with SERVACTV where it has a
--- service action, and the CDB's length
-abbrev pub plain_descriptor : ℕ × List Field → List ℕ
-plain_descriptor c = c.0 ∷ 0x00 ∷ 0x00 ∷ 0x00 ∷ 0x00 ∷ 0x00 ∷ 0x00 ∷ cdb_length c.0 ∷ []
+-- with RCTD, and without it
+abbrev pub timeouts_told : Bool → List ℕ
+timeouts_told timeouts = if timeouts then no_timeouts else []
 
-abbrev pub action_descriptor : ℕ × ℕ × List Field → List ℕ
-action_descriptor c = c.0 ∷ 0x00 ∷ 0x00 ∷ c.1 ∷ 0x00 ∷ 0x01 ∷ 0x00 ∷ cdb_length c.0 ∷ []
+-- one command, SPC-4 §6.35.3: SUPPORT 001b where the unit lacks it; else 011b, the CDB's length and the usage data. With
+-- RCTD also CTDP (bit 7), and the descriptor behind; a command that the unit lacks has none.
+abbrev pub one_command : ℕ → Bool → Option (List ℕ) → List ℕ
+one_command opcode timeouts None = 0x00 ∷ 0x01 ∷ 0x00 ∷ 0x00 ∷ []
+one_command opcode timeouts (Some usage) =
+    (0x00 ∷ (if timeouts then 0x83 else 0x03) ∷ 0x00 ∷ cdb_length opcode ∷ []) ++ take (cdb_length opcode) usage
+    ++ timeouts_told timeouts
 
-unfoldable pub all_commands : List ℕ
-all_commands =
-    to_be_bytes w32 (8 * (length plain_commands + length action_commands))
-    ++ flat_map plain_descriptor plain_commands ++ flat_map action_descriptor action_commands
+-- all commands, SPC-4 §6.35.2: how many bytes follow; a descriptor of 8 bytes for each, with SERVACTV (bit 0) where it has
+-- a service action, and the CDB's length. With RCTD also CTDP (bit 1), and the descriptor behind each.
+abbrev pub plain_descriptor : Bool → ℕ × List Field × List Field → List ℕ
+plain_descriptor timeouts c =
+    (c.0 ∷ 0x00 ∷ 0x00 ∷ 0x00 ∷ 0x00 ∷ (if timeouts then 0x02 else 0x00) ∷ 0x00 ∷ cdb_length c.0 ∷ [])
+    ++ timeouts_told timeouts
 
--- REPORT SUPPORTED OPERATION CODES; an opcode with service actions is asked for with one, any other without
-abbrev pub codes_answer : CodesAsked → ℕ → Answer
-codes_answer AllCommands allocation = Ok (take allocation all_commands)
-codes_answer (OneCommand opcode) allocation =
+abbrev pub action_descriptor : Bool → ℕ × ℕ × List Field × List Field → List ℕ
+action_descriptor timeouts c =
+    (c.0 ∷ 0x00 ∷ 0x00 ∷ c.1 ∷ 0x00 ∷ (if timeouts then 0x03 else 0x01) ∷ 0x00 ∷ cdb_length c.0 ∷ [])
+    ++ timeouts_told timeouts
+
+unfoldable pub all_commands : Bool → List ℕ
+all_commands timeouts =
+    to_be_bytes w32 ((8 + length (timeouts_told timeouts)) * (length plain_commands + length action_commands))
+    ++ flat_map (plain_descriptor timeouts) plain_commands ++ flat_map (action_descriptor timeouts) action_commands
+
+-- that of an opcode and a service action, where one without service actions has the action 0: option 011b
+abbrev pub either_usage : ℕ → ℕ → Option (List ℕ)
+either_usage opcode action =
+    if has_actions opcode then action_usage opcode action
+    else (if action == 0 then plain_usage opcode else None)
+
+-- REPORT SUPPORTED OPERATION CODES; with options 001b and 010b an opcode that has service actions is asked for with one,
+-- any other without
+abbrev pub codes_answer : CodesAsked → Bool → ℕ → Answer
+codes_answer AllCommands timeouts allocation = Ok (take allocation (all_commands timeouts))
+codes_answer (OneCommand opcode) timeouts allocation =
     if has_actions opcode then Err invalid_field_in_cdb
-    else Ok (take allocation (one_command opcode (plain_usage opcode)))
-codes_answer (OneServiceAction opcode action) allocation =
+    else Ok (take allocation (one_command opcode timeouts (plain_usage opcode)))
+codes_answer (OneServiceAction opcode action) timeouts allocation =
     if is_some (plain_usage opcode) then Err invalid_field_in_cdb
-    else Ok (take allocation (one_command opcode (action_usage opcode action)))
+    else Ok (take allocation (one_command opcode timeouts (action_usage opcode action)))
+codes_answer (OneOfEither opcode action) timeouts allocation =
+    Ok (take allocation (one_command opcode timeouts (either_usage opcode action)))
 
 -- whether a unit has a command of this opcode, as it tells
 abbrev pub is_told : ℕ → Bool
 is_told opcode = is_some (plain_usage opcode) || has_actions opcode
-
--- the fields have the same in two CDBs
-abbrev pub Agree : List Field → List ℕ → List ℕ → Type 0
-Agree [] a b = Unit {0}
-Agree (field ∷ later) a b = (value_of field a ≡ value_of field b) × Agree later a b
-
--- the fields of a command decide: two CDBs of its opcode that agree in them, and in NACA, are one command
-abbrev pub PlainDecides : ℕ × List Field → Type 0
-PlainDecides c =
-    (a b : List ℕ) → byte 0 a ≡ c.0 → byte 0 b ≡ c.0 → Agree (Field.Bits (control_of c.0) 2 2 ∷ c.1) a b
-    → command Wide a ≡ command Wide b
-
-abbrev pub ActionDecides : ℕ × ℕ × List Field → Type 0
-ActionDecides c =
-    (a b : List ℕ) → byte 0 a ≡ c.0 → byte 0 b ≡ c.0 → bits 1 4 0 a ≡ c.1 → bits 1 4 0 b ≡ c.1
-    → Agree (Field.Bits (control_of c.0) 2 2 ∷ c.2) a b → command Wide a ≡ command Wide b
-
--- what holds of each item of a list
-abbrev pub OfEach : {A : Type 0} → (A → Type 0) → List A → Type 0
-OfEach P [] = Unit {0}
-OfEach P (x ∷ later) = P x × OfEach P later

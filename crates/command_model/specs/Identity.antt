@@ -40,7 +40,7 @@ abbrev pub is_naa : Option (List ℕ) → Bool
 is_naa None = true
 is_naa (Some naa) = (slice_index naa 0 / 16 == 3) || (slice_index naa 0 / 16 == 5)
 
--- MEDIUM ROTATION RATE: not reported, not rotating, or revolutions a minute (SBC-3 §6.6.3)
+-- MEDIUM ROTATION RATE: not reported, not rotating, or revolutions a minute (SBC-3 §6.6.2)
 abbrev pub is_rate : ℕ → Bool
 is_rate rate = nat_le rate 1 || (nat_le 0x0401 rate && nat_le rate 0xfffe)
 

@@ -73,7 +73,7 @@ extended_page format =
     ++ (most_sense format ∷ [])
     ++ replicate 50 0x00
 
--- page B0h, Block Limits, SBC-3 §6.6.4, 64 bytes
+-- page B0h, Block Limits, SBC-3 §6.6.3, 64 bytes
 unfoldable pub limits_page : List ℕ
 limits_page =
     (0x00 ∷ 0xb0 ∷ 0x00 ∷ 0x3c ∷ [])
@@ -93,12 +93,12 @@ limits_page =
     ++ (0x00 ∷ 0x00 ∷ 0x00 ∷ 0x00 ∷ 0x00 ∷ 0x01 ∷ 0x00 ∷ 0x00 ∷ [])
     ++ replicate 20 0x00
 
--- page B1h, Block Device Characteristics, SBC-3 §6.6.3, 64 bytes: bytes 4 and 5, the medium rotation rate
+-- page B1h, Block Device Characteristics, SBC-3 §6.6.2, 64 bytes: bytes 4 and 5, the medium rotation rate
 unfoldable pub characteristics_page : ℕ → List ℕ
 characteristics_page rate =
     (0x00 ∷ 0xb1 ∷ 0x00 ∷ 0x3c ∷ []) ++ to_be_bytes w16 rate ++ replicate 58 0x00
 
--- page B2h, Logical Block Provisioning, SBC-3 §6.6.6: LBPU, LBPWS, LBPWS10, LBPRZ; thin
+-- page B2h, Logical Block Provisioning, SBC-3 §6.6.4: LBPU, LBPWS, LBPWS10, LBPRZ; thin
 unfoldable pub provisioning_page : List ℕ
 provisioning_page = 0x00 ∷ 0xb2 ∷ 0x00 ∷ 0x04 ∷ 0x00 ∷ 0xe4 ∷ 0x02 ∷ 0x00 ∷ []
 

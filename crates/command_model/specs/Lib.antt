@@ -12,6 +12,7 @@ pub mod Attention
 pub mod Capacity
 pub mod Codes
 pub mod Comparing
+pub mod Defects
 pub mod Effects
 pub mod Facts
 pub mod Formatting

@@ -1,4 +1,4 @@
--- The parameter list of MODE SELECT, SPC-4 §6.9, §7.5.5. Nothing can be changed, so a list is taken where all that it
+-- The parameter list of MODE SELECT, SPC-4 §6.11, §7.5.5. Nothing can be changed, so a list is taken where all that it
 -- sets is as it is.
 use Rattle.std.specs.Prelude.{ℕ, zero, suc, ◌+◌, ◌%◌, ◌==◌, Bool, true, false, not, ◌&&◌, ◌||◌, nat_le, nat_lt, List, [], length, take, drop, slice_index, slice_range, Option, Some, None, Ok, Err, if◌then◌else◌, is_none}
 use Rattle.std.specs.List.{list_any}
@@ -33,7 +33,7 @@ begins_with_page format bytes =
 abbrev pub is_page : ℕ → Bool
 is_page code = list_any (λ page. page.0 == code) (pages_of Fixed All)
 
--- what stands behind the first page of some bytes: a page that ends before its page length says is cut, SPC-4 §6.9
+-- what stands behind the first page of some bytes: a page that ends before its page length says is cut, SPC-4 §6.11
 abbrev pub behind_page : SenseFormat → List ℕ → Answer
 behind_page format bytes =
     if nat_lt (length bytes) 2 then Err parameter_list_length_error
@@ -77,7 +77,7 @@ descriptor_of long bytes =
     else (if long then (if bytes == 16 then Some Long else None) else (if bytes == 8 then Some Short else None))
 
 -- whether the block length is 512, and what is reserved before it is 0. The number of blocks is ignored, since a
--- capacity isn't changed by MODE SELECT, SBC-3 §6.4.2
+-- capacity isn't changed by MODE SELECT, SBC-3 §6.5.2
 abbrev pub has_block_length : ModeDescriptor → List ℕ → Bool
 has_block_length Absent bytes = true
 has_block_length Short bytes = from_be_bytes w32 (slice_range bytes 4 8) == 512

@@ -1,4 +1,4 @@
--- The mode parameters of a unit, SPC-4 §7.5 and SBC-3 §6.4. None can be changed or saved.
+-- The mode parameters of a unit, SPC-4 §7.5 and SBC-3 §6.5. None can be changed or saved.
 use Rattle.std.specs.Prelude.{ℕ, ◌+◌, Bool, true, false, List, [], ◌∷◌, ◌++◌, length, min, replicate, take, Ok, Err, if◌then◌else◌}
 use Rattle.std.specs.List.{flat_map}
 use Rattle.std.specs.Int.{w16, w32, w64, to_be_bytes}
@@ -17,11 +17,11 @@ use Rattle.cdb.specs.declared.wide_commands.ModeValues.TheVariants.{Changeable, 
 use Rattle.command_model.specs.Data.{Answer}
 
 -- a page: its code, and the bytes that follow its page length
--- Read-Write Error Recovery, SBC-3 §6.4: nothing is recovered
+-- Read-Write Error Recovery, SBC-3 §6.5: nothing is recovered
 abbrev pub error_recovery : ℕ × List ℕ
 error_recovery = (0x01, replicate 10 0x00)
 
--- Caching, SBC-3 §6.4: WCE and RCD are 0; a block is kept when its WRITE ends
+-- Caching, SBC-3 §6.5: WCE and RCD are 0; a block is kept when its WRITE ends
 abbrev pub caching : ℕ × List ℕ
 caching = (0x08, replicate 18 0x00)
 
@@ -54,7 +54,7 @@ page_bytes is_mask page =
 unfoldable pub page_list : SenseFormat → Bool → ModePages → List ℕ
 page_list format is_mask pages = flat_map (page_bytes is_mask) (pages_of format pages)
 
--- what the field PC asks for, SPC-4 §6.11: a mask; what was saved
+-- what the field PC asks for, SPC-4 §6.13: a mask; what was saved
 abbrev pub is_mask : ModeValues → Bool
 is_mask Changeable = true
 is_mask _ = false
@@ -63,7 +63,7 @@ abbrev pub is_saved : ModeValues → Bool
 is_saved Saved = true
 is_saved _ = false
 
--- the block descriptor, SBC-3 §6.4.2: the number of blocks and the block length; ffffffffh where the number doesn't fit
+-- the block descriptor, SBC-3 §6.5.2: the number of blocks and the block length; ffffffffh where the number doesn't fit
 unfoldable pub block_descriptor : ModeDescriptor → ℕ → List ℕ
 block_descriptor Absent blocks = []
 block_descriptor Short blocks = to_be_bytes w32 (min blocks 0xffff_ffff) ++ to_be_bytes w32 512
@@ -79,7 +79,7 @@ abbrev pub long_lba : ModeDescriptor → ℕ
 long_lba Long = 0x01
 long_lba _ = 0x00
 
--- the device-specific parameter of a block device, SBC-3 §6.4.1: WP 0; DPOFUA, since DPO and FUA change nothing
+-- the device-specific parameter of a block device, SBC-3 §6.5.1: WP 0; DPOFUA, since DPO and FUA change nothing
 abbrev pub device_specific : ℕ
 device_specific = 0x10
 
@@ -100,7 +100,7 @@ mode_data format request blocks =
     ++ block_descriptor request.descriptor blocks
     ++ page_list format (is_mask request.values) request.pages
 
--- MODE SENSE, SPC-4 §6.11
+-- MODE SENSE, SPC-4 §6.13
 abbrev pub mode_answer : SenseFormat → ModeRequest → ℕ → Answer
 mode_answer format request blocks =
     if is_saved request.values then Err saving_parameters_not_supported

@@ -1,6 +1,6 @@
 -- What a command is answered, by what the unit is told of itself, the data from the driver and the
 -- blocks before.
-use Rattle.std.specs.Prelude.{ℕ, ◌==◌, ◌||◌, nat_lt, List, [], length, take, Option, Some, None, Ok, Err, if◌then◌else◌, unwrap_or}
+use Rattle.std.specs.Prelude.{ℕ, ◌==◌, ◌||◌, nat_lt, List, length, take, Option, Some, None, Ok, Err, if◌then◌else◌, unwrap_or}
 use Rattle.sense.specs.declared.Sense.{Sense}
 use Rattle.sense.specs.declared.SenseFormat.{SenseFormat}
 use Rattle.sense.specs.Conditions.{no_sense, parameter_list_length_error, invalid_opcode, lba_out_of_range, invalid_field_in_cdb, invalid_field_in_parameter_list}

@@ -5,12 +5,13 @@ use Rattle.std.specs.Int.{w32, w64, to_be_bytes}
 use Rattle.sense.specs.Conditions.{lba_out_of_range}
 use Rattle.sense.specs.declared.SenseFormat.{SenseFormat}
 use Rattle.cdb.specs.declared.wide_commands.WideCommand.{WideCommand}
-use Rattle.cdb.specs.declared.wide_commands.WideCommand.TheVariants.{ModeSense, ModeSelect, ReportTaskManagement, ReportOperationCodes, GetLbaStatus, Verify, WriteZeros, OrWrite, FormatUnit}
+use Rattle.cdb.specs.declared.wide_commands.WideCommand.TheVariants.{ModeSense, ModeSelect, ReportTaskManagement, ReportOperationCodes, GetLbaStatus, Verify, WriteZeros, OrWrite, FormatUnit, ReadDefectData}
 use Rattle.block_store.specs.Blocks.{Blocks, run}
 use Rattle.command_model.specs.Data.{Answer, done}
 use Rattle.command_model.specs.Capacity.{is_in_range, within}
 use Rattle.command_model.specs.Comparing.{to_verify, first_unequal, compared}
 use Rattle.command_model.specs.Codes.{codes_answer}
+use Rattle.command_model.specs.Defects.{defect_data}
 use Rattle.command_model.specs.Formatting.{format_answer}
 use Rattle.command_model.specs.Modes.{mode_answer}
 use Rattle.command_model.specs.ModeLists.{select_answer}
@@ -36,7 +37,8 @@ wide_answer format capacity (ReportTaskManagement extended allocation) bytes blo
     Ok (take allocation (task_management_data extended))
 wide_answer format capacity (GetLbaStatus allocation lba) bytes blocks =
     if nat_lt lba capacity then Ok (take allocation (lba_status capacity lba)) else Err lba_out_of_range
-wide_answer format capacity (ReportOperationCodes asked allocation) bytes blocks = codes_answer asked allocation
+wide_answer format capacity (ReportOperationCodes asked timeouts allocation) bytes blocks =
+    codes_answer asked timeouts allocation
 -- SBC-3 §5.29
 wide_answer format capacity (Verify sent count lba) bytes blocks =
     within capacity lba count (compared (first_unequal (run (to_verify sent bytes) 0 count) (run blocks lba count)))
@@ -46,6 +48,8 @@ wide_answer format capacity (WriteZeros count lba) bytes blocks = within capacit
 wide_answer format capacity (OrWrite count lba) bytes blocks = within capacity lba count done
 -- SBC-3 §5.3
 wide_answer format capacity (FormatUnit list) bytes blocks = format_answer list bytes
+-- SBC-3 §5.17, §5.18
+wide_answer format capacity (ReadDefectData request) bytes blocks = Ok (take request.allocation (defect_data request))
 
 -- whether it may be refused memory
 abbrev pub wide_wants : ℕ → WideCommand → Bool
@@ -53,9 +57,10 @@ wide_wants capacity (ModeSense request) = true
 wide_wants capacity (ModeSelect form list_length) = false
 wide_wants capacity (ReportTaskManagement extended allocation) = nat_lt 0 allocation
 wide_wants capacity (GetLbaStatus allocation lba) = nat_lt 0 allocation
-wide_wants capacity (ReportOperationCodes asked allocation) = nat_lt 0 allocation
+wide_wants capacity (ReportOperationCodes asked timeouts allocation) = nat_lt 0 allocation
 wide_wants capacity (Verify sent count lba) = nat_lt 0 count && is_in_range capacity lba count
 wide_wants capacity (WriteZeros count lba) = false
 wide_wants capacity (OrWrite count lba) = is_in_range capacity lba count
 -- a disk whose pages come and go can't do it at once
 wide_wants capacity (FormatUnit list) = true
+wide_wants capacity (ReadDefectData request) = nat_lt 0 request.allocation

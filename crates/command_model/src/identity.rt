@@ -26,7 +26,7 @@ pub struct Identity {
     pub naa: Option<[u8; 8]>,
     /// A physical block has 2 to this power logical blocks, 0 to 15 (SBC-3 §5.16.2).
     pub physical_exponent: u8,
-    /// The MEDIUM ROTATION RATE: 0 isn't told, 1 doesn't rotate, else revolutions a minute, 0401h to FFFEh (SBC-3 §6.6.3).
+    /// The MEDIUM ROTATION RATE: 0 isn't told, 1 doesn't rotate, else revolutions a minute, 0401h to FFFEh (SBC-3 §6.6.2).
     pub rotation_rate: u16,
     /// The format of the sense data that it sends beside a status: D_SENSE (SPC-4 §7.5.8).
     pub sense_format: SenseFormat,

@@ -1,8 +1,0 @@
-use Rattle.block_commands.proofs.Deciding.{plain_decide, action_decide}
-use Rattle.block_commands.proofs.laws.usage_maps_decide.Goals as goal
-
-pub returns-clause-plain : goal.returns-clause-plain
-returns-clause-plain c = plain_decide
-
-pub returns-clause-actions : goal.returns-clause-actions
-returns-clause-actions c = action_decide
