@@ -107,7 +107,7 @@ enum served backend_begin(struct backend *backend, char *why, size_t room) {
   backend->phase = IDLE;
   backend->steps = 0;
   backend->kicked = UINT32_MAX;
-  backend->seen = backend->asked = 0;
+  backend->awake = backend->seen = backend->asked = 0;
   if (make(backend, why, room)) {
     backend_map(backend);
     backend_log(backend, backend->logs);
@@ -293,15 +293,19 @@ enum served backend_serve(struct backend *backend, uint32_t queues, uint32_t *ow
     // One of those that had nothing left may have something again.
     if (backend->kicked) backend->quiet = 0;
     backend->seen |= backend->kicked;
+    backend->awake |= backend->kicked;
     backend->kicked = 0;
     backend->took = false;
   }
-  enum served served = backend->keeps ? wait_round(backend, queues, owed) : serve_at_once(backend, queues, owed);
+  uint32_t awake = queues & backend->awake;
+  enum served served = backend->keeps ? wait_round(backend, awake, owed) : serve_at_once(backend, awake, owed);
   if (served != SERVED) return served;
   note_faults(backend);
   bool polls = backend->polls || (backend->spins && backend->took);
-  bool again = !backend->left && (polls ? hush(backend, queues) : ask(backend, queues));
-  return again || backend->left || backend->kicked & queues ? MORE : SERVED;
+  bool again = !backend->left && (polls ? hush(backend, awake) : ask(backend, awake));
+  if (again || backend->left) return MORE;
+  backend->awake &= ~awake;
+  return backend->kicked & queues ? MORE : SERVED;
 }
 
 bool backend_is_busy(const struct backend *backend) { return backend->device.live && backend->phase != IDLE; }

@@ -58,6 +58,7 @@ struct backend {
   bool left;    // something was left of the queues
   enum phase phase;
   uint32_t kicked;   // queues whose driver notified, and that weren't looked at since
+  uint32_t awake;    // queues that are looked at, from when they were kicked until nothing is left of them and their driver notifies
   uint32_t seen;     // those that were, and whose driver wasn't asked to do so again
   uint32_t asked;    // those that were asked behind the last call
   uint32_t unasked;  // those that whoever served them last may have left without asking for a notification

@@ -441,6 +441,7 @@ static RARE bool stop(struct session *session) {
 
 // Finds the queues that are served, and those of them that have no kick.
 static void find_served(struct session *session) {
+  uint32_t before = session->served;
   session->is_old = false;
   session->served = session->kickless = 0;
   for (unsigned q = 0; q < session->backend.count; q++) {
@@ -450,6 +451,8 @@ static void find_served(struct session *session) {
     session->served |= UINT32_C(1) << q;
     if (queue->kick < 0) session->kickless |= UINT32_C(1) << q;
   }
+  // A driver may have notified of one that wasn't served then.
+  session->backend.kicked |= session->served & ~before;
 }
 
 // Learns for how long rings are to be looked at, as QEMU's IOThreads do, from how long nothing was found there. Twice as long the
