@@ -1,8 +1,9 @@
 -- Answers within a range of blocks.
 use Rattle.std.proofs.Common.{◌≡◌, ℕ, zero, suc, ◌+◌, ◌*◌, ◌<◌, ◌≤◌, true, false, Bool, List, ◌++◌, length, if◌then◌else◌, refl, ap, ◌∙◌, arith, Option, None, Some, Ok, Err, inl, inr, unwrap_or}
-use Rattle.std.specs.Prelude.{◌==◌, take}
+use Rattle.std.specs.Prelude.{◌==◌, nat_lt, take}
+use Rattle.std.proofs.lemmas.Bool.{ltb-true}
 use Rattle.std.specs.List.{prefix_len, range_with_len}
-use Rattle.std.proofs.lemmas.Bool.Decides.{leb_tells, ltb_tells}
+use Rattle.std.proofs.lemmas.Bool.Decides.{leb_tells}
 use Rattle.sense.specs.declared.Sense.{Sense}
 use Rattle.sense.specs.declared.SenseFormat.{SenseFormat}
 use Rattle.cdb.specs.declared.commands.Command.{Command}
@@ -65,10 +66,13 @@ wide_answer-agree format capacity (Verify sent count lba) bytes p q agree =
     within-same capacity lba count _ _
     (λ below. ap (λ l. compared (first_unequal (run (to_verify sent bytes) 0 count) l)) (run-agree p q lba count capacity below agree))
 wide_answer-agree format capacity (GetLbaStatus allocation lba) bytes p q agree =
-    elim (ltb_tells lba capacity) [
-      | inl inside ↦ rw inside.0 (ap (λ l. Ok (take allocation l)) (status-agree capacity lba p q inside.1 agree))
-      | inr outside ↦ rw outside.0 refl
-    ]
+    told (nat_lt lba capacity) refl
+  where
+    told : (inside : Bool) → nat_lt lba capacity ≡ inside →
+        (if inside then Ok (take allocation (lba_status capacity lba p)) else Err lba_out_of_range)
+        ≡ (if inside then Ok (take allocation (lba_status capacity lba q)) else Err lba_out_of_range)
+    told true is = ap (λ l. Ok (take allocation l)) (status-agree capacity lba p q (ltb-true lba capacity is) agree)
+    told false is = refl
 wide_answer-agree format capacity _ bytes p q agree = refl
 
 pub answer_of-agree : (facts : Facts) (command : Command) (bytes : List ℕ) (p q : Blocks) → ((b : ℕ) → b < facts.capacity → p b ≡ q b) →

@@ -1,11 +1,10 @@
 -- Blocks of zeros, and how many blocks are alike.
-use Rattle.std.proofs.Common.{◌≡◌, ℕ, zero, suc, ◌+◌, ◌<◌, ◌≤◌, true, false, Bool, List, [], ◌∷◌, length, get_or, replicate, refl, sym, ap, ◌∙◌, arith, eqb}
+use Rattle.std.proofs.Common.{◌≡◌, ℕ, zero, suc, ◌+◌, ◌<◌, ◌≤◌, true, false, Bool, List, [], ◌∷◌, length, replicate, refl, ap, ◌∙◌, arith, eqb}
 use Rattle.std.specs.Prelude.{not, ◌==◌, ◌&&◌, ◌≢◌, if◌then◌else◌}
-use Rattle.std.specs.List.{list_all, prefix_len, range_with_len}
+use Rattle.std.specs.List.{range_with_len}
 use Rattle.std.specs.Bool.{beq}
 use Rattle.std.specs.Str.{bytes_eq}
 use Rattle.std.proofs.lemmas.Slice.Eq.{bytes_eq-Decides}
-use Rattle.std.proofs.lemmas.Bool.{eq-eqb}
 use Rattle.std.proofs.lemmas.Bool.Decides.{nat_tests}
 use Rattle.std.proofs.lemmas.List.Sums.{prefix_len_is}
 use Rattle.std.proofs.lemmas.List.FromFn.{length-range_with_len, get_or-range_with_len}
@@ -79,5 +78,5 @@ alike_is blocks lba count n le before at =
     prefix_len_is (is_alike blocks lba) (range_with_len lba count) n 0 (omega (arith, size))
     (λ j less. rw (get_or-range_with_len lba count j 0 (omega (arith, le, less))) (before j less))
     (λ less.
-        let inside : n < count = omega (arith, size, less) in
-        rw (get_or-range_with_len lba count n 0 inside) (at inside))
+    let inside : n < count = omega (arith, size, less) in
+    rw (get_or-range_with_len lba count n 0 inside) (at inside))

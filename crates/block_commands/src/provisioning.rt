@@ -50,7 +50,13 @@ pub(crate) fn block_status<S: Store>(
     }
     let mut held = Vec::with_capacity(alloc, BLOCK_BYTES)?;
     let zero = is_zero_at(store, lba, &mut held);
-    let count = count_alike(store, lba, looked_at(store.capacity(), lba), zero, &mut held);
+    let count = count_alike(
+        store,
+        lba,
+        looked_at(store.capacity(), lba),
+        zero,
+        &mut held,
+    );
     Ok(cut(alloc, &status_data(lba, count, status_of(zero)), allocation)?)
 }
 

@@ -65,7 +65,9 @@ pub(crate) fn wide<S: Store>(
             extended,
             allocation,
         } => Ok(task_management(alloc, extended, allocation)?),
-        WideCommand::GetLbaStatus { allocation, lba } => block_status(alloc, store, lba, allocation),
+        WideCommand::GetLbaStatus { allocation, lba } => block_status(
+            alloc, store, lba, allocation,
+        ),
         WideCommand::ReportOperationCodes {
             asked,
             timeouts,

@@ -1,7 +1,6 @@
-use Rattle.std.proofs.Common.{◌≡◌, ℕ, ◌+◌, ◌<◌, ◌≤◌, ◌≢◌, refl, sym, ap, ◌∙◌, arith, false}
-use Rattle.std.proofs.lemmas.Bool.Decides.{nat_tests}
-use Rattle.command_model.specs.Provisioning.{alike, is_zero}
-use Rattle.block_commands.proofs.Zeros.{is_alike, differ, is_alike-other, alike_is}
+use Rattle.std.proofs.Common.{◌≡◌, ◌+◌, ◌≢◌, sym, ◌∙◌, arith}
+use Rattle.command_model.specs.Provisioning.{is_zero}
+use Rattle.block_commands.proofs.Zeros.{differ, is_alike-other, alike_is}
 use Rattle.block_commands.proofs.provisioning.count_alike.Goals as goal
 
 pub returns-then-is_zero_at-zero : goal.returns-then-is_zero_at-zero
