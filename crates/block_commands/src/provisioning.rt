@@ -26,7 +26,7 @@ const DEALLOCATED: u8 = 0x01;
 const MAPPED: u8 = 0x00;
 
 /// A block of zeros.
-const ZEROS: [u8; BLOCK_BYTES] = [0; BLOCK_BYTES];
+static ZEROS: [u8; BLOCK_BYTES] = [0; BLOCK_BYTES];
 
 /// Returns the provisioning status of the block at the address, and for how many blocks it is the same, cut to the allocation
 /// length. Has memory for one block.
@@ -36,7 +36,8 @@ pub(crate) fn block_status<S: Store>(
     lba: u64,
     allocation: u32,
 ) -> Result<Vec<u8>, Failure>
-    requires held { (b : ℕ) → IsTrue (is_inside (S.size store.now) lba (looked_at (S.size store.now) lba) b) → IsTrue (S.is_held store.now b) }
+    requires held { (b : ℕ) → IsTrue (is_inside (S.size store.now) lba (looked_at (S.size store.now) lba) b)
+        → IsTrue (S.is_held store.now b) }
     ensures answer { Gives (λ bytes. bytes.items) (if nat_lt lba (S.size store.now)
         then Ok (take allocation (lba_status (S.size store.now) lba (S.block_at store.now))) else Err lba_out_of_range) result }
     ensures want { Wants (nat_lt 0 allocation && nat_lt lba (S.size store.now)) result }
@@ -67,8 +68,8 @@ pub(crate) fn looked_at(capacity: u64, lba: u64) -> u32
     capacity.saturating_sub(lba).min(MOST_BLOCKS) as u32
 }
 
-/// Counts the blocks from `lba` on, of so many, that are zeros like the first or that aren't, as it isn't. `zero` says if
-/// the first is. The list has room for a block, whatever stands there.
+/// Counts the blocks from `lba` on, `count` at most, up to one that differs from the first: in being zeros, or in not being
+/// zeros. `zero` is true if the first is. The list has room for a block, whatever stands there.
 fn count_alike<S: Store>(store: &S, lba: u64, count: u32, zero: bool, held: &mut Vec<u8>) -> u32
     requires some { 0 < count }
     requires fits { lba + count < 2 ^ 64 }
