@@ -35,6 +35,9 @@ FORMAT_UNIT, DEFECTS_10, DEFECTS_12 = 0x04, 0x37, 0xb7
 DEFECTS = (DEFECTS_10, DEFECTS_12)
 WIDE = (*OR_WRITE, FORMAT_UNIT, *DEFECTS)
 
+# The service actions of opcode 9e, of which the narrow profile has the first.
+READ_CAPACITY, LBA_STATUS = 0x10, 0x12
+
 # Where the control byte stands, by an opcode's group; its bit 2 is NACA (SAM-5 §5.2).
 CONTROL, NACA = {0: 5, 1: 9, 2: 9, 4: 15, 5: 11}, 4
 
@@ -87,7 +90,7 @@ def is_bad(cdb, is_wide=False):
     if code == REPORT_LUNS:
         return cdb[2] > 2
     if code == CAPACITY_16:
-        return cdb[1] & 0x1f != 0x10
+        return cdb[1] & 0x1f not in ((READ_CAPACITY, LBA_STATUS) if is_wide else (READ_CAPACITY,))
     if code in (REQUEST_SENSE, UNMAP):
         return bool(cdb[1] & 1)
     if code == FORMAT_UNIT:
@@ -338,6 +341,8 @@ class Disk:
             return "", (len(luns).to_bytes(4, "big") + bytes(4) + luns)[:number(cdb[6:10])], 0
         if code == CAPACITY_10:
             return "", min(self.capacity - 1, 2**32 - 1).to_bytes(4, "big") + BLOCK.to_bytes(4, "big"), 0
+        if cdb[1] & 0x1f == LBA_STATUS:
+            return self.block_status(number(cdb[2:10]), number(cdb[10:14]))
         whole = (self.capacity - 1).to_bytes(8, "big") + BLOCK.to_bytes(4, "big") + bytes((0, 0, 0xc0)) + bytes(17)
         return "", whole[:number(cdb[10:14])], 0
 
@@ -368,6 +373,16 @@ class Disk:
             return f"{MISCOMPARE}@{unequal}", b"", 0
         self.write(lba, out[half:2 * half])
         return "", b"", 2 * half
+
+    def block_status(self, lba, allocation):
+        """GET LBA STATUS: blocks of zeros are deallocated, others mapped (SBC-3 §5.4)."""
+        if lba >= self.capacity:
+            return OUT_OF_RANGE, b"", 0
+        places = range(lba, min(lba + MOST, self.capacity))
+        first = self.blocks.get(lba, ZEROS) == ZEROS
+        count = next((place - lba for place in places if (self.blocks.get(place, ZEROS) == ZEROS) != first), len(places))
+        data = b"\0\0\0\x14" + bytes(4) + lba.to_bytes(8, "big") + count.to_bytes(4, "big") + bytes((first, 0, 0, 0))
+        return "", data[:allocation], 0
 
     def format(self, header):
         """FORMAT UNIT: of the parameter list FOV and IMMED alone are taken (SBC-3 §5.3.2)."""

@@ -10,7 +10,7 @@ from functools import lru_cache
 from itertools import islice
 
 from disk_model import (
-    BAD_FIELD, BUS_RESET, CAPACITY_16, INQUIRY, INQUIRY_DATA, NEXUS_LOSS, POWER_ON, REQUEST_SENSE, Disk, NotModelled, Request, Wrong, busy,
+    BAD_FIELD, BUS_RESET, INQUIRY, INQUIRY_DATA, NEXUS_LOSS, POWER_ON, REQUEST_SENSE, Disk, NotModelled, Request, Wrong, busy,
     fixed, is_bad, is_known, need, number, runs, shown,
 )
 
@@ -100,7 +100,7 @@ def wide_units(script):
 
 def is_modelled(cdb):
     """Returns true if the model has a command of the wide profile."""
-    return is_known(cdb, True) and cdb[0] != INQUIRY and not (cdb[0] == CAPACITY_16 and cdb[1] & 0x1f == 0x12)
+    return is_known(cdb, True) and cdb[0] != INQUIRY
 
 
 def last_lines(printed):

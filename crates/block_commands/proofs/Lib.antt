@@ -6,3 +6,4 @@ pub mod Passing
 pub mod Ranges
 pub mod Unmapping
 pub mod Usages
+pub mod Zeros

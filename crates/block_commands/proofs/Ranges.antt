@@ -1,12 +1,15 @@
 -- Answers within a range of blocks.
 use Rattle.std.proofs.Common.{◌≡◌, ℕ, zero, suc, ◌+◌, ◌*◌, ◌<◌, ◌≤◌, true, false, Bool, List, ◌++◌, length, if◌then◌else◌, refl, ap, ◌∙◌, arith, Option, None, Some, Ok, Err, inl, inr, unwrap_or}
+use Rattle.std.specs.Prelude.{◌==◌, nat_lt, take}
+use Rattle.std.proofs.lemmas.Bool.{ltb-true}
+use Rattle.std.specs.List.{prefix_len, range_with_len}
 use Rattle.std.proofs.lemmas.Bool.Decides.{leb_tells}
 use Rattle.sense.specs.declared.Sense.{Sense}
 use Rattle.sense.specs.declared.SenseFormat.{SenseFormat}
 use Rattle.cdb.specs.declared.commands.Command.{Command}
 use Rattle.cdb.specs.declared.commands.Command.TheVariants.{Read, Write, CompareAndWrite, Wide}
 use Rattle.cdb.specs.declared.wide_commands.WideCommand.{WideCommand}
-use Rattle.cdb.specs.declared.wide_commands.WideCommand.TheVariants.{Verify}
+use Rattle.cdb.specs.declared.wide_commands.WideCommand.TheVariants.{GetLbaStatus, Verify}
 use Rattle.command_model.specs.Wide.{wide_answer}
 use Rattle.block_store.specs.Blocks.{Blocks, run, overwritten, block_count, is_within}
 use Rattle.command_model.specs.Data.{Answer}
@@ -16,6 +19,7 @@ use Rattle.command_model.specs.Capacity.{within}
 use Rattle.command_model.specs.Comparing.{to_compare, to_verify, first_unequal, compared}
 use Rattle.command_model.specs.Effects.{block_after, where_covered}
 use Rattle.command_model.specs.Facts.{Facts}
+use Rattle.command_model.specs.Provisioning.{alike, looked_at, lba_status, provisioning}
 use Rattle.command_model.specs.Replies.{answer_of, format_told, reported}
 use Rattle.sense.specs.Conditions.{lba_out_of_range}
 
@@ -35,11 +39,40 @@ within-same blocks lba count a b same =
       | inr outside ↦ rw outside.0 refl
     ]
 
+-- numbers below a limit pass tests alike that agree there
+prefix_len-agree : (p q : ℕ → Bool) (a n limit : ℕ) → a + n ≤ limit → ((b : ℕ) → b < limit → p b ≡ q b) →
+    prefix_len p (range_with_len a n) ≡ prefix_len q (range_with_len a n)
+prefix_len-agree p q a zero limit below agree = refl
+prefix_len-agree p q a (suc n) limit below agree =
+    let here : p a ≡ q a = agree a (omega arith) in
+    let later : prefix_len p (range_with_len (a + 1) n) ≡ prefix_len q (range_with_len (a + 1) n) =
+    prefix_len-agree p q (a + 1) n limit (omega arith) agree in
+    rw (here, later) refl
+
+-- blocks that agree below the capacity have the same status, and as many alike
+status-agree : (capacity lba : ℕ) (p q : Blocks) → lba < capacity → ((b : ℕ) → b < capacity → p b ≡ q b) →
+    lba_status capacity lba p ≡ lba_status capacity lba q
+status-agree capacity lba p q below agree =
+    let same : p lba ≡ q lba = agree lba below in
+    let count : alike p lba (looked_at capacity lba) ≡ alike q lba (looked_at capacity lba) =
+    prefix_len-agree (λ b. provisioning (p b) == provisioning (p lba)) (λ b. provisioning (q b) == provisioning (q lba))
+    lba (looked_at capacity lba) capacity (omega arith)
+    (λ b less. rw (same, agree b less) refl) in
+    rw (count, same) refl
+
 wide_answer-agree : (format : SenseFormat) (capacity : ℕ) (command : WideCommand) (bytes : List ℕ) (p q : Blocks) → ((b : ℕ) → b < capacity → p b ≡ q b) →
     wide_answer format capacity command bytes p ≡ wide_answer format capacity command bytes q
 wide_answer-agree format capacity (Verify sent count lba) bytes p q agree =
     within-same capacity lba count _ _
     (λ below. ap (λ l. compared (first_unequal (run (to_verify sent bytes) 0 count) l)) (run-agree p q lba count capacity below agree))
+wide_answer-agree format capacity (GetLbaStatus allocation lba) bytes p q agree =
+    told (nat_lt lba capacity) refl
+  where
+    told : (inside : Bool) → nat_lt lba capacity ≡ inside →
+        (if inside then Ok (take allocation (lba_status capacity lba p)) else Err lba_out_of_range)
+        ≡ (if inside then Ok (take allocation (lba_status capacity lba q)) else Err lba_out_of_range)
+    told true is = ap (λ l. Ok (take allocation l)) (status-agree capacity lba p q (ltb-true lba capacity is) agree)
+    told false is = refl
 wide_answer-agree format capacity _ bytes p q agree = refl
 
 pub answer_of-agree : (facts : Facts) (command : Command) (bytes : List ℕ) (p q : Blocks) → ((b : ℕ) → b < facts.capacity → p b ≡ q b) →

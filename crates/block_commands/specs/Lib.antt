@@ -12,6 +12,7 @@ pub use Rattle.command_model.specs.Effects
 pub use Rattle.command_model.specs.Facts
 pub use Rattle.command_model.specs.Inquiry
 pub use Rattle.command_model.specs.Luns
+pub use Rattle.command_model.specs.Provisioning
 pub use Rattle.command_model.specs.Replies
 pub use Rattle.command_model.specs.UnmapList
 pub mod Needs

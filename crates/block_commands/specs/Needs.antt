@@ -3,11 +3,13 @@ use Rattle.std.specs.Prelude.{ℕ, Bool, true, false}
 use Rattle.cdb.specs.declared.commands.Command.{Command}
 use Rattle.cdb.specs.declared.commands.Command.TheVariants.{Read, Write, WriteSame, Unmap, CompareAndWrite, Wide}
 use Rattle.cdb.specs.declared.wide_commands.WideCommand.{WideCommand}
-use Rattle.cdb.specs.declared.wide_commands.WideCommand.TheVariants.{Verify, WriteZeros, OrWrite}
+use Rattle.cdb.specs.declared.wide_commands.WideCommand.TheVariants.{GetLbaStatus, Verify, WriteZeros, OrWrite}
 use Rattle.command_model.specs.Capacity.{is_in_range}
+use Rattle.command_model.specs.Provisioning.{looked_at}
 
 -- whether a command of the wide profile alone needs blocks of a unit of so many
 abbrev pub needs_wide : ℕ → WideCommand → Bool
+needs_wide blocks (GetLbaStatus allocation lba) = is_in_range blocks lba (looked_at blocks lba)
 needs_wide blocks (Verify sent count lba) = is_in_range blocks lba count
 needs_wide blocks (WriteZeros count lba) = is_in_range blocks lba count
 needs_wide blocks (OrWrite count lba) = is_in_range blocks lba count

@@ -15,6 +15,7 @@ use crate::attention::met_attention;
 use crate::capacity::is_in_range;
 use crate::extents::{UNMAP_HEADER_BYTES, extent_at, taken_descriptors};
 use crate::facts::UnitFacts;
+use crate::provisioning::looked_at;
 use crate::unmap::{are_in_range, is_too_much};
 use block_store::{Readiness, Store};
 use cdb::{Command, WideCommand, need};
@@ -150,6 +151,10 @@ fn to_run_wide<S: Store>(store: &mut S, command: &WideCommand) -> Readiness
     ensures keeps_room { (b : ℕ) → IsTrue (S.has_room store.old b) → IsTrue (S.has_room store.new b) }
 {
     match *command {
+        WideCommand::GetLbaStatus { lba, .. } => {
+            let blocks = looked_at(store.capacity(), lba);
+            to_read(store, lba, blocks)
+        }
         WideCommand::Verify { blocks, lba, .. } => to_read(store, lba, u32::from(blocks)),
         WideCommand::WriteZeros { blocks, lba } => to_write(store, lba, blocks),
         WideCommand::OrWrite { blocks, lba } => to_read_and_write(store, lba, u32::from(blocks)),

@@ -1,10 +1,10 @@
 //! The commands of the wide profile alone.
 
-ghost use Rattle.std.specs.Prelude.{◌≡◌, ◌≤◌, ◌<◌, ℕ, length, nat_lt, vec_len, take, IfOk, OnOk, OnErr, IsTrue, unwrap_or};
+ghost use Rattle.std.specs.Prelude.{◌≡◌, ◌≤◌, ℕ, length, nat_lt, vec_len, take, IfOk, OnOk, OnErr, IsTrue, unwrap_or};
 ghost use Rattle.cdb.specs.Need.{wide_need};
 ghost use Rattle.command_model.specs.Effects.{wide_given};
 ghost use Rattle.command_model.specs.Modes.{mode_answer};
-ghost use Rattle.command_model.specs.Wide.{lba_status, task_management_data, wide_answer, wide_wants};
+ghost use Rattle.command_model.specs.Wide.{task_management_data, wide_answer, wide_wants};
 ghost use Rattle.block_commands.specs.Inner.Steps.{Gives, Wants};
 ghost use Rattle.block_commands.specs.Inner.Ready.{is_changed_wide, is_near_wide, is_read_wide};
 
@@ -16,6 +16,7 @@ use crate::format_unit::format_unit;
 use crate::mode_lists::mode_select;
 use crate::modes::{is_saved, mode_data};
 use crate::or_write::or_write;
+use crate::provisioning::block_status;
 use crate::transfer::write_zeros;
 use crate::verify::verify;
 use block_store::Store;
@@ -31,9 +32,6 @@ const TASK_MANAGEMENT: [u8; 4] = [0xdc, 0x03, 0x00, 0x00];
 const EXTENDED_TASK_MANAGEMENT: [u8; 16] = [
     0xdc, 0x03, 0x00, 0x0c, 0, 0, 0, 0, 0, 0, 0, 0, 0, 0, 0, 0,
 ];
-
-/// The bytes that follow byte 3 of the data of GET LBA STATUS.
-const STATUS_LENGTH: u32 = 20;
 
 /// Runs a command of the wide profile alone on the blocks of a unit, which sends sense data in this format, on exactly the
 /// data that it needs. After an error nothing is changed.
@@ -67,12 +65,9 @@ pub(crate) fn wide<S: Store>(
             extended,
             allocation,
         } => Ok(task_management(alloc, extended, allocation)?),
-        WideCommand::GetLbaStatus { allocation, lba } => {
-            if lba >= store.capacity() {
-                return Err(Failure::Refused(Sense::LBA_OUT_OF_RANGE));
-            }
-            Ok(cut(alloc, &lba_status(store.capacity(), lba), allocation)?)
-        }
+        WideCommand::GetLbaStatus { allocation, lba } => block_status(
+            alloc, store, lba, allocation,
+        ),
         WideCommand::ReportOperationCodes {
             asked,
             timeouts,
@@ -119,18 +114,4 @@ fn task_management(alloc: Global, extended: bool, allocation: u32) -> Result<Vec
     } else {
         cut(alloc, &TASK_MANAGEMENT, allocation)
     }
-}
-
-/// Makes the data of GET LBA STATUS (SBC-3 §5.4).
-#[tactic(auto, unfolding(command_model::specs::Wide::lba_status))]
-fn lba_status(capacity: u64, lba: u64) -> [u8; 24]
-    requires { lba < capacity }
-    ensures { result ≡ lba_status capacity lba }
-{
-    let blocks = (capacity - lba).min(u64::from(u32::MAX)) as u32;
-    let mut data = [0; 24];
-    data[..4].copy_from_slice(&STATUS_LENGTH.to_be_bytes());
-    data[8..16].copy_from_slice(&lba.to_be_bytes());
-    data[16..20].copy_from_slice(&blocks.to_be_bytes());
-    data
 }

@@ -21,6 +21,7 @@ pub mod Inquiry
 pub mod Luns
 pub mod ModeLists
 pub mod Modes
+pub mod Provisioning
 pub mod Replies
 pub mod UnmapList
 pub mod Wide

@@ -1,7 +1,6 @@
 -- What a command of the wide profile alone is answered in a unit of so many blocks that sends sense data in a format, by the
 -- data from the driver and the blocks.
-use Rattle.std.specs.Prelude.{ℕ, ◌-◌, Bool, true, false, ◌&&◌, nat_lt, List, [], ◌∷◌, ◌++◌, min, replicate, take, Ok, Err, if◌then◌else◌}
-use Rattle.std.specs.Int.{w32, w64, to_be_bytes}
+use Rattle.std.specs.Prelude.{ℕ, Bool, true, false, ◌&&◌, nat_lt, List, [], ◌∷◌, ◌++◌, replicate, take, Ok, Err, if◌then◌else◌}
 use Rattle.sense.specs.Conditions.{lba_out_of_range}
 use Rattle.sense.specs.declared.SenseFormat.{SenseFormat}
 use Rattle.cdb.specs.declared.wide_commands.WideCommand.{WideCommand}
@@ -15,13 +14,7 @@ use Rattle.command_model.specs.Defects.{defect_data}
 use Rattle.command_model.specs.Formatting.{format_answer}
 use Rattle.command_model.specs.Modes.{mode_answer}
 use Rattle.command_model.specs.ModeLists.{select_answer}
-
--- the data of GET LBA STATUS, SBC-3 §5.4: 20 bytes follow byte 3; one descriptor, of all blocks from the address on, as
--- far as their number fits; provisioning status 0h, mapped or unknown
-unfoldable pub lba_status : ℕ → ℕ → List ℕ
-lba_status blocks lba =
-    to_be_bytes w32 20 ++ replicate 4 0x00
-    ++ to_be_bytes w64 lba ++ to_be_bytes w32 (min (blocks - lba) 0xffff_ffff) ++ replicate 4 0x00
+use Rattle.command_model.specs.Provisioning.{lba_status}
 
 -- the data of REPORT SUPPORTED TASK MANAGEMENT FUNCTIONS, SPC-4 §6.36: ATS, ATSS, CTSS, LURS, QTS; QTSS, ITNRS; with
 -- REPD 12 more bytes, which give no timeouts
@@ -36,7 +29,7 @@ wide_answer format capacity (ModeSelect form list_length) bytes blocks = select_
 wide_answer format capacity (ReportTaskManagement extended allocation) bytes blocks =
     Ok (take allocation (task_management_data extended))
 wide_answer format capacity (GetLbaStatus allocation lba) bytes blocks =
-    if nat_lt lba capacity then Ok (take allocation (lba_status capacity lba)) else Err lba_out_of_range
+    if nat_lt lba capacity then Ok (take allocation (lba_status capacity lba blocks)) else Err lba_out_of_range
 wide_answer format capacity (ReportOperationCodes asked timeouts allocation) bytes blocks =
     codes_answer asked timeouts allocation
 -- SBC-3 §5.29

@@ -4,11 +4,12 @@ use Rattle.std.specs.List.{list_any}
 use Rattle.cdb.specs.declared.commands.Command.{Command}
 use Rattle.cdb.specs.declared.commands.Command.TheVariants.{Read, Write, WriteSame, Unmap, CompareAndWrite, Wide}
 use Rattle.cdb.specs.declared.wide_commands.WideCommand.{WideCommand}
-use Rattle.cdb.specs.declared.wide_commands.WideCommand.TheVariants.{Verify, WriteZeros, OrWrite}
+use Rattle.cdb.specs.declared.wide_commands.WideCommand.TheVariants.{GetLbaStatus, Verify, WriteZeros, OrWrite}
 use Rattle.block_store.specs.Blocks.{is_within}
 use Rattle.block_store.specs.Inner.Pages.{is_beside}
 use Rattle.command_model.specs.Data.{Answer}
 use Rattle.command_model.specs.Capacity.{is_in_range}
+use Rattle.command_model.specs.Provisioning.{looked_at}
 use Rattle.command_model.specs.Replies.{unmap_answer}
 use Rattle.command_model.specs.UnmapList.{descriptors, is_named}
 
@@ -29,6 +30,7 @@ is_near_any taken b = list_any (λ d. is_beside d.0 d.1 b) taken
 
 -- whether a command of the wide profile alone reads block b of a unit of so many blocks
 abbrev pub is_read_wide : ℕ → WideCommand → ℕ → Bool
+is_read_wide blocks (GetLbaStatus allocation lba) b = is_inside blocks lba (looked_at blocks lba) b
 is_read_wide blocks (Verify sent count lba) b = is_inside blocks lba count b
 is_read_wide blocks (OrWrite count lba) b = is_inside blocks lba count b
 is_read_wide blocks _ b = false
