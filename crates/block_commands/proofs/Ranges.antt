@@ -52,6 +52,7 @@ prefix_len-agree p q a (suc n) limit below agree =
 -- blocks that agree below the capacity have the same status, and as many alike
 status-agree : (capacity lba : ℕ) (p q : Blocks) → lba < capacity → ((b : ℕ) → b < capacity → p b ≡ q b) →
     lba_status capacity lba p ≡ lba_status capacity lba q
+unfolding lba_status
 status-agree capacity lba p q below agree =
     let same : p lba ≡ q lba = agree lba below in
     let count : alike p lba (looked_at capacity lba) ≡ alike q lba (looked_at capacity lba) =

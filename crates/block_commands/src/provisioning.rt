@@ -30,6 +30,7 @@ static ZEROS: [u8; BLOCK_BYTES] = [0; BLOCK_BYTES];
 
 /// Returns the provisioning status of the block at the address, and for how many blocks it is the same, cut to the allocation
 /// length. Has memory for one block.
+#[tactic(auto, unfolding(command_model::specs::Provisioning::lba_status))]
 pub(crate) fn block_status<S: Store>(
     alloc: Global,
     store: &S,

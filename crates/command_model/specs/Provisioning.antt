@@ -28,6 +28,6 @@ status_data lba count status =
     to_be_bytes w32 20 ++ replicate 4 0x00
     ++ to_be_bytes w64 lba ++ to_be_bytes w32 count ++ (status ∷ []) ++ replicate 3 0x00
 
-abbrev pub lba_status : ℕ → ℕ → Blocks → List ℕ
+unfoldable pub lba_status : ℕ → ℕ → Blocks → List ℕ
 lba_status capacity lba blocks =
     status_data lba (alike blocks lba (looked_at capacity lba)) (provisioning (blocks lba))

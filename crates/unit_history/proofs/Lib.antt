@@ -19,3 +19,4 @@ pub mod Noting
 pub mod Opening
 pub mod Ranging
 pub mod Readied
+pub mod Running

@@ -37,6 +37,10 @@ fn is_same_wide(command: WideCommand, other: WideCommand) -> bool
             asks_same(request, another)
         }
         (WideCommand::ModeSense(_), _) | (_, WideCommand::ModeSense(_)) => false,
+        (WideCommand::ReadDefectData(request), WideCommand::ReadDefectData(another)) => {
+            request == another
+        }
+        (WideCommand::ReadDefectData(_), _) | (_, WideCommand::ReadDefectData(_)) => false,
         _ => command == other,
     }
 }
