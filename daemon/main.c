@@ -23,6 +23,12 @@
 // PATIENCE: how long a front end may take for the rest of a message, in milliseconds, and for its first one where another wants its place.
 enum { EVENT_SIGNAL = 2000, EVENT_LISTENER = 2001, EVENT_CONTROL = 2002, EVENT_CLIENT = 2003, EVENTS = 32, REFUSED = 1, WRONG_WORDS = 2, WHY = 500, PATIENCE = 5000 };
 
+#ifdef DAEMON_JEMALLOC
+// What jemalloc reads as it begins: disks in memory are to stand on huge pages. MALLOC_CONF of the environment has the last word.
+extern const char *malloc_conf;
+const char *malloc_conf = "thp:always";
+#endif
+
 struct daemon {
   struct options options;
   struct disks disks;
