@@ -112,13 +112,14 @@ pub(crate) fn commit<R: Wait, G: Gate + Drop, C: Ledger + Weighing, W: Ledger>(
         return;
     }
     prepare(rt, shared, at, post);
-    commit_on(
+    if commit_on(
         &mut shared.units(rt, &mut post.part),
         &shared.gate,
         at,
         &mut post.hand,
-    );
-    pass(&shared.gate, Point::Committed, &post.hand);
+    ) {
+        pass(&shared.gate, Point::Committed, &post.hand);
+    }
 }
 
 /// Answers the job in the hand, where one is there whose commit is over, and keeps what it leaves.
