@@ -310,11 +310,13 @@ module _ (sound : AreSound) (asked : ℕ → Bool) (w : PlainWorld) (whole : IsW
 
     module _ (s : OnlyEntersIn stored x u lent w.memory (none limit) u' q' m' seen s' out') where
       abbrev e2 : PlainWorld
-      e2 = entered_in w1 (bare Hand.Empty limit ∷ rest) i (slotted s' q1) x.unit u' 0 (bare Hand.Empty limit)
+      e2 =
+          entered_in w1 (bare Hand.Empty limit ∷ rest) i (slotted s' q1) x.unit u' 0
+          (listing (with_more s.more (none limit)) (bare Hand.Empty limit))
 
       only_next : StepsNext asked (SeenToo stored w.memory seen) w1 cursor.Start e2
       only_next =
-          let t = enter_turn u' s' (none limit) (s.enters (none limit)) in
+          let t = enter_turn u' s' (with_more s.more (none limit)) (s.enters (none limit)) in
           let q = by_quiet seen w1 (Event.Enter i) e2 tt t in
           let needs : NeedsNone (event_of q.0) = subst NeedsNone (sym q.1) tt in
           let sees : SeesBy (completion_of q.0) w.memory seen =
@@ -333,7 +335,7 @@ module _ (sound : AreSound) (asked : ℕ → Bool) (w : PlainWorld) (whole : IsW
 
       pub only_is : e2 ≡ set_all w m' i (with_slot s' q') x.unit u' (bare Hand.Empty limit ∷ rest) (seat_with Hand.Empty out')
       only_is =
-          let seats = map seat_of (bare Hand.Empty limit ∷ rest) in
+          let seats = map seat_of (seat_with Hand.Empty (with_more s.more (none limit)) ∷ rest) in
           let units = slice_set w.units x.unit u' in
           ap (λ (qs : List PlainQueue). record w { queues = qs; units = units; seats = seats })
           (set_twice w.queues i q1 (with_slot s' lent))
@@ -437,7 +439,7 @@ module _ (sound : AreSound) (asked : ℕ → Bool) (w : PlainWorld) (whole : IsW
       next5 : StepsNext asked (Follows seen) w4 cursor.Seats w5
       next5 =
           let commit = commits w4 (bare (Hand.Taken x) limit ∷ rest) 0 x.unit (Hand.Taken x) [] limit s.entered s.committed
-          (Hand.Done x s.outcome) true (sound w4 whole4.reached) refl refl refl
+          (Hand.Done x s.outcome) (sound w4 whole4.reached) refl refl refl
           (get_set w.units x.unit s.entered unit_there) s.commits in
           seat_next asked (Follows seen) w4 w5 0 cursor.Seats next4.4.0 next4.4.1 (none_below w4) (omega arith)
           (taken (Follows seen) (of_seat 0) (Event.Commit 0) w4 w5 (λ a. stages.commits_first w4 0 (Hand.Taken x) ([], refl) refl)

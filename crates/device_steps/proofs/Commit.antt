@@ -146,15 +146,14 @@ module _ (w : PlainWorld) (kept : List KeptSeat) (k : ℕ) (x : PlainJob) (jobs 
 
 -- the phase takes the event's turn
 pub commits : (w : PlainWorld) (kept : List KeptSeat) (k place : ℕ) (hand : Hand) (jobs : List PlainJob) (limit : ℕ)
-    (u v : PlainUnit) (h : Hand) (b : Bool) → IsSound w → w.seats ≡ map seat_of kept
+    (u v : PlainUnit) (h : Hand) → IsSound w → w.seats ≡ map seat_of kept
     → slice_get kept k ≡ Some (record { hand = hand; jobs = jobs; limit = limit }) → committing_unit hand ≡ Some place
-    → slice_get w.units place ≡ Some u → Commits hand u b v h
-    → Turns w (Event.Commit k) b (with_unit_and_seat w place v kept k (record { hand = h; jobs = jobs; limit = limit }))
-commits w kept k place Hand.Empty jobs limit u v h b sound seats at unit there c = absurd (nothing unit)
-commits w kept k place (Hand.Done x o) jobs limit u v h b sound seats at unit there c = absurd (nothing unit)
-commits w kept k place (Hand.Answered p t) jobs limit u v h b sound seats at unit there c = absurd (nothing unit)
-commits w kept k place (Hand.Taken x) jobs limit u v h false sound seats at unit there c = absurd c
-commits w kept k place (Hand.Taken x) jobs limit u v h true sound seats at unit there c =
+    → slice_get w.units place ≡ Some u → Commits hand u true v h
+    → Turns w (Event.Commit k) true (with_unit_and_seat w place v kept k (record { hand = h; jobs = jobs; limit = limit }))
+commits w kept k place Hand.Empty jobs limit u v h sound seats at unit there c = absurd (nothing unit)
+commits w kept k place (Hand.Done x o) jobs limit u v h sound seats at unit there c = absurd (nothing unit)
+commits w kept k place (Hand.Answered p t) jobs limit u v h sound seats at unit there c = absurd (nothing unit)
+commits w kept k place (Hand.Taken x) jobs limit u v h sound seats at unit there c =
     let is : x.unit ≡ place = same unit in
     let (d, of, does, ends) = c k in
     let done = done_as w kept k x jobs limit u v h seats at
@@ -173,11 +172,11 @@ commits_or_defers w kept k place Hand.Empty jobs limit u v h places aside b soun
 commits_or_defers w kept k place (Hand.Done x o) jobs limit u v h places aside b sound seats at unit there c = absurd (nothing unit)
 commits_or_defers w kept k place (Hand.Answered p t) jobs limit u v h places aside b sound seats at unit there c =
     absurd (nothing unit)
-commits_or_defers w kept k place (Hand.Taken x) jobs limit u v h places aside false sound seats at unit there c = absurd c.0
+commits_or_defers w kept k place (Hand.Taken x) jobs limit u v h places aside false sound seats at unit there c = absurd c
 commits_or_defers w kept k place (Hand.Taken x) jobs limit u v h places aside true sound seats at unit there (inl (c, same_jobs)) =
     subst (λ (j : Jobs). Turns w (Event.Commit k) true
     (with_aside j.jobs (with_unit_and_seat w place v kept k (record { hand = h; jobs = jobs; limit = limit })))) (sym same_jobs)
-    (commits w kept k place (Hand.Taken x) jobs limit u v h true sound seats at unit there c)
+    (commits w kept k place (Hand.Taken x) jobs limit u v h sound seats at unit there c)
 commits_or_defers w kept k place (Hand.Taken x) jobs limit u v h places aside true sound seats at unit there (inr c) =
     let is : x.unit ≡ place = same unit in
     let (does, free, more) = c k in

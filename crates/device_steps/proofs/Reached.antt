@@ -6,6 +6,8 @@ use Rattle.device_model.specs.Events.{Event}
 use Rattle.device_model.specs.Transitions.{Transition, event_of}
 use Rattle.device_model.specs.Lawful.{KeepsParts}
 use Rattle.device_model.specs.Turns.{Turns, IsStep}
+use Rattle.device_model.specs.Standing.{NoneIsBacked}
+use Rattle.device_model.proofs.Aside.{run_bare}
 use Rattle.device_model.proofs.Staying.{transition_stays}
 use Rattle.device_model.proofs.Turning.{step_of}
 use Rattle.device_steps.specs.Sound.{AreFew, IsReached, IsWhole, size_of, lun_of}
@@ -48,3 +50,7 @@ whole_by w e b w' h t =
 pub whole_by_step : (asked : ℕ → Bool) (Q : Transition → Type 0) (w : PlainWorld) (c : Cursor) (w' : PlainWorld) → IsWhole w
     → StepsNext asked Q w c w' → IsWhole w'
 whole_by_step asked Q w c w' h t = whole_by w (event_of t.0) true w' h (t.0, refl, t.1, t.3)
+
+-- no unit is backed, since none was at the opening
+pub none_backed : (w : PlainWorld) → IsReached w → NoneIsBacked w
+none_backed w r = (run_bare r.old r.trace w r.reached.opens r.reached.runs r.disks).0

@@ -179,7 +179,7 @@ room_kept (Hand.Taken x) u v aside woken aside' true h share room (inr c) =
             room,
           );
     }
-room_kept (Hand.Taken x) u v aside woken aside' false h share room c = absurd c.0
+room_kept (Hand.Taken x) u v aside woken aside' false h share room c = absurd c
 room_kept Hand.Empty u v aside woken aside' b h share room c = subst (λ j. ShareLimit j woken) (sym c.1) share
 room_kept (Hand.Done x o) u v aside woken aside' b h share room c = subst (λ j. ShareLimit j woken) (sym c.1) share
 room_kept (Hand.Answered p t) u v aside woken aside' b h share room c = subst (λ j. ShareLimit j woken) (sym c.1) share
@@ -189,7 +189,7 @@ pub limit_kept : (hand : Hand) (u v : PlainUnit) (aside aside' : Jobs) (b : Bool
     → CommitsOrDefers hand u aside b v h aside' → aside'.limit ≡ aside.limit
 limit_kept (Hand.Taken x) u v aside aside' true h (inl c) = ap (λ (j : Jobs). j.limit) c.1
 limit_kept (Hand.Taken x) u v aside aside' true h (inr c) = ap (λ (j : Jobs). j.limit) (c 0).2
-limit_kept (Hand.Taken x) u v aside aside' false h c = absurd c.0
+limit_kept (Hand.Taken x) u v aside aside' false h c = absurd c
 limit_kept Hand.Empty u v aside aside' b h c = ap (λ (j : Jobs). j.limit) c.1
 limit_kept (Hand.Done x o) u v aside aside' b h c = ap (λ (j : Jobs). j.limit) c.1
 limit_kept (Hand.Answered p t) u v aside aside' b h c = ap (λ (j : Jobs). j.limit) c.1

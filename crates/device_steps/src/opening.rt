@@ -1,6 +1,6 @@
 //! The opening of the device.
 
-ghost use Rattle.std.specs.Prelude.{◌≡◌, ◌≤◌, [], length, map, IfOk, IsFalse, IsTrue, true};
+ghost use Rattle.std.specs.Prelude.{◌≡◌, ◌≤◌, [], length, map, IfOk, IsFalse, IsTrue, true, false};
 ghost use Rattle.request_intake.specs.Inventory.{address_of};
 ghost use Rattle.std.specs.List.{list_all};
 ghost use Rattle.config.specs.Config.{is_config_for, is_queue};
@@ -164,9 +164,10 @@ pub fn are_disks_for(wanted: &[UnitSpec], disks: &[PagedStore]) -> bool
     true
 }
 
-/// Gives each unit its disk, where no step of any was taken.
+/// Gives each unit its disk, where no step of any was taken and none is backed.
 pub(crate) fn hand_in(units: &mut Vec<UnitState>, disks: &mut Vec<PagedStore>)
     requires fresh { Everywhere (λ k u. u.steps ≡ []) units.old.items }
+    requires whole { Everywhere (λ k u. u.backed ≡ false) units.old.items }
     requires enough { length disks.old.items ≤ length units.old.items }
     ensures over { units.new.items ≡ over_disks units.old.items disks.old.items }
     ensures none { disks.new.items ≡ [] }
@@ -176,8 +177,9 @@ pub(crate) fn hand_in(units: &mut Vec<UnitState>, disks: &mut Vec<PagedStore>)
     }
 }
 
-/// Returns the disks of units, as their histories left them, in an empty list that has room for them.
+/// Returns the disks of units, as their histories left them, in an empty list that has room for them. No unit is backed.
 pub(crate) fn disks_of(units: Vec<UnitState>, empty: Vec<PagedStore>) -> Vec<PagedStore>
+    requires whole { Everywhere (λ k u. u.backed ≡ false) units.items }
     requires empty { empty.items ≡ [] }
     requires room { length units.items ≤ vec_capacity empty }
     ensures { AreDisksOf units.items result.items }
@@ -191,9 +193,11 @@ pub(crate) fn disks_of(units: Vec<UnitState>, empty: Vec<PagedStore>) -> Vec<Pag
 }
 
 impl Device {
-    /// Gives each unit its disk, where no step of any was taken. A host calls it once, right behind the opening.
+    /// Gives each unit its disk, where no step of any was taken and none is backed. A host calls it once, right behind the
+    /// opening.
     pub fn hand_in(&mut self, disks: &mut Vec<PagedStore>)
         requires fresh { Everywhere (λ k u. u.steps ≡ []) self.old.units }
+        requires whole { Everywhere (λ k u. u.backed ≡ false) self.old.units }
         requires enough { length disks.old.items ≤ length self.old.units }
         ensures over { self.new ≡ record self.old { units = over_disks self.old.units disks.old.items } }
         ensures none { disks.new.items ≡ [] }
@@ -213,8 +217,10 @@ impl Device {
         }
     }
 
-    /// Ends the device, and returns the disks of its units in an empty list that has room for them. A host calls it last.
+    /// Ends the device, and returns the disks of its units in an empty list that has room for them. No unit is backed. A host
+    /// calls it last.
     pub fn into_disks(self, empty: Vec<PagedStore>) -> Vec<PagedStore>
+        requires whole { Everywhere (λ k u. u.backed ≡ false) self.units }
         requires empty { empty.items ≡ [] }
         requires room { length self.units ≤ vec_capacity empty }
         ensures { AreDisksOf self.units result.items }

@@ -475,7 +475,8 @@ impl Device {
             && self.handed_off.limit() > 0
     }
 
-    /// Takes a request queue's next chain, and serves its request to the end, if nothing blocks it.
+    /// Takes a request queue's next chain, and serves its request to the end, if nothing blocks it. Where its command waits for
+    /// a backed disk, its job goes to the list of the first seat, which tries it by steps.
     #[inline(always)]
     fn serve<M: WritableMemory>(
         &mut self,

@@ -1,5 +1,5 @@
 -- How many Commits the phases make, and that they are no act of the operator.
-use Rattle.std.proofs.Common.{◌≡◌, ℕ, ◌+◌, ◌≤◌, Bool, true, false, List, [], ◌∷◌, length, Some, sym, subst, ap, ◌∙◌, arith, if◌then◌else◌}
+use Rattle.std.proofs.Common.{◌≡◌, ℕ, ◌+◌, ◌≤◌, Bool, true, false, List, [], ◌∷◌, length, Some, refl, sym, subst, ap, ◌∙◌, arith, if◌then◌else◌}
 use Rattle.unit_model.specs.Jobs.{PlainJob, Jobs}
 use Rattle.unit_model.specs.Steps.{Step}
 use Rattle.unit_model.specs.Unit.{PlainUnit}
@@ -17,7 +17,7 @@ use Rattle.lock_scopes.specs.declared.joined_unit.NextJob.{NextJob}
 use Rattle.lock_scopes.specs.declared.joined_unit.NextJob.TheVariants.{Listed, Taken, Committed}
 use Rattle.lock_scopes.specs.Joined.{LeavesEnters, RunsNext, LeavesEntersRuns}
 use Rattle.phases.specs.Units.{IsEntering, Enters, Commits, Leaves}
-use Rattle.lock_scopes.specs.Ledgers.{commits_of, receipts_due, receipts_run, KeepsActs}
+use Rattle.lock_scopes.specs.Ledgers.{commits_of, receipts_due, receipts_made, receipts_run, KeepsActs}
 use Rattle.lock_scopes.specs.Acts.{acts_of}
 
 -- a unit has as many Commits as another, and the same acts of the operator
@@ -90,12 +90,26 @@ answers_count u x (outcome.Aborted why) v (e, of, marked, is) = (omega (arith, c
 answers_count u x outcome.Busy v (e, of, short, steps) = let made = counted_as steps.is in (omega (arith, made), acted_as steps.is)
 answers_count u x outcome.Unknown v (cannot, is) = (omega (arith, counted_as is), acted_as is)
 
+-- where a commit isn't over, its unit is as it was
+stays : (h : Hand) (u v : PlainUnit) (h' : Hand) → Commits h u false v h' → v ≡ u
+stays Hand.Empty u v h' c = c.0
+stays (Hand.Taken x) u v h' c = c.unit
+stays (Hand.Done x o) u v h' c = c.0
+stays (Hand.Answered place t) u v h' c = c.0
+
 commits_count : (h : declared.Hand) (u v : PlainUnit) (h' : declared.Hand) (k : Hand) → Commits (hand_of h) u true v k
     → KeepsOutcome h u v h' → HasMore (receipts_due h') u v
 commits_count hand.Empty u v h' k c keeps = absurd c
 commits_count (hand.Answered place t) u v h' k c keeps = absurd c
 commits_count (hand.Job held) u v h' k c (o, did, is) =
     subst (λ z. HasMore (receipts_due z) u v) (sym is) (answers_count u held.job o v did)
+
+-- a commit that isn't over is none
+pub commit_counts : (h : declared.Hand) (u : PlainUnit) (b : Bool) (v : PlainUnit) (h' : declared.Hand) → Commits (hand_of h) u b v (hand_of h')
+    → (b ≡ true → KeepsOutcome h u v h') → HasMore (receipts_made b h') u v
+commit_counts h u true v h' c keeps = commits_count h u v h' (hand_of h') c (keeps refl)
+commit_counts h u false v h' c keeps =
+    let is = stays (hand_of h) u v (hand_of h') c in (omega (arith, counted_as is), acted_as is)
 
 runs_count : (at : ℕ) (next : NextJob) (h : declared.Hand) (u : PlainUnit) (out : Jobs) (v : PlainUnit) (h' : declared.Hand) (out' : Jobs)
     → RunsNext at h u out next v h' out' → HasMore (receipts_run next h') u v

@@ -1,4 +1,5 @@
 pub mod Chains
 pub mod Counting
 pub mod Crossing
+pub mod Joining
 pub mod Weights

@@ -22,7 +22,7 @@ const LONG: u64 = 8_192;
 pub enum NextJob {
     /// They are in the list: there are none or several, or the hand wasn't free.
     Listed,
-    /// The only one came into the hand, and is to be committed.
+    /// The only one came into the hand, and is to be committed. It may wait for its unit's backed disk.
     Taken,
     /// The only one came into the hand, and was committed.
     Committed,
@@ -54,7 +54,7 @@ fn is_long(hand: &Hand) -> bool {
 }
 
 /// Takes the only job that may run into the hand, where that is free, and runs `phase_commit` where the job is one of
-/// this unit and not long.
+/// this unit and not long. The job stays in the hand where that commit waits.
 fn run_next<G: Gate>(
     unit: &mut UnitState,
     gate: &G,
@@ -75,8 +75,10 @@ fn run_next<G: Gate>(
         return NextJob::Taken;
     }
     pass_locked(gate, hand);
-    phase_commit(unit, hand);
-    NextJob::Committed
+    if phase_commit(unit, hand) {
+        return NextJob::Committed;
+    }
+    NextJob::Taken
 }
 
 /// Runs `phase_leave` and `phase_enter`, and then `phase_commit` where `run_next` does.

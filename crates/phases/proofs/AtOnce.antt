@@ -1,5 +1,5 @@
 -- What a request that is served at once is, by what the calls of its unit answer.
-use Rattle.std.proofs.Common.{◌≡◌, ◌++◌, ℕ, ◌+◌, Bool, true, false, List, [], Option, Some, None, length, refl, ap, sym, ◌∙◌, subst, arith}
+use Rattle.std.proofs.Common.{◌≡◌, ◌++◌, ℕ, ◌+◌, Bool, true, false, List, [], ◌∷◌, Option, Some, None, length, refl, ap, sym, ◌∙◌, subst, arith, inl, inr}
 use Rattle.cdb.specs.declared.commands.Command.{Command}
 use Rattle.cdb.specs.Need.{need_of}
 use Rattle.command_model.specs.Statuses.{good}
@@ -27,7 +27,7 @@ use Rattle.virtqueue.specs.Queue.{BareQueue, completing}
 use Rattle.virtqueue.specs.Completing.{SeenBehind}
 use Rattle.phases.specs.Units.{EntersAs, Commits, Leaves}
 use Rattle.phases.specs.DoingUnit.{with_more}
-use Rattle.phases.specs.Inner.Serving.{Serves}
+use Rattle.phases.specs.Inner.Serving.{Serves, HandsOn}
 use Rattle.phases.specs.InMemory.{EachSeen}
 use Rattle.phases.specs.Direct.{decided_writes}
 use Rattle.phases.specs.Inner.Outcomes.{WritesWholeIn}
@@ -99,15 +99,45 @@ served shared stored x y t u v z u' q q' before after s out out' gone what enter
       refl,
     )) answered
 
+-- the request isn't answered yet, and hands out these jobs
+hands_on : (shared : Bool) (stored : List Write → Type 0) (x : PlainJob) (u u' : PlainUnit) (q : BareQueue)
+    (may : List ℕ → Type 0) (s s' : Slot) (more : List PlainJob) (out out' : Jobs) → stored [] → HandsOn x u more
+    → ((list : Jobs) → EntersAs x u list u' s' (with_more more list)) → out' ≡ with_more more out
+    → EachSeen shared may may (λ found left seen. ServesIn shared stored x u q found s out None u' q left seen s' out')
+hands_on shared stored x u u' q may s s' more out out' none waits enters jobs =
+    each_read shared may may (λ found left seen. ServesIn shared stored x u q found s out None u' q left seen s' out')
+    (λ m stood. stood)
+    (λ m stood.
+    record {
+      more = more;
+      waits = waits;
+      enters = enters;
+      at_queue = record { queue = refl; memory = refl; seen = refl };
+      stores = none;
+      jobs = jobs;
+    })
+
 -- the request only entered, or was refused
 pub only_entered : (shared : Bool) (stored : List Write → Type 0) (x : PlainJob) (u u' : PlainUnit) (q : BareQueue)
     (may : List ℕ → Type 0) (s s' : Slot) (out : Jobs) → stored [] → ((list : Jobs) → EntersAs x u list u' s' list)
     → EachSeen shared may may (λ found left seen. ServesIn shared stored x u q found s out None u' q left seen s' out)
 only_entered shared stored x u u' q may s s' out none enters =
-    each_read shared may may (λ found left seen. ServesIn shared stored x u q found s out None u' q left seen s' out)
-    (λ m stood. stood)
-    (λ m stood.
-    record { enters = enters; at_queue = record { queue = refl; memory = refl; seen = refl }; stores = none; jobs = refl })
+    hands_on shared stored x u u' q may s s' [] out out none (inl refl)
+    (λ list. subst (λ (jobs : Jobs). EntersAs x u list u' s' jobs) (with_none list) (enters list)) (with_none out)
+
+-- the request entered, and its job waits for its unit's disk
+pub waits_on : (shared : Bool) (stored : List Write → Type 0) (x y : PlainJob) (u v u' : PlainUnit) (q : BareQueue)
+    (may : List ℕ → Type 0) (s s' : Slot) (out out' : Jobs) → stored [] → s' ≡ Slot.Empty
+    → calls.Enters u x (entered.Run y) v → calls.Waits v y u' → out' ≡ with_more (y ∷ []) out
+    → EachSeen shared may may (λ found left seen. ServesIn shared stored x u q found s out None u' q left seen s' out')
+waits_on shared stored x y u v u' q may s s' out out' none empty enters waits jobs =
+    let is : y ≡ x = enters.0 in
+    let kind : v.backed ≡ u.backed = ap (λ (z : PlainUnit). z.backed) enters.3.is in
+    hands_on shared stored x u u' q may s s' (y ∷ []) out out' none
+    (inr (ap (λ (j : PlainJob). j ∷ []) is, sym kind ∙ waits.backed))
+    (λ list.
+    subst (λ (z : PlainUnit). EntersAs x u list z s' (with_more (y ∷ []) list)) (sym waits.same)
+    (subst (λ (t : Slot). EntersAs x u list v t (with_more (y ∷ []) list)) (sym empty) (runs x u v list y enters))) jobs
 
 -- a job leaves its unit, where no other waits
 left_alone : (u u' : PlainUnit) (place : ℕ) (t : Ticket) (out : Jobs) → u.parked ≡ [] → Steps u (Step.Leave t) u'
@@ -161,6 +191,8 @@ serves_own stored x u u' q q' m m' n s s' out out' (Some gone) (at_once, slot) =
 )
 serves_own stored x u u' q q' m m' n s s' out out' None enters =
     record {
+      more = enters.more;
+      waits = enters.waits;
       enters = enters.enters;
       queue = enters.at_queue.queue;
       memory = enters.at_queue.memory;

@@ -1,6 +1,6 @@
 -- What a commit that may wait is, as a transition; and a visit of a function is a mark or a look.
 use Rattle.std.proofs.Common.{ℕ, ◌≡◌, Bool, true, false, List, [], ◌∷◌, Option, Some, None, refl, ap, sym, ◌∙◌, subst, inl, inr}
-use Rattle.std.specs.Prelude.{is_some, IsTrue, IfSome}
+use Rattle.std.specs.Prelude.{is_some, IsTrue, IsFalse, IfSome}
 use Rattle.std.proofs.lemmas.Bool.{false≢true}
 use Rattle.request_intake.specs.Inventory.{PlainInventory}
 use Rattle.unit_model.specs.Jobs.{PlainJob, Jobs}
@@ -15,7 +15,8 @@ use Rattle.phases.specs.DoingUnit.{with_more}
 use Rattle.phases.specs.Outcomes.{PlainJobInHand}
 use Rattle.phases.specs.Parts.{hand_with, committing_unit}
 use Rattle.phases.specs.Units.{Commits, MarksUnit, Marks, MarksNext}
-use Rattle.phases.specs.Inner.Units.{StaysInHand, CommitsOrDefers, VisitsUnit, VisitsNext, Visits}
+use Rattle.phases.specs.Inner.Units.{CommitsOrDefers, VisitsUnit, VisitsNext, Visits}
+use Rattle.phases.proofs.Commits.{taken}
 use Rattle.phases.specs.declared.marking.Visited.{Visited}
 use Rattle.phases.specs.declared.marking.Visited.TheVariants as visited
 
@@ -38,11 +39,11 @@ over (Hand.Done x o) u v h' aside c = (c, refl)
 over (Hand.Answered place t) u v h' aside c = (c, refl)
 
 -- where no job is to be committed nothing changes
-pub none_over : (h g : Hand) (u v : PlainUnit) (aside : Jobs) → committing_unit g ≡ None → StaysInHand h u v g
+pub none_over : (h g : Hand) (u v : PlainUnit) (aside : Jobs) → committing_unit g ≡ None → Commits h u false v g
     → CommitsOrDefers h u aside false v g aside
 none_over Hand.Empty g u v aside none s = (s, refl)
 none_over (Hand.Taken x) g u v aside none s =
-    let is : Some x.unit ≡ None = sym (ap committing_unit s.1) ∙ none in
+    let is : Some x.unit ≡ None = sym (ap committing_unit s.hand) ∙ none in
     absurd (cc)
 none_over (Hand.Done x o) g u v aside none s = (s, refl)
 none_over (Hand.Answered place t) g u v aside none s = (s, refl)
@@ -53,14 +54,39 @@ pub to_commit : (x : PlainJob) (o : Option outcome_type.Outcome) (p : ℕ) → S
 to_commit x None p is = refl
 to_commit x (Some o) p is = absurd (cc)
 
+-- a job whose command waits is to be committed still
+pub waits_still : (x : PlainJob) (before : Option outcome_type.Outcome) (u v : PlainUnit) (made : PlainJobInHand)
+    → is_some before ≡ false → calls.Waits u x v → made ≡ job_with x None
+    → Commits (hand_with x before) u false v (hand_with made.job made.outcome)
+waits_still x None u v made not_over waits same =
+    record {
+      unit = waits.same;
+      hand = ap (λ (y : PlainJobInHand). hand_with y.job y.outcome) same;
+      entry = waits.entry;
+      ready = waits.ready;
+      backed = waits.backed;
+    }
+waits_still x (Some o) u v made not_over waits same = absurd (false≢true (sym not_over))
+
+-- by whether its commit is over
+pub commits_or_waits : (x : PlainJob) (before : Option outcome_type.Outcome) (u v : PlainUnit) (made : PlainJobInHand) (b : Bool)
+    → is_some before ≡ false
+    → (IsTrue b → (o : outcome_type.Outcome) × calls.Commits u x o v × (made ≡ job_with x (Some o)))
+    → (IsFalse b → calls.Waits u x v × (made ≡ job_with x None))
+    → Commits (hand_with x before) u b v (hand_with made.job made.outcome)
+commits_or_waits x before u v made true not_over ran_so waits =
+    let (what, ran, same) = ran_so refl in taken x before u v what made not_over ran same
+commits_or_waits x before u v made false not_over ran_so waits =
+    let (still, same) = waits refl in waits_still x before u v made not_over still same
+
 -- the job goes behind those that wait
-pub deferred : (h g : Hand) (x : PlainJob) (u v : PlainUnit) (aside aside' : Jobs) → g ≡ Hand.Taken x → StaysInHand h u v g
+pub deferred : (h g : Hand) (x : PlainJob) (u v : PlainUnit) (aside aside' : Jobs) → g ≡ Hand.Taken x → Commits h u false v g
     → aside' ≡ with_more (x ∷ []) aside → CommitsOrDefers h u aside true v Hand.Empty aside'
 deferred Hand.Empty g x u v aside aside' there s more = let e = sym there ∙ s.1 in absurd (cc)
 deferred (Hand.Taken y) g x u v aside aside' there s more =
-    let e : Hand.Taken x ≡ Hand.Taken y = sym there ∙ s.1 in
+    let e : Hand.Taken x ≡ Hand.Taken y = sym there ∙ s.hand in
     let one : x ≡ y = cc in
-    inr (λ k. (record { asks = (s.2, s.3); is = s.0 }, refl, more ∙ ap (λ (z : PlainJob). with_more (z ∷ []) aside) one))
+    inr (λ k. (record { asks = ((s.entry, s.ready), s.backed); is = s.unit }, refl, more ∙ ap (λ (z : PlainJob). with_more (z ∷ []) aside) one))
 deferred (Hand.Done y o) g x u v aside aside' there s more = let e = sym there ∙ s.1 in absurd (cc)
 deferred (Hand.Answered place t) g x u v aside aside' there s more = let e = sym there ∙ s.1 in absurd (cc)
 

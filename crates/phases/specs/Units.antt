@@ -1,9 +1,10 @@
 -- What the phases do that work on a unit.
 use Rattle.std.specs.Prelude.{ℕ, ◌≡◌, ◌⊎◌, Bool, true, false, List, [], ◌∷◌, length}
 use Rattle.request_intake.specs.Inventory.{PlainInventory}
-use Rattle.unit_model.specs.Tasks.{task_of}
+use Rattle.unit_model.specs.Tasks.{Entry, task_of}
 use Rattle.unit_model.specs.Steps.{Step, alive}
 use Rattle.unit_model.specs.Endings.{Ending}
+use Rattle.unit_model.specs.Lawful.{IsReady}
 use Rattle.unit_model.specs.Clearing.{is_clear}
 use Rattle.unit_model.specs.Seen.{any_met}
 use Rattle.unit_model.specs.Jobs.{PlainJob, Jobs}
@@ -74,10 +75,19 @@ ending_after (Transition.CommitBusy k x) = Ending.Busy
 ending_after (Transition.CommitAborted k x why) = Ending.Aborted why
 ending_after d = Ending.Lost
 
+-- nothing changed: the command of the job may run, and waits for its unit's disk
+pub record WaitsInHand (x : PlainJob) (u u' : PlainUnit) (h' : Hand) : Type 0 where
+  pub unit : u' ≡ u
+  pub hand : h' ≡ Hand.Taken x
+  pub entry : Entry
+  pub ready : IsReady x.entry.ticket entry u.steps
+  pub backed : u.backed ≡ true
+
+-- a commit; or the job waits, so only where the unit's disk is backed
 abbrev pub Commits : Hand → PlainUnit → Bool → PlainUnit → Hand → Type 0
 Commits (Hand.Taken x) u true u' h' =
     (k : ℕ) → (d : Transition) × IsCommitting k x d × DoesUnit d u u' × (h' ≡ Hand.Done x (Outcome.Ended (ending_after d)))
-Commits (Hand.Taken x) u false u' h' = ⊥
+Commits (Hand.Taken x) u false u' h' = WaitsInHand x u u' h'
 Commits h u true u' h' = ⊥
 Commits h u false u' h' = (u' ≡ u) × (h' ≡ h)
 

@@ -1,9 +1,9 @@
 //! The steps in which a job's command runs, and its task leaves.
 
-ghost use Rattle.std.specs.Prelude.{◌<◌, IsTrue, IsFalse, true, length};
+ghost use Rattle.std.specs.Prelude.{◌<◌, IsTrue, length};
 ghost use Rattle.phases.specs.Parts.{hand_of};
 ghost use Rattle.phases.specs.Units.{Commits, Leaves};
-ghost use Rattle.phases.specs.Inner.Units.{CommitsOrDefers, StaysInHand};
+ghost use Rattle.phases.specs.Inner.Units.{CommitsOrDefers};
 ghost use Rattle.phases.specs.Giving.{KeepsOutcome};
 
 use crate::entering::has_places;
@@ -12,29 +12,12 @@ use std::mem;
 use unit_history::{JobList, UnitState, Unknown};
 
 /// Commits the job in the hand at its unit, which the caller found by the hand: its command runs whole, or it was
-/// marked, or memory was refused. The hand then has what came of it. Returns true if something changed: not where no
-/// job is in the hand that is to be committed.
+/// marked, or memory was refused. Returns true if the hand then has what came of it. Nothing changes where no job is in
+/// the hand that is to be committed. Nor does it where the job waits for its unit's backed disk, as
+/// [`UnitState::commit_ready`] says; then what was made of its WRITE is let go.
 pub fn phase_commit(unit: &mut UnitState, hand: &mut Hand) -> bool
     ensures commits { Commits (hand_of hand.old) unit.old result unit.new (hand_of hand.new) }
     ensures kept { IsTrue result → KeepsOutcome hand.old unit.old unit.new hand.new }
-{
-    match hand {
-        Hand::Job(held) => {
-            if held.is_over() {
-                return false;
-            }
-            held.commit(unit);
-            true
-        }
-        Hand::Empty | Hand::Answered(_, _) => false,
-    }
-}
-
-/// Commits the job in the hand at its unit, if the pages that its command needs of its disk are in memory. Returns true if
-/// the hand then has what came of it; not where no job is in the hand that is to be committed, or where it waits.
-fn commit_if_ready(unit: &mut UnitState, hand: &mut Hand) -> bool
-    ensures over { IsTrue result → Commits (hand_of hand.old) unit.old true unit.new (hand_of hand.new) }
-    ensures still { IsFalse result → StaysInHand (hand_of hand.old) unit.old unit.new (hand_of hand.new) }
 {
     match hand {
         Hand::Job(held) => {
@@ -47,15 +30,14 @@ fn commit_if_ready(unit: &mut UnitState, hand: &mut Hand) -> bool
     }
 }
 
-/// Commits the job in the hand as [`phase_commit`] does, if the pages that its command needs of its disk are in memory. Else the
-/// job goes from the hand behind those that wait, in a list in which the caller sees to it that there is a place free. The
-/// unit has then asked for each page that isn't there. Returns true if something changed: not where no job is in the hand
-/// that is to be committed.
+/// Commits the job in the hand as [`phase_commit`] does. Where it waits, it goes from the hand behind those that wait, in a
+/// list in which the caller sees to it that there is a place free. Returns true if something changed: not where no job is
+/// in the hand that is to be committed.
 pub fn phase_commit_or_defer(unit: &mut UnitState, hand: &mut Hand, aside: &mut JobList) -> bool
     requires room { length aside.old.jobs < aside.old.limit }
     ensures { CommitsOrDefers (hand_of hand.old) unit.old aside.old result unit.new (hand_of hand.new) aside.new }
 {
-    if commit_if_ready(unit, hand) {
+    if phase_commit(unit, hand) {
         return true;
     }
     if hand.committing_unit().is_none() {

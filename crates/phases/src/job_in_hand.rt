@@ -81,16 +81,8 @@ impl JobInHand {
         self.pages = started.prepare();
     }
 
-    /// Commits the job at its unit, with the pages of its WRITE, if they were made.
-    pub(crate) fn commit(&mut self, unit: &mut UnitState)
-        ensures { (o : answers.Outcome) × Commits unit.old self.old.job o unit.new
-            × (self.new ≡ record { job = self.old.job; outcome = Some o }) }
-    {
-        self.outcome = Some(unit.commit_with(&self.job, self.pages.take(), &mut self.spare));
-    }
-
-    /// Commits the job at its unit as `commit` does, if the pages that its command needs of its disk are in memory. Else it is
-    /// still to be committed, and what was made of its WRITE is let go. Returns true if its commit is over.
+    /// Commits the job at its unit, with the pages of its WRITE, if they were made. Where it waits for its unit's disk, it is
+    /// still to be committed, and these pages are let go. Returns true if its commit is over.
     pub(crate) fn commit_if_ready(&mut self, unit: &mut UnitState) -> bool
         ensures over { IsTrue result → (o : answers.Outcome) × Commits unit.old self.old.job o unit.new
             × (self.new ≡ record { job = self.old.job; outcome = Some o }) }

@@ -4,8 +4,8 @@
 //! # Proved
 //!
 //! A phase does on what one lock lends exactly what a transition says. Or it does nothing, by its cause: there is
-//! nothing to do, or a test fails that never fails in one device. It never waits, and what answers a request gives
-//! its receipt or a note.
+//! nothing to do, a job waits for its unit's backed disk, or a test fails that never fails in one device. It never
+//! blocks, and what answers a request gives its receipt or a note.
 //!
 //! A function or the operator asks or changes a unit only where that has the address of the place that is named.
 //! Else the function fails, the operator's act answers `WrongUnit`, and that unit stays as it was.

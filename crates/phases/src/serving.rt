@@ -159,12 +159,17 @@ fn serve_by_steps<M: WritableMemory>(
     ensures room { (n : ℕ) → n ≤ 60 → M.has_room memory.old n → M.has_room memory.new n }
 {
     match unit.enter(arrival) {
-        Entered::Run(job) => {
-            let outcome = unit.commit(&job);
-            let answered = answer_job(queue, memory, job, &outcome);
-            unit.keep_room(outcome);
-            Some(leave(unit, answered, out))
-        }
+        Entered::Run(job) => match unit.commit_ready(&job, None, &mut None) {
+            Some(outcome) => {
+                let answered = answer_job(queue, memory, job, &outcome);
+                unit.keep_room(outcome);
+                Some(leave(unit, answered, out))
+            }
+            None => {
+                out.push(job);
+                None
+            }
+        },
         Entered::Parked => None,
         Entered::Full(job) => {
             *slot = Slot::Direct(DirectChain::refused(job, Refusal::Full));
@@ -185,8 +190,13 @@ fn serve_by_steps<M: WritableMemory>(
 /// that, its chain is used, and the task leaves. This is what [`phase_enter`](crate::phase_enter),
 /// [`phase_commit`](crate::phase_commit), [`phase_answer`](crate::phase_answer) and [`phase_leave`](crate::phase_leave)
 /// do one after another, with its job in no list and no hand between them. Then it returns true if the unit knew the
-/// task when it left. Else `None`: the task waits at its unit, or what refuses the request stands in the slot. The
-/// queue owns the chain, and the list has 64 places free, which the caller sees to.
+/// task when it left. Else `None`, where one of these holds:
+///
+/// - The task waits at its unit.
+/// - What refuses the request stands in the slot.
+/// - The command waits for its unit's disk, which is backed. The job is appended to the list, to be committed later.
+///
+/// The queue owns the chain, and the list has 64 places free, which the caller sees to.
 #[inline(always)]
 pub fn serve_request(
     unit: &mut UnitState,

@@ -1,8 +1,5 @@
 -- A command that runs once its disk was made ready.
-use Rattle.std.proofs.Common.{◌≡◌, ◌≢◌, ℕ, Bool, true, false, IsTrue, List, Option, subst, refl}
-use Rattle.backed_store.specs.Disks.{holds, is_whole}
-use Rattle.backed_store.specs.declared.disk.Disk.{Disk}
-use Rattle.backed_store.specs.declared.disk.Disk.TheVariants.{Whole, Backed}
+use Rattle.std.proofs.Common.{◌≡◌, ◌≢◌, ℕ, Bool, true, false, List, Option, subst, refl}
 use Rattle.block_store.specs.declared.readiness.Readiness.{Readiness}
 use Rattle.block_store.specs.declared.readiness.Readiness.TheVariants.{Ready}
 use Rattle.cdb.specs.declared.commands.Command.{Command}
@@ -26,10 +23,3 @@ readied keeps was now pending pending' m n command bytes p old ready new facts s
 pub needs-some : (needed : Bool) (readiness : Readiness) → (needed ≡ false → readiness ≡ Ready) → readiness ≢ Ready → needed ≡ true
 needs-some true readiness idle unready = refl
 needs-some false readiness idle unready = absurd (unready (idle refl))
-
--- a disk that isn't backed has each block in memory
-pub holds_all : (d : Disk) → is_whole d ≡ true → (b : ℕ) → IsTrue (holds d b)
-holds_all (Whole s) is b = refl
-holds_all (Backed s) is b =
-    let never : false ≡ true = is in
-    cc

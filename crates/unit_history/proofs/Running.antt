@@ -3,7 +3,6 @@ use Rattle.std.proofs.Common.{◌≡◌, ◌≤◌, ℕ, Bool, List, length, tak
 use Rattle.std.proofs.lemmas.List.{take_all}
 use Rattle.cdb.specs.declared.commands.Command.{Command}
 use Rattle.block_store.specs.Blocks.{Blocks}
-use Rattle.command_model.specs.PlainReply.{PlainReply}
 use Rattle.command_model.specs.Effects.{block_after}
 use Rattle.command_model.specs.Facts.{Facts}
 use Rattle.command_model.specs.Replies.{reply_of}

@@ -93,9 +93,10 @@ impl UnitState {
 
     /// Runs the command of a job's task whole, in one hold of the unit's lock. Tested first to last: `Unknown`; the
     /// mark, which answers `Aborted`; `Busy`, where memory was refused to the command itself, or to the copy of its
-    /// reply. The copy is made where replies are kept and its data are short enough.
+    /// reply. The copy is made where replies are kept and its data are short enough. The unit's disk isn't backed.
     #[inline(always)]
     pub fn commit(&mut self, job: &Job) -> Outcome
+        requires { self.old.backed ≡ false }
         ensures step { Commits self.old job.now result self.new }
         ensures fits { FitsNeed (need_of job.now.entry.command).into result }
     {
@@ -143,11 +144,10 @@ impl UnitState {
         prepared: Option<PreparedWrite>,
         spare: &mut Option<Prepared>,
     ) -> Outcome
+        requires { self.old.backed ≡ false }
         ensures step { Commits self.old job.now result self.new }
         ensures fits { FitsNeed (need_of job.now.entry.command).into result }
     {
-        // No unit's disk is backed yet.
-        let _ = &self.alloc;
         match self.commit_ready(job, prepared, spare) {
             Some(outcome) => outcome,
             None => unreachable!(),

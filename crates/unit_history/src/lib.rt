@@ -7,7 +7,7 @@
 //! handed out once. A command runs whole, with the reply that its history gives; or its task was marked, or memory
 //! was refused, and nothing changed. A Leave wants the proof that the chain was completed (`Answered`). A command that
 //! needs pages which aren't in memory waits, with nothing changed (`commit_ready`). So does SYNCHRONIZE CACHE, until the
-//! host's storage has what was changed before it. Since no unit's disk is backed yet, none does.
+//! host's storage has what was changed before it.
 //!
 //! Blocks, capacity, attentions and counts (modulo 2^64) are the history's, over disks that are given and given
 //! back. Blocks outside the changes that it tells are unchanged since a place; it may always tell of its latest

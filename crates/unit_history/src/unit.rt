@@ -41,7 +41,6 @@ pub struct UnitState {
     pub(crate) facts: UnitFacts,
     pub(crate) calm: bool,
     pub(crate) attentions: Attentions,
-    // No unit's disk is backed yet.
     pub(crate) store: Disk,
     // The store that was handed in at the opening, as it was then.
     pub(crate) opened: Record<PagedStore>,
@@ -133,7 +132,7 @@ fn forget_where_clear(log: &mut StepLog, tasks: &TaskSet)
 }
 
 impl UnitState {
-    ghost use Rattle.std.specs.Prelude.{◌≡◌, ◌+◌, ◌≤◌, [], length, IfOk, IfErr, OnOk, OnErr};
+    ghost use Rattle.std.specs.Prelude.{◌≡◌, ◌+◌, ◌≤◌, [], false, length, IfOk, IfErr, OnOk, OnErr};
     ghost use Rattle.unit_attention.specs.Code.{IsKnown};
     ghost use Rattle.unit_model.specs.Tasks.{task_of};
     ghost use Rattle.unit_model.specs.Steps.{Step, alive};
@@ -190,9 +189,11 @@ impl UnitState {
     }
 
     /// Gives a unit of which no step was taken the blocks of a store in place of its zeros, and as many as the store
-    /// has. Takes no memory. Called for a disk that outlives its device, with what [`UnitState::into_store`] gave.
+    /// has. Its disk isn't backed. Takes no memory. Called for a disk that outlives its device, with what
+    /// [`UnitState::into_store`] gave.
     pub fn hand_in(&mut self, mut store: PagedStore)
-        requires { self.old.steps ≡ [] }
+        requires fresh { self.old.steps ≡ [] }
+        requires whole { self.old.backed ≡ false }
         ensures { self.new ≡ record self.old { opening = opening_over store self.old.opening } }
     {
         self.opened = Record::new().and(&store);
@@ -203,8 +204,10 @@ impl UnitState {
         self.store = Disk::Whole(store);
     }
 
-    /// Returns the unit's blocks, as its commands and resizes left them. The rest of the unit is gone.
+    /// Returns the blocks of a unit whose disk isn't backed, as its commands and resizes left them. The rest of the unit is
+    /// gone.
     pub fn into_store(self) -> PagedStore
+        requires { self.backed ≡ false }
         ensures { IsDiskOf self result }
     {
         let disk = self.store;

@@ -163,6 +163,13 @@ impl UnitState {
         self.opening_blocks
     }
 
+    /// Returns true if its disk is backed: the host's storage has the pages that aren't in memory, and commands may wait.
+    pub fn is_backed(&self) -> bool
+        ensures { result ≡ self.now.backed }
+    {
+        !self.store.is_resident()
+    }
+
     /// Returns its capacity in blocks of 512 bytes.
     pub fn capacity(&self) -> u64
         ensures { result ≡ capacity_of self.now.opening self.now.steps }
@@ -190,7 +197,8 @@ impl UnitState {
     }
 
     /// Appends the bytes of `count` blocks from `first` on, 512 of each, as its commands left them. All of them lie
-    /// below the capacity. `NoMemory`, with the list as it was, where that can't grow.
+    /// below the capacity. `NoMemory`, with the list as it was, where that can't grow. So it answers for any block of a
+    /// backed disk, whose pages may be absent.
     pub fn read_blocks(&self, first: u64, count: u32, into: &mut Vec<u8>) -> Result<(), NoMemory>
         requires { first + count ≤ capacity_of self.now.opening self.now.steps }
         ensures ok { OnOk result (into.new.items ≡ into.old.items ++ run (blocks_of self.now.opening self.now.steps) first count) }
@@ -198,6 +206,9 @@ impl UnitState {
         ensures err { OnErr result (into.new.items ≡ into.old.items) }
         ensures want { OnErr result (0 < count) }
     {
+        if self.is_backed() && count > 0 {
+            return Err(NoMemory);
+        }
         into.reserve(512 * count as usize)?;
         self.store.read_blocks(first, count, into);
         Ok(())

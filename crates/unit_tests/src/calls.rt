@@ -89,8 +89,11 @@ fn step_of(outcome: &Outcome, ticket: Ticket) -> Option<StepKind> {
     }
 }
 
-/// Commits a job. `None` where the history doesn't say the same.
+/// Commits a job. `None` where the unit's disk is backed, which none is here, or the history doesn't say the same.
 pub(crate) fn commit(unit: &mut UnitState, job: &Job) -> Option<Outcome> {
+    if unit.is_backed() {
+        return None;
+    }
     let before = unit.steps();
     let outcome = unit.commit(job);
     let step = step_of(&outcome, job.ticket());

@@ -92,20 +92,20 @@ pub left_due : (h h' : declared.Hand) (at : ℕ) (u : PlainUnit) (out : Jobs) (b
     → leaving_unit (hand_of h) ≡ Some at → Leaves (hand_of h) u out b v (hand_of h') out' → receipts_due h' ≡ 0
 left_due h h' at u out b v out' e did = none_due h' (left_none (hand_of h) at u out b v (hand_of h') out' e did)
 
-made_due : (h : Hand) (at : ℕ) (u : PlainUnit) (b : Bool) (v : PlainUnit) (k : Hand) (h' : declared.Hand) → committing_unit h ≡ Some at
-    → Commits h u b v k → receipts_due h' ≡ receipts_made b h'
-made_due (Hand.Taken x) at u true v k h' e did = refl
-made_due (Hand.Taken x) at u false v k h' e did = absurd did
-made_due Hand.Empty at u b v k h' e did = cc
-made_due (Hand.Done x o) at u b v k h' e did = cc
-made_due (Hand.Answered place t) at u b v k h' e did = cc
+made_due : (h : Hand) (at : ℕ) (u : PlainUnit) (b : Bool) (v : PlainUnit) (h' : declared.Hand) → committing_unit h ≡ Some at
+    → Commits h u b v (hand_of h') → receipts_due h' ≡ receipts_made b h'
+made_due (Hand.Taken x) at u true v h' e did = refl
+made_due (Hand.Taken x) at u false v h' e did = taken_due h' x did.hand
+made_due Hand.Empty at u b v h' e did = cc
+made_due (Hand.Done x o) at u b v h' e did = cc
+made_due (Hand.Answered place t) at u b v h' e did = cc
 
 -- a commit counts the receipt that it leaves in the hand
 pub commit_tallies : (lost : Option Ticket) (n n' : ℕ) (kept : Kept) (h h' : declared.Hand) (at : ℕ) (u : PlainUnit) (b : Bool)
     (v : PlainUnit) → committing_unit (hand_of h) ≡ Some at → Commits (hand_of h) u b v (hand_of h')
     → n' ≡ n + receipts_made b h' → Tallies lost n kept h → Tallies lost n' kept h'
 commit_tallies None n n' kept h h' at u b v e did counted even =
-    omega (arith, even, counted, committing_due h at e, made_due (hand_of h) at u b v (hand_of h') h' e did)
+    omega (arith, even, counted, committing_due h at e, made_due (hand_of h) at u b v h' e did)
 commit_tallies (Some t) n n' kept h h' at u b v e did counted even = refl
 
 some_is : {X : Type 0} {x y : X} → Some x ≡ Some y → x ≡ y

@@ -125,7 +125,7 @@ addressed_open wanted inventory units fresh is k u at =
     )
 
 -- its disk is in memory
-none_backed : (wanted : List UnitSpec) (units : List PlainUnit) → AreFresh wanted units
+pub none_backed : (wanted : List UnitSpec) (units : List PlainUnit) → AreFresh wanted units
     → Everywhere (λ (i : ℕ) (u : PlainUnit). u.backed ≡ false) units
 none_backed wanted units fresh =
     each_made (λ (k : ℕ) (u : UnitSpec). opening_unit (map address_of wanted) u) (λ (k : ℕ) (u : PlainUnit). u.backed ≡ false)

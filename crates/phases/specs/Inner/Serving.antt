@@ -1,5 +1,5 @@
 -- What is done of a request at once: it is taken from its queue, comes to its unit, runs, is answered and leaves.
-use Rattle.std.specs.Prelude.{ℕ, ◌≡◌, Bool, true, List, [], ◌∷◌, Option, Some, None}
+use Rattle.std.specs.Prelude.{ℕ, ◌≡◌, ◌⊎◌, Bool, true, List, [], ◌∷◌, Option, Some, None}
 use Rattle.unit_model.specs.Jobs.{PlainJob, Jobs}
 use Rattle.unit_model.specs.Unit.{PlainUnit}
 use Rattle.device_model.specs.Parts.{Outcome, Slot, Hand}
@@ -19,13 +19,19 @@ pub record ServesAtOnce (x : PlainJob) (u : PlainUnit) (q : BareQueue) (m : List
   pub answers : Answers (Hand.Done x outcome) q m true q' m' (Hand.Answered x.unit x.chain.ticket)
   pub leaves : Leaves (Hand.Answered x.unit x.chain.ticket) committed out left u' Hand.Empty out'
 
--- nothing but the unit and the slot changed: it only entered, or was refused
+-- what a request that isn't answered hands out: nothing; or its job, whose command waits for its unit's disk
+abbrev pub HandsOn : PlainJob → PlainUnit → List PlainJob → Type 0
+HandsOn x u more = (more ≡ []) ⊎ ((more ≡ x ∷ []) × (u.backed ≡ true))
+
+-- nothing but the unit, the slot and the list changed: it only entered, or was refused
 pub record OnlyEnters (x : PlainJob) (u : PlainUnit) (q : BareQueue) (m : List ℕ) (out : Jobs)
     (u' : PlainUnit) (q' : BareQueue) (m' : List ℕ) (s' : Slot) (out' : Jobs) : Type 0 where
-  pub enters : (list : Jobs) → EntersAs x u list u' s' list
+  pub more : List PlainJob
+  pub waits : HandsOn x u more
+  pub enters : (list : Jobs) → EntersAs x u list u' s' (with_more more list)
   pub queue : q' ≡ q
   pub memory : m' ≡ m
-  pub jobs : out' ≡ out
+  pub jobs : out' ≡ with_more more out
 
 abbrev pub Serves : PlainJob → PlainUnit → BareQueue → List ℕ → Slot → Jobs → Option Bool → PlainUnit → BareQueue → List ℕ
     → Slot → Jobs → Type 0

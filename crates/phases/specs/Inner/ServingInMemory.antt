@@ -10,6 +10,7 @@ use Rattle.phases.specs.DoingUnit.{with_more}
 use Rattle.phases.specs.Direct.{decided_writes}
 use Rattle.phases.specs.Units.{EntersAs, Commits, Leaves}
 use Rattle.phases.specs.Inner.InMemory.{AnswersIn, StaysQueueIn}
+use Rattle.phases.specs.Inner.Serving.{HandsOn}
 
 -- `ServesAtOnce` in such a memory
 pub record ServesAtOnceIn (shared : Bool) (stored : List Write → Type 0) (x : PlainJob) (u : PlainUnit) (q : BareQueue)
@@ -24,14 +25,16 @@ pub record ServesAtOnceIn (shared : Bool) (stored : List Write → Type 0) (x : 
   pub stores : stored (decided_writes q.ring x.chain outcome)
   pub leaves : Leaves (Hand.Answered x.unit x.chain.ticket) committed out gone u' Hand.Empty out'
 
--- nothing but the unit and the slot changed, nothing was stored, and memory is seen as it was found: it only entered, or was
--- refused
+-- nothing but the unit, the slot and the list changed, nothing was stored, and memory is seen as it was found: it only
+-- entered, or was refused
 pub record OnlyEntersIn (stored : List Write → Type 0) (x : PlainJob) (u : PlainUnit) (q : BareQueue) (found : List ℕ)
     (out : Jobs) (u' : PlainUnit) (q' : BareQueue) (left seen : List ℕ) (s' : Slot) (out' : Jobs) : Type 0 where
-  pub enters : (list : Jobs) → EntersAs x u list u' s' list
+  pub more : List PlainJob
+  pub waits : HandsOn x u more
+  pub enters : (list : Jobs) → EntersAs x u list u' s' (with_more more list)
   pub at_queue : StaysQueueIn q q' found left seen
   pub stores : stored []
-  pub jobs : out' ≡ out
+  pub jobs : out' ≡ with_more more out
 
 -- `Serves` in such a memory
 abbrev pub ServesIn : Bool → (List Write → Type 0) → PlainJob → PlainUnit → BareQueue → List ℕ → Slot → Jobs → Option Bool → PlainUnit → BareQueue

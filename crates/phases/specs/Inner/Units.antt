@@ -1,8 +1,6 @@
 -- Rests on `specs/Units.antt`; no promise rests on it.
-use Rattle.std.specs.Prelude.{ℕ, ◌≡◌, ◌⊎◌, Bool, true, List, [], ◌∷◌, length, Result, Ok, Err}
+use Rattle.std.specs.Prelude.{ℕ, ◌≡◌, ◌⊎◌, Bool, true, false, List, [], ◌∷◌, length, Result, Ok, Err}
 use Rattle.foundation.specs.declared.NoMemory.{NoMemory}
-use Rattle.unit_model.specs.Tasks.{Entry}
-use Rattle.unit_model.specs.Lawful as history
 use Rattle.request_intake.specs.Inventory.{PlainInventory}
 use Rattle.unit_model.specs.Jobs.{PlainJob, Jobs}
 use Rattle.unit_model.specs.Unit.{PlainUnit, after as stepped}
@@ -25,21 +23,16 @@ MarksBy m u out (Ok place) u' out' =
     (place ≡ length u.steps) × (u' ≡ stepped (step_by m) u) × (out' ≡ with_more (handed_out u (step_by m)) out)
 MarksBy m u out (Err e) u' out' = (u' ≡ u) × (out' ≡ out)
 
--- nothing changed, and a job that is to be committed waits for pages of its unit's disk: its command may run
-abbrev pub StaysInHand : Hand → PlainUnit → PlainUnit → Hand → Type 0
-StaysInHand (Hand.Taken x) u u' h' =
-    (u' ≡ u) × (h' ≡ Hand.Taken x) × ((e : Entry) × history.IsReady x.entry.ticket e u.steps) × (u.backed ≡ true)
-StaysInHand h u u' h' = (u' ≡ u) × (h' ≡ h)
-
 -- the command waits for pages of its unit's disk: the hand is empty, and the job stands behind those that wait
 abbrev pub DefersTo : PlainJob → PlainUnit → Jobs → PlainUnit → Hand → Jobs → Type 0
 DefersTo x u aside u' h' aside' =
     (k : ℕ) → DoesUnit (Transition.Defer k x) u u' × (h' ≡ Hand.Empty) × (aside' ≡ with_more (x ∷ []) aside)
 
--- a commit, or the job waits
+-- a commit, or the job goes behind those that wait: it never stays in the hand
 abbrev pub CommitsOrDefers : Hand → PlainUnit → Jobs → Bool → PlainUnit → Hand → Jobs → Type 0
 CommitsOrDefers (Hand.Taken x) u aside true u' h' aside' =
     (Commits (Hand.Taken x) u true u' h' × (aside' ≡ aside)) ⊎ DefersTo x u aside u' h' aside'
+CommitsOrDefers (Hand.Taken x) u aside false u' h' aside' = ⊥
 CommitsOrDefers h u aside b u' h' aside' = Commits h u b u' h' × (aside' ≡ aside)
 
 -- what the open function does at its next unit, as `Marks` says it, where it is told whether tasks were marked

@@ -1,5 +1,5 @@
 -- Rests on `specs/Fields.antt`; no promise rests on it.
-use Rattle.std.specs.Prelude.{◌≡◌, true}
+use Rattle.std.specs.Prelude.{◌≡◌}
 use Rattle.backed_store.specs.Disks as disks
 use Rattle.unit_model.specs.Contents.{capacity_of}
 use Rattle.task_set.specs.Inner.Tasks.{seen_of}
@@ -13,4 +13,3 @@ pub record IsTold (u : Inside) : Type 0 where
   pub based : AreBased u.log.base u.log.forgotten u.log.steps (seen_of u.tasks)
   pub sized : disks.size_of u.store ≡ capacity_of (opening_of u) u.log.steps
   pub noted : AreRecorded (opening_of u) u.log.steps u.changes
-  pub whole : disks.is_whole u.store ≡ true

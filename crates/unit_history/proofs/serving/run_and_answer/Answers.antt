@@ -1,4 +1,4 @@
-use Rattle.std.proofs.Common.{◌≡◌, ◌∙◌, ap, List, ℕ, false, None, IsTrue, subst}
+use Rattle.std.proofs.Common.{◌∙◌, ap, false, None, IsTrue, subst}
 use Rattle.block_commands.specs.Inner.Told.{facts_of}
 use Rattle.block_commands.specs.Inner.Ready.{is_read}
 use Rattle.backed_store.specs.Disks as disks

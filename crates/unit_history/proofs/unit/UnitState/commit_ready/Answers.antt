@@ -30,7 +30,6 @@ invariant_of-self c =
       based = c.self.invariant.based;
       sized = c.self.invariant.sized;
       noted = c.self.invariant.noted;
-      whole = c.self.invariant.whole;
     }
 
 pub invariant_of-self-in-Ready : goal.invariant_of-self-in-Ready
@@ -57,7 +56,6 @@ invariant_of-self-in-Ready c =
           (task_at_alive c.self.invariant.kept c.ticket-ticket.result c.in-Some.task.now at).0
           (rw (c.command-command.ensures, c.data-bytes.ensures.data, c.len.ensures) at c.note_command.ensures)
           (c.capacity.ensures ∙ c.perform_if_ready.ensures.size ∙ c.self.invariant.sized) c.record_run.ensures.steps);
-      whole = c.perform_if_ready.ensures.kind ∙ c.self.invariant.whole;
     }
 
 pub returns-in-Unknown-clause-step : goal.returns-in-Unknown-clause-step

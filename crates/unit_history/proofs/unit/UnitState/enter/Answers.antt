@@ -36,7 +36,6 @@ invariant_of-self-in-Err c =
       noted =
           recorded_on _ (Step.Full c.ticket-ticket.result) c.self.inside.log.steps _ _ c.self.invariant.noted (λ b below out. (below, refl))
           (c.push.ensures.steps ∙ ap (λ w. Step.Full c.ticket-ticket.result ∷ w) c.make_way.ensures.steps);
-      whole = c.self.invariant.whole;
     }
 
 pub invariant_of-self-in-Ok-enter : goal.invariant_of-self-in-Ok-enter
@@ -66,7 +65,6 @@ invariant_of-self-in-Ok-enter c =
           recorded_on _ (Step.Enter c.args.arrival.entry) c.self.inside.log.steps _ _ c.self.invariant.noted (λ b below out. (below, refl))
           (c.push-in-Ok-enter.ensures.steps ∙ ap (λ e. Step.Enter e ∷ c.make_way.new.log.steps) c.recorded_entry-entered.ensures
           ∙ ap (λ w. Step.Enter c.args.arrival.entry ∷ w) c.make_way.ensures.steps);
-      whole = c.self.invariant.whole;
     }
 
 pub returns-in-Err : goal.returns-in-Err

@@ -1,4 +1,4 @@
-use Rattle.std.proofs.Common.{◌≡◌, ℕ, length, ◌/◌, ◌%◌, ap, sym, ◌∙◌, ◌++◌, ◌∷◌, [], refl, arith, cond, nat_lt, min}
+use Rattle.std.proofs.Common.{◌≡◌, ℕ, length, ◌/◌, ◌%◌, ap, sym, ◌∙◌, ◌++◌, ◌∷◌, [], arith, cond, nat_lt, min}
 use Rattle.block_store.specs.Blocks.{zero_block}
 use Rattle.block_store.specs.Kept as pages
 use Rattle.block_store.specs.Pages.{blocks_in}
@@ -15,7 +15,7 @@ invariant_of-self c =
     let f = pages.blocks_of s.pages in
     let opened : c.and-self-inside.result.items ≡ s ∷ [] = c.and-self-inside.ensures ∙ ap (λ w. w ++ s ∷ []) c.new.ensures in
     let whole : ((b : ℕ) → length (f b) ≡ 512) = λ b. length-blocks_in (pages.kept s.pages (b / 8)) (b % 8) in
-    let fresh : c.self.inside.log.steps ≡ [] = ap (λ (u : PlainUnit). u.steps) c.self.view_is ∙ c.requires in
+    let fresh : c.self.inside.log.steps ≡ [] = ap (λ (u : PlainUnit). u.steps) c.self.view_is ∙ c.requires.fresh in
     let all : min s.capacity c.capacity-blocks.result ≡ s.capacity = let same = c.capacity-blocks.ensures in omega (arith, same) in
     record {
       kept = opens_again _ _ _ _ _ _ _ _ _ _ fresh c.self.invariant.kept
@@ -25,5 +25,4 @@ invariant_of-self c =
       based = c.self.invariant.based;
       sized = rw fresh c.resize.ensures.size;
       noted = recorded_again _ _ _ _ fresh c.self.invariant.noted;
-      whole = refl;
     }

@@ -44,7 +44,6 @@ invariant_of-self c =
           (behind_moved (freed (entries_of (without t c.self.inside.tasks))) n (without t c.self.inside.tasks) (λ s. refl) (behind_without t n c.self.inside.tasks b)));
       sized = c.self.invariant.sized ∙ rw (c.push.ensures.steps) refl;
       noted = recorded_on _ (Step.Leave t) c.self.inside.log.steps _ _ c.self.invariant.noted (λ b below out. (below, refl)) c.push.ensures.steps;
-      whole = c.self.invariant.whole;
     }
 
 pub returns-clause-step : goal.returns-clause-step

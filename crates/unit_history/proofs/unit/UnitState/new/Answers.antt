@@ -1,4 +1,4 @@
-use Rattle.std.proofs.Common.{ap, sym, ◌∙◌, refl}
+use Rattle.std.proofs.Common.{ap, sym, ◌∙◌}
 use Rattle.block_store.specs.Pages.{blocks_in}
 use Rattle.block_store.proofs.Paging.{blocks_in-none}
 use Rattle.unit_history.specs.Fields.{content_of}
@@ -15,5 +15,4 @@ invariant_of-result-2 c =
       based = based_new _ _ _ _ c.new-4.ensures.steps c.new-3.ensures c.new-4.ensures.base c.new-4.ensures.forgotten;
       sized = rw (c.new-4.ensures.steps) c.new.ensures.capacity;
       noted = recorded_new _ _ _ c.new-4.ensures.steps c.since_place.ensures.since;
-      whole = refl;
     }

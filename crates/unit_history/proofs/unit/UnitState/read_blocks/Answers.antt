@@ -5,11 +5,7 @@ use Rattle.block_commands.proofs.Ranges.{run-agree}
 use Rattle.unit_model.specs.Contents.{blocks_of, capacity_of}
 use Rattle.unit_history.specs.Fields.{opening_of}
 use Rattle.unit_model.specs.Unit.{PlainUnit}
-use Rattle.unit_history.proofs.Readied.{holds_all}
 use Rattle.unit_history.proofs.unit.UnitState.read_blocks.Goals as goal
-
-pub read_blocks-requires-clause-held : goal.read_blocks-requires-clause-held
-read_blocks-requires-clause-held c = λ b within. holds_all c.self.inside.store c.self.invariant.whole b
 
 pub returns-clause-ok : goal.returns-clause-ok
 returns-clause-ok c =

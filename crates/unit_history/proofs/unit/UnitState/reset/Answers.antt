@@ -33,7 +33,6 @@ invariant_of-self-2 c =
           (c.make_way.ensures.clear c.self.invariant.based.clear);
       sized = c.self.invariant.sized ∙ rw (c.push.ensures.steps, c.in_ok-make_way.ensures.steps) refl;
       noted = recorded_on _ (Step.Reset c.args.code) c.self.inside.log.steps _ _ c.self.invariant.noted (λ b below out. (below, refl)) (c.push.ensures.steps ∙ ap (λ w. Step.Reset c.args.code ∷ w) c.make_way.ensures.steps);
-      whole = c.self.invariant.whole;
     }
 
 pub returns-clause-step : goal.returns-clause-step

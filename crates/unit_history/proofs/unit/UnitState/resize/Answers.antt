@@ -35,7 +35,6 @@ invariant_of-self-2 c =
           recorded_resize (opening_of u) c.args.blocks u.log.steps _ _ _ c.self.invariant.noted
           (rw (c.capacity.ensures, c.self.invariant.sized, c.len-place.ensures, c.make_way.ensures.steps) at c.note_growth.ensures.notes)
           (c.push.ensures.steps ∙ ap (λ w. Step.Resize c.args.blocks ∷ w) c.make_way.ensures.steps);
-      whole = c.resize.ensures.kind ∙ c.self.invariant.whole;
     }
 
 pub returns-clause-step : goal.returns-clause-step

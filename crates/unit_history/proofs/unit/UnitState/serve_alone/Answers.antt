@@ -66,7 +66,6 @@ invariant_of-self-2 g c =
           _ _ _ _ c.self.invariant.noted refl
           (rw (c.command-command.ensures, c.data-bytes.ensures.data, c.len-2.ensures, c.in-Ok-make_way.ensures.steps) at c.note_command.ensures)
           (c.capacity.ensures ∙ size ∙ c.self.invariant.sized));
-      whole = c.run_and_answer-ran.ensures.kind ∙ c.may_run.ensures.kind ∙ c.self.invariant.whole;
     }
 
 pub returns-clause-serves : goal.returns-clause-serves
@@ -130,7 +129,6 @@ invariant_of-self-in_default g c =
       based = c.self.invariant.based;
       sized = rw facts (size ∙ c.self.invariant.sized);
       noted = rw facts c.self.invariant.noted;
-      whole = c.may_run.ensures.kind ∙ c.self.invariant.whole;
     }
 
 pub invariant_of-self-in_default-make_way : goal.invariant_of-self-in_default-make_way
@@ -158,5 +156,4 @@ invariant_of-self-in_default-make_way g c =
       based = rw steps (record { based = more.0 ∙ c.self.invariant.based.based; clear = c.make_way.ensures.clear c.self.invariant.based.clear });
       sized = rw (facts, steps) (size ∙ c.self.invariant.sized);
       noted = rw (facts, steps) c.self.invariant.noted;
-      whole = c.may_run.ensures.kind ∙ c.self.invariant.whole;
     }
