@@ -4,7 +4,7 @@ use Rattle.backed_store.specs.Marks.{State, changed}
 use Rattle.backed_store.specs.Marks as marks
 use Rattle.backed_store.specs.Caches as caches
 use Rattle.backed_store.specs.Caches.{state_at, number_at, again_at}
-use Rattle.backed_store.specs.Stores.{is_dirty, is_writing, is_rewritten, host_of, IsOwed, IsHost}
+use Rattle.backed_store.specs.Stores.{is_dirty, is_writing, is_rewritten, storage_of, ledger_of, IsOwed, IsHost}
 use Rattle.backed_store.specs.declared.backed.BackedStore.{BackedStore}
 
 -- a page of which a write is under way, and that changed too, is so again
@@ -63,11 +63,10 @@ module _ (old new : BackedStore) (page : ℕ)
     again = again p;
   }
 
-  pub changed-host : ((b : ℕ) → (host_of new).given b ≡ (host_of old).given b) → ((b : ℕ) → (host_of new).kept b ≡ (host_of old).kept b) →
-      caches.OwesNoMore old.cache new.cache → IsHost old new
-  changed-host given kept owing = record {
-    given = given;
-    kept = kept;
+  pub changed-host : storage_of new ≡ storage_of old → ledger_of new ≡ ledger_of old → caches.OwesNoMore old.cache new.cache → IsHost old new
+  changed-host storage ledger owing = record {
+    storage = storage;
+    ledger = ledger;
     owed = changed_owed;
     writing = λ p. writing_on p (p == page) refl;
     owing = record { latest = owing.latest; dues = owing.dues };

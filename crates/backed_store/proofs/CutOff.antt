@@ -5,7 +5,7 @@ use Rattle.std.proofs.lemmas.Bool.{cases_eq}
 use Rattle.std.proofs.lemmas.Bool.Decides.{nat_tests, leb_tells}
 use Rattle.block_store.specs.Blocks.{Blocks, nth_block, zero_block, zeroed, is_within}
 use Rattle.backed_store.specs.Marks.{State, state_of}
-use Rattle.backed_store.specs.Backing.{cut}
+use Rattle.block_store.specs.Storage.{cut}
 use Rattle.backed_store.specs.Slots.{slot_at, mark_at, bytes_at, bytes_of}
 use Rattle.backed_store.specs.declared.slot.Slot.{Slot}
 use Rattle.backed_store.specs.declared.slots.Slots.{Slots}

@@ -1,8 +1,23 @@
--- One thing more that was done.
-use Rattle.std.proofs.Common.{◌≡◌, List, [], ◌∷◌, ◌++◌, refl}
+-- One thing more that was done, and what the host's storage has by all that was.
+use Rattle.std.proofs.Common.{◌≡◌, List, [], ◌∷◌, ◌++◌, map, refl, ap}
 use Rattle.backed_store.specs.declared.dealing.Dealing.{Dealing}
-use Rattle.backed_store.specs.Backing.{Host, after, after_all}
+use Rattle.backed_store.specs.declared.backed.BackedStore.{BackedStore}
+use Rattle.block_store.specs.Storage.{Storage, all_dealt, opening, storage_by}
+use Rattle.backed_store.specs.Backing.{plain, after, after_all}
+use Rattle.backed_store.specs.Stores.{storage_of, ledger_of}
 
-pub after-last : (ds : List Dealing) (d : Dealing) (h : Host) → after_all (ds ++ d ∷ []) h ≡ after d (after_all ds h)
+pub after-last : (ds : List Dealing) (d : Dealing) (h : Storage) → after_all (ds ++ d ∷ []) h ≡ after d (after_all ds h)
 after-last [] d h = refl
 after-last (e ∷ more) d h = after-last more d (after e h)
+
+pub plain-last : (ds : List Dealing) (d : Dealing) → map plain (ds ++ d ∷ []) ≡ map plain ds ++ plain d ∷ []
+plain-last [] d = refl
+plain-last (e ∷ more) d = ap (λ l. plain e ∷ l) (plain-last more d)
+
+all-plain : (ds : List Dealing) (h : Storage) → after_all ds h ≡ all_dealt (map plain ds) h
+all-plain [] h = refl
+all-plain (d ∷ more) h = all-plain more (after d h)
+
+-- as its ledger says
+pub by-ledger : (s : BackedStore) → storage_of s ≡ storage_by (ledger_of s)
+by-ledger s = all-plain s.dealings.items (opening s.content.items)

@@ -1,12 +1,12 @@
 -- A flush goes on, and what a crash leaves once it is over.
-use Rattle.std.proofs.Common.{◌≡◌, ◌≢◌, inl, inr, ℕ, ◌*◌, ◌/◌, ◌%◌, ◌==◌, ◌<◌, ◌≤◌, nat_lt, Bool, true, false, IsTrue, List, Option, Some, None, if◌then◌else◌, refl, sym, ◌∙◌, subst, arith}
+use Rattle.std.proofs.Common.{◌≡◌, ◌≢◌, inl, inr, ℕ, ◌*◌, ◌/◌, ◌%◌, ◌==◌, ◌<◌, ◌≤◌, nat_lt, Bool, true, false, IsTrue, List, Option, Some, None, if◌then◌else◌, refl, sym, ◌∙◌, ap, subst, arith}
 use Rattle.std.proofs.lemmas.Bool.Decides.{nat_tests, leb_tells}
 use Rattle.block_store.specs.Blocks.{Blocks, nth_block, zero_block}
 use Rattle.backed_store.specs.Marks.{State, state_of, is_steady, has_room}
 use Rattle.backed_store.specs.Marks as marks
-use Rattle.backed_store.specs.Backing.{cut}
+use Rattle.block_store.specs.Storage.{Storage, cut}
 use Rattle.backed_store.specs.Caches.{mark_at, state_at, bytes_at}
-use Rattle.backed_store.specs.Stores.{contents, backing_of, host_of, is_dirty, is_writing, is_rewritten, number_of, again_of, latest_of, IsOwed, IsHost}
+use Rattle.backed_store.specs.Stores.{contents, backing_of, storage_of, is_dirty, is_writing, is_rewritten, number_of, again_of, latest_of, IsOwed, IsHost}
 use Rattle.backed_store.specs.Flushes.{owes, IsFlushed, HasBeen, IsFlushing, KeepsFlushes, IsLeft}
 use Rattle.backed_store.specs.declared.mark.Mark.{Mark}
 use Rattle.backed_store.specs.declared.backed.BackedStore.{BackedStore}
@@ -28,9 +28,9 @@ as-given state bytes kept given k writes same steady = by_test state.held state.
     by_test false writing still there gives moved = let never = rw there at writes in let no : false ≡ true = never in cc
 
 pub contents-given : (s : BackedStore) (b : ℕ) → is_writing s (b / 8) ≡ true → is_rewritten s (b / 8) ≡ false →
-    (host_of s).given b ≡ contents s b
+    (storage_of s).given b ≡ contents s b
 contents-given s b writes same =
-    as-given (state_at s.cache (b / 8)) (bytes_at s.cache (b / 8)) (backing_of s b) ((host_of s).given b) (b % 8) writes same (s.steady b)
+    as-given (state_at s.cache (b / 8)) (bytes_at s.cache (b / 8)) (backing_of s b) ((storage_of s).given b) (b % 8) writes same (s.steady b)
 
 -- what the host's storage has of a page that doesn't owe
 pub kept-on : (moments : ℕ → Blocks) (n : ℕ) (old new : BackedStore) (b : ℕ) → IsFlushing moments n old → IsOwed old new (b / 8) →
@@ -47,10 +47,10 @@ kept-on moments n old new b was owed paid = by_test (is_dirty old (b / 8)) refl
 -- what it was given of a page that won't owe
 pub given-on : (moments : ℕ → Blocks) (n : ℕ) (old new : BackedStore) (b : ℕ) → IsFlushing moments n old → IsOwed old new (b / 8) →
     IsTrue (is_writing old (b / 8)) → (IsTrue (is_rewritten new (b / 8)) → n < again_of new (b / 8)) →
-    HasBeen moments b ((host_of old).given b)
+    HasBeen moments b ((storage_of old).given b)
 given-on moments n old new b was owed writes paid = by_test (is_rewritten old (b / 8)) refl
   where
-    by_test : (t : Bool) → is_rewritten old (b / 8) ≡ t → HasBeen moments b ((host_of old).given b)
+    by_test : (t : Bool) → is_rewritten old (b / 8) ≡ t → HasBeen moments b ((storage_of old).given b)
     by_test true is =
         let number = owed.again is in
         let later = paid (owed.rewritten is) in
@@ -61,9 +61,9 @@ pub goes-on : (old new : BackedStore) → IsHost old new → KeepsFlushes old ne
 goes-on old new host = λ moments n m was at.
     record {
       now = λ b. record { moment = m; is = at b };
-      kept = λ b paid. has-been (kept-on moments n old new b was (host.owed (b / 8)) paid) (host.kept b);
+      kept = λ b paid. has-been (kept-on moments n old new b was (host.owed (b / 8)) paid) (ap (λ (z : Storage). z.kept b) host.storage);
       given = λ b writes paid.
-          has-been (given-on moments n old new b was (host.owed (b / 8)) (sym (host.writing (b / 8)) ∙ writes) paid) (host.given b);
+          has-been (given-on moments n old new b was (host.owed (b / 8)) (sym (host.writing (b / 8)) ∙ writes) paid) (ap (λ (z : Storage). z.given b) host.storage);
     }
 
 -- a page whose write is under way has room
@@ -94,7 +94,7 @@ begins s moments m at =
     kept_of b paid false clean = record { moment = m; is = sym (contents-kept s b clean) ∙ at b }
 
     given_of : (b : ℕ) → IsTrue (is_writing s (b / 8)) → (IsTrue (is_rewritten s (b / 8)) → latest_of s < again_of s (b / 8)) →
-        (t : Bool) → is_rewritten s (b / 8) ≡ t → HasBeen moments b ((host_of s).given b)
+        (t : Bool) → is_rewritten s (b / 8) ≡ t → HasBeen moments b ((storage_of s).given b)
     given_of b writes paid true is =
         let young = paid is in
         let old = s.cache.indexed.again (b / 8) in
@@ -121,7 +121,7 @@ ends s moments n left was leaves flushed b = ends-page s moments n left was leav
 
 -- over a cut
 pub goes-cut : (old new : BackedStore) (left : ℕ) → ((b : ℕ) → contents new b ≡ cut left (contents old) b) →
-    ((b : ℕ) → backing_of new b ≡ cut left (backing_of old) b) → ((b : ℕ) → (host_of new).given b ≡ cut left (host_of old).given b) →
+    ((b : ℕ) → backing_of new b ≡ cut left (backing_of old) b) → ((b : ℕ) → (storage_of new).given b ≡ cut left (storage_of old).given b) →
     ((p : ℕ) → mark_at new.cache p ≡ (if nat_lt (8 * p) left then mark_at old.cache p else None)) → KeepsFlushes old new
 goes-cut old new left blocks keeps gives marked = λ moments n m was at.
     record {
@@ -135,7 +135,7 @@ goes-cut old new left blocks keeps gives marked = λ moments n m was at.
             has-been (was.kept b owing) (keeps b ∙ rw test refl)
       ];
       given = λ b writes paid. elim (leb_tells left b) [
-        | inl past ↦ behind moments m at b past.1 ((host_of new).given b) ((host_of old).given b) (gives b)
+        | inl past ↦ behind moments m at b past.1 ((storage_of new).given b) ((storage_of old).given b) (gives b)
         | inr short ↦
             let test : nat_lt b left ≡ true = grind (arith, nat_tests, short.1) in
             let same : mark_at new.cache (b / 8) ≡ mark_at old.cache (b / 8) = stays b short.1 in

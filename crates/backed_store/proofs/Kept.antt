@@ -28,8 +28,8 @@ owing-then {b = b} one two = record {
 
 pub host-then : {a b c : BackedStore} → IsHost a b → IsHost b c → IsHost a c
 host-then one two = record {
-  given = λ n. two.given n ∙ one.given n;
-  kept = λ n. two.kept n ∙ one.kept n;
+  storage = two.storage ∙ one.storage;
+  ledger = two.ledger ∙ one.ledger;
   owed = λ p. owed-then (one.owed p) (two.owed p);
   writing = λ p. two.writing p ∙ one.writing p;
   owing = owing-then one.owing two.owing;

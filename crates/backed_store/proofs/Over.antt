@@ -7,7 +7,7 @@ use Rattle.block_store.specs.Pages.{blocks_in}
 use Rattle.block_store.specs.Inner.Whole.{length-nth_block}
 use Rattle.block_store.proofs.Paging.{blocks_in-whole}
 use Rattle.backed_store.specs.Marks.{State, state_of, is_clean, is_steady, given}
-use Rattle.backed_store.specs.Backing.{with_page}
+use Rattle.block_store.specs.Storage.{with_page}
 use Rattle.backed_store.specs.Slots.{bytes_of}
 use Rattle.backed_store.specs.declared.dealing.Dealing.{Dealing}
 use Rattle.backed_store.specs.declared.dealing.Dealing.TheVariants.{Given, Kept, Cut}

@@ -1,6 +1,7 @@
 -- A disk, whether its pages may go or not.
-use Rattle.std.specs.Prelude.{◌≡◌, ℕ, ◌/◌, ◌%◌, Bool, true, false, length}
+use Rattle.std.specs.Prelude.{◌≡◌, ℕ, ◌/◌, ◌%◌, Bool, true, false, length, Option, Some, None, is_some}
 use Rattle.block_store.specs.Blocks.{Blocks}
+use Rattle.block_store.specs.Storage.{Ledger}
 use Rattle.block_store.specs.Kept as pages
 use Rattle.block_store.specs.Inner.Padding.{length-blocks_in}
 use Rattle.backed_store.specs.Stores as backed
@@ -34,10 +35,14 @@ abbrev pub has_room : Disk → ℕ → Bool
 has_room (Whole s) b = true
 has_room (Backed s) b = backed.has_room s b
 
--- whether all its pages stay in memory
-abbrev pub is_whole : Disk → Bool
-is_whole (Whole s) = true
-is_whole (Backed s) = false
+-- what its host's storage had and was dealt, if its pages come and go
+abbrev pub storage_of : Disk → Option Ledger
+storage_of (Whole s) = None
+storage_of (Backed s) = Some (backed.ledger_of s)
+
+-- whether its pages come and go
+abbrev pub is_backed : Disk → Bool
+is_backed d = is_some (storage_of d)
 
 -- the number of its latest change; 0 of one that isn't backed
 abbrev pub latest_of : Disk → ℕ

@@ -3,7 +3,7 @@ use Rattle.std.specs.Prelude.{◌≡◌, ◌⊎◌, ℕ, ◌/◌, ◌<◌, ◌&&
 use Rattle.block_store.specs.Blocks.{Blocks}
 use Rattle.backed_store.specs.Marks as marks
 use Rattle.backed_store.specs.Caches.{mark_at}
-use Rattle.backed_store.specs.Stores.{contents, backing_of, host_of, is_dirty, is_writing, is_rewritten, number_of, again_of}
+use Rattle.backed_store.specs.Stores.{contents, backing_of, storage_of, is_dirty, is_writing, is_rewritten, number_of, again_of}
 use Rattle.backed_store.specs.declared.backed.BackedStore.{BackedStore}
 
 -- whether page p owes the host's storage change n or an older one; a page that is about to be changed counts as changed
@@ -26,7 +26,7 @@ pub record IsFlushing (moments : ℕ → Blocks) (n : ℕ) (s : BackedStore) : T
   pub now : (b : ℕ) → HasBeen moments b (contents s b)
   pub kept : (b : ℕ) → (IsTrue (is_dirty s (b / 8)) → n < number_of s (b / 8)) → HasBeen moments b (backing_of s b)
   pub given : (b : ℕ) → IsTrue (is_writing s (b / 8)) → (IsTrue (is_rewritten s (b / 8)) → n < again_of s (b / 8)) →
-      HasBeen moments b ((host_of s).given b)
+      HasBeen moments b ((storage_of s).given b)
 
 -- a flush that began goes on, where the blocks are as at one of its moments
 abbrev pub KeepsFlushes : BackedStore → BackedStore → Type 0
@@ -36,4 +36,4 @@ KeepsFlushes old new = (moments : ℕ → Blocks) (n m : ℕ) → IsFlushing mom
 -- what a crash leaves in the host's storage: of each block what it kept last, or, while a write of its page is under way,
 -- what it was given
 abbrev pub IsLeft : BackedStore → Blocks → Type 0
-IsLeft s left = (b : ℕ) → (left b ≡ backing_of s b) ⊎ (IsTrue (is_writing s (b / 8)) × (left b ≡ (host_of s).given b))
+IsLeft s left = (b : ℕ) → (left b ≡ backing_of s b) ⊎ (IsTrue (is_writing s (b / 8)) × (left b ≡ (storage_of s).given b))

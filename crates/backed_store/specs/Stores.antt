@@ -1,19 +1,24 @@
 -- A backed store.
-use Rattle.std.specs.Prelude.{◌≡◌, ℕ, ◌+◌, ◌*◌, ◌/◌, ◌%◌, ◌^◌, ◌<◌, ◌≤◌, Bool, List, IsTrue, if◌then◌else◌}
+use Rattle.std.specs.Prelude.{◌≡◌, ℕ, ◌+◌, ◌*◌, ◌/◌, ◌%◌, ◌^◌, ◌<◌, ◌≤◌, Bool, List, map, IsTrue, if◌then◌else◌}
 use Rattle.block_store.specs.Blocks.{Blocks, nth_block}
 use Rattle.backed_store.specs.Marks as marks
 use Rattle.backed_store.specs.Marks.{State}
 use Rattle.backed_store.specs.Caches.{mark_at, state_at, bytes_at, number_at, again_at}
-use Rattle.backed_store.specs.Backing.{Host, after_all, opening}
+use Rattle.block_store.specs.Storage.{Storage, Ledger, opening}
+use Rattle.backed_store.specs.Backing.{plain, after_all}
 use Rattle.backed_store.specs.declared.backed.BackedStore.{BackedStore}
 
 -- what the host was given, and what its storage has, as far as the host said
-abbrev pub host_of : BackedStore → Host
-host_of s = after_all s.dealings.items (opening s.content.items)
+abbrev pub storage_of : BackedStore → Storage
+storage_of s = after_all s.dealings.items (opening s.content.items)
+
+-- how that came about
+abbrev pub ledger_of : BackedStore → Ledger
+ledger_of s = record { content = s.content.items; dealings = map plain s.dealings.items }
 
 -- the blocks that the host's storage has, as far as the host said
 abbrev pub backing_of : BackedStore → Blocks
-backing_of s = (host_of s).kept
+backing_of s = (storage_of s).kept
 
 -- whether block b is in memory
 abbrev pub holds : BackedStore → ℕ → Bool
@@ -83,10 +88,6 @@ pub record IsOwed (old new : BackedStore) (p : ℕ) : Type 0 where
   pub rewritten : IsTrue (is_rewritten old p) → IsTrue (is_rewritten new p)
   pub again : IsTrue (is_rewritten old p) → again_of new p ≡ again_of old p
 
--- the bytes are the 8 blocks of page p
-abbrev pub IsPageOf : Blocks → ℕ → List ℕ → Type 0
-IsPageOf blocks p bytes = (k : ℕ) → k < 8 → nth_block bytes k ≡ blocks (8 * p + k)
-
 -- all of a store but which pages are in memory
 pub record IsSame (old new : BackedStore) : Type 0 where
   pub blocks : (b : ℕ) → contents new b ≡ contents old b
@@ -94,8 +95,8 @@ pub record IsSame (old new : BackedStore) : Type 0 where
 
 -- what the host was given and kept, and is owed
 pub record IsHost (old new : BackedStore) : Type 0 where
-  pub given : (b : ℕ) → (host_of new).given b ≡ (host_of old).given b
-  pub kept : (b : ℕ) → (host_of new).kept b ≡ (host_of old).kept b
+  pub storage : storage_of new ≡ storage_of old
+  pub ledger : ledger_of new ≡ ledger_of old
   pub owed : (p : ℕ) → IsOwed old new p
   pub writing : (p : ℕ) → is_writing new p ≡ is_writing old p
   pub owing : OwesNoMore old new

@@ -4,7 +4,8 @@ ghost use Rattle.std.specs.Prelude.{◌≡◌, ℕ, ◌/◌, ◌%◌, ◌^◌, �
 ghost use Rattle.block_store.specs.Blocks.{nth_block};
 ghost use Rattle.backed_store.specs.Marks.{is_clean, is_steady};
 ghost use Rattle.backed_store.specs.Caches.{state_at, bytes_at};
-ghost use Rattle.backed_store.specs.Backing.{after_all, opening};
+ghost use Rattle.block_store.specs.Storage.{opening};
+ghost use Rattle.backed_store.specs.Backing.{after_all};
 
 use crate::cache::Cache;
 use crate::dealing::Dealing;
@@ -35,8 +36,8 @@ impl BackedStore {
     ghost use Rattle.std.specs.Prelude.{false, min};
     ghost use Rattle.block_store.specs.Pages.{blocks_in};
     ghost use Rattle.backed_store.specs.Flushes.{KeepsFlushes};
-    ghost use Rattle.backed_store.specs.Stores.{contents, backing_of, holds, OwesNoMore};
-    ghost use Rattle.backed_store.specs.Backing.{cut};
+    ghost use Rattle.backed_store.specs.Stores.{contents, backing_of, ledger_of, holds, OwesNoMore};
+    ghost use Rattle.block_store.specs.Storage.{cut, and_then, Dealing as ADealing};
 
     /// Makes a store of so many blocks, of which the host's storage has this content. No page is in memory. At most
     /// `budget` pages will be. Takes no memory.
@@ -65,6 +66,7 @@ impl BackedStore {
         ensures size { self.new.capacity ≡ blocks }
         ensures blocks { (b : ℕ) → contents self.new b ≡ cut (min self.old.capacity blocks) (contents self.old) b }
         ensures backing { (b : ℕ) → backing_of self.new b ≡ cut (min self.old.capacity blocks) (backing_of self.old) b }
+        ensures storage { ledger_of self.new ≡ and_then (ADealing.Cut (min self.old.capacity blocks)) (ledger_of self.old) }
         ensures held { (b : ℕ) → b < min self.old.capacity blocks → holds self.new b ≡ holds self.old b }
         ensures owing { OwesNoMore self.old self.new }
         ensures flushes { KeepsFlushes self.old self.new }

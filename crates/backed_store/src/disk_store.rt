@@ -5,7 +5,7 @@ use block_store::{BLOCK_BYTES, Edges, Prepared, Readiness, Store};
 use foundation::NoMemory;
 
 impl Store for Disk {
-    ghost use Rattle.backed_store.specs.Disks.{size_of, blocks_of, holds, is_coming, has_room, is_whole, length-block};
+    ghost use Rattle.backed_store.specs.Disks.{size_of, blocks_of, holds, is_coming, has_room, storage_of, length-block};
 
     ghost size = { size_of };
 
@@ -17,7 +17,7 @@ impl Store for Disk {
 
     ghost has_room = { has_room };
 
-    ghost is_whole = { is_whole };
+    ghost storage = { storage_of };
 
     ghost whole = { λ d b below. length-block d b };
 
@@ -84,17 +84,19 @@ impl Store for Disk {
 }
 
 impl Disk {
-    ghost use Rattle.std.specs.Prelude.{◌≡◌, ℕ, ◌+◌, ◌^◌, ◌<◌, ◌≤◌, IfOk, IfSome, OnErr, IsTrue, IsFalse, false, nat_lt, min, if◌then◌else◌};
+    ghost use Rattle.std.specs.Prelude.{◌≡◌, ℕ, ◌+◌, ◌^◌, ◌<◌, ◌≤◌, IfOk, IfSome, OnErr, IsTrue, IsFalse, false, not, nat_lt, min, if◌then◌else◌};
     ghost use Rattle.block_store.specs.Blocks.{zero_block};
     ghost use Rattle.block_store.specs.Drafts.{edges_draft, prepared_draft};
     ghost use Rattle.block_store.specs.Inner.Drafts.{IsAsCopied};
+    ghost use Rattle.std.specs.Option.{option_map};
+    ghost use Rattle.block_store.specs.Storage.{Dealing, and_then};
     ghost use Rattle.block_store.specs.Pages.{covered};
-    ghost use Rattle.backed_store.specs.Disks.{size_of, blocks_of, holds, is_coming, has_room, is_whole, latest_of, owes};
+    ghost use Rattle.backed_store.specs.Disks.{size_of, blocks_of, holds, is_coming, has_room, storage_of, is_backed, latest_of, owes};
 
     /// Returns true if it isn't backed: all its blocks are in memory, now and later, and can be written over.
     #[inline(always)]
     pub fn is_resident(&self) -> bool
-        ensures kind { result ≡ is_whole self.now }
+        ensures kind { result ≡ not (is_backed self.now) }
         ensures held { IsTrue result → (b : ℕ) → IsTrue (holds self.now b) }
         ensures room { IsTrue result → (b : ℕ) → IsTrue (has_room self.now b) }
     {
@@ -119,7 +121,7 @@ impl Disk {
     pub fn is_flushed(&self, number: u64) -> bool
         ensures yes { IsTrue result → (p : ℕ) → owes self.now number p ≡ false }
         ensures no { IsFalse result → (p : ℕ) × IsTrue (owes self.now number p) }
-        ensures whole { IsTrue (is_whole self.now) → IsTrue result }
+        ensures whole { is_backed self.now ≡ false → IsTrue result }
     {
         match self {
             Disk::Whole(_) => true,
@@ -135,7 +137,7 @@ impl Disk {
         ensures held { (b : ℕ) → holds self.new b ≡ holds self.old b }
         ensures coming { (b : ℕ) → is_coming self.new b ≡ is_coming self.old b }
         ensures keeps_room { (b : ℕ) → has_room self.new b ≡ has_room self.old b }
-        ensures kind { is_whole self.new ≡ is_whole self.old }
+        ensures storage { storage_of self.new ≡ storage_of self.old }
     {
         match self {
             Disk::Whole(_) => {}
@@ -172,7 +174,7 @@ impl Disk {
         ensures size { size_of self.new ≡ size_of self.old }
         ensures held { (b : ℕ) → IsTrue (holds self.old b) → IsTrue (holds self.new b) }
         ensures keeps_room { (b : ℕ) → IsTrue (has_room self.old b) → IsTrue (has_room self.new b) }
-        ensures kind { is_whole self.new ≡ is_whole self.old }
+        ensures storage { storage_of self.new ≡ storage_of self.old }
     {
         match self {
             Disk::Whole(store) => store.install(prepared),
@@ -188,7 +190,7 @@ impl Disk {
         ensures size { size_of self.new ≡ blocks }
         ensures blocks { (b : ℕ) → blocks_of self.new b
             ≡ (if nat_lt b (min (size_of self.old) blocks) then blocks_of self.old b else zero_block) }
-        ensures kind { is_whole self.new ≡ is_whole self.old }
+        ensures storage { storage_of self.new ≡ option_map (and_then (Dealing.Cut (min (size_of self.old) blocks))) (storage_of self.old) }
     {
         match self {
             Disk::Whole(store) => store.resize(blocks),

@@ -21,6 +21,7 @@ mod change_set;
 mod cutting;
 mod dealing;
 mod disk;
+mod disk_paging;
 mod disk_store;
 mod evicting;
 mod fencing;

@@ -1,10 +1,10 @@
 //! Pages that come and go.
 
 ghost use Rattle.std.specs.Prelude.{◌≡◌, ◌≢◌, ℕ, ◌*◌, ◌/◌, ◌^◌, ◌<◌, ◌≤◌, ◌&&◌, not, true, false, length, IsTrue, IsFalse, IfOk, OnOk, OnErr, IfSome, IfNone, if◌then◌else◌};
-ghost use Rattle.backed_store.specs.Backing.{with_page};
+ghost use Rattle.block_store.specs.Storage.{with_page, IsPageOf, and_then, Dealing as ADealing};
 ghost use Rattle.backed_store.specs.Spared.{is_spared};
 ghost use Rattle.backed_store.specs.Flushes.{owes, KeepsFlushes};
-ghost use Rattle.backed_store.specs.Stores.{contents, holds, is_coming, has_room, is_wanted, is_reading, is_writing, is_dirty, is_rewritten, may_go, number_of, again_of, dues, host_of, backing_of, IsPageOf, IsSame, IsHost, IsOwed, OwesNoMore};
+ghost use Rattle.backed_store.specs.Stores.{contents, holds, is_coming, has_room, is_wanted, is_reading, is_writing, is_dirty, is_rewritten, may_go, number_of, again_of, dues, storage_of, ledger_of, backing_of, IsSame, IsHost, IsOwed, OwesNoMore};
 
 use crate::backed::BackedStore;
 use crate::dealing::{Dealing, GivenPage};
@@ -86,7 +86,11 @@ impl BackedStore {
         ensures dirty { IfOk result (λ given. IfSome given (λ g. IsTrue (is_dirty self.old g.page))) }
         ensures bytes { IfOk result (λ given. IfSome given (λ g. IsPageOf (contents self.old) g.page g.bytes.items)) }
         ensures given { IfOk result (λ given. IfSome given (λ g. (b : ℕ) →
-            (host_of self.new).given b ≡ with_page g.page (contents self.old) (host_of self.old).given b)) }
+            (storage_of self.new).given b ≡ with_page g.page (contents self.old) (storage_of self.old).given b)) }
+        ensures taken { IfOk result (λ given. IfSome given (λ g.
+            ledger_of self.new ≡ and_then (ADealing.Give g.page g.bytes.items) (ledger_of self.old))) }
+        ensures untaken { IfOk result (λ given. IfNone given (ledger_of self.new ≡ ledger_of self.old)) }
+        ensures refused { OnErr result (ledger_of self.new ≡ ledger_of self.old) }
         ensures none { IfOk result (λ given. IfNone given ((p : ℕ) → IsTrue (is_dirty self.new p) → IsTrue (is_writing self.new p))) }
         ensures kept { (b : ℕ) → backing_of self.new b ≡ backing_of self.old b }
         ensures owed { (p : ℕ) → IsOwed self.old self.new p }
@@ -115,14 +119,18 @@ impl BackedStore {
 
     /// Notes that the host's write of a page is over: its storage gives the page back as it was given, after a crash too, or
     /// the write failed. A host may sync several writes at once, and then say so of each. The page is clean where it was kept
-    /// and didn't change meanwhile; else it is to be written again. `NoMemory` where memory was refused: the host says it again
-    /// later.
-    pub fn written(&mut self, page: u64, kept: bool) -> Result<(), NoMemory>
+    /// and didn't change meanwhile; else it is to be written again. Returns true if the host's storage has the page as it was
+    /// given: not where no write of it was under way. `NoMemory` where memory was refused: the host says it again later.
+    pub fn written(&mut self, page: u64, kept: bool) -> Result<bool, NoMemory>
         ensures same { IsSame self.old self.new }
-        ensures given { (b : ℕ) → (host_of self.new).given b ≡ (host_of self.old).given b }
+        ensures given { (b : ℕ) → (storage_of self.new).given b ≡ (storage_of self.old).given b }
         ensures kept { OnOk result ((b : ℕ) → backing_of self.new b
-            ≡ (if kept && is_writing self.old page then with_page page (host_of self.old).given (backing_of self.old) b else backing_of self.old b)) }
-        ensures err { OnErr result ((b : ℕ) → backing_of self.new b ≡ backing_of self.old b) }
+            ≡ (if kept && is_writing self.old page
+            then with_page page (storage_of self.old).given (backing_of self.old) b else backing_of self.old b)) }
+        ensures told { IfOk result (λ done. done ≡ (kept && is_writing self.old page)) }
+        ensures storage { IfOk result (λ done. ledger_of self.new
+            ≡ (if done then and_then (ADealing.Keep page) (ledger_of self.old) else ledger_of self.old)) }
+        ensures err { OnErr result (ledger_of self.new ≡ ledger_of self.old) }
         ensures over { OnOk result (is_writing self.new page ≡ false) }
         // What changed since the page was given is owed from the first of these changes on.
         ensures again { OnOk result (IsTrue kept → IsTrue (is_rewritten self.old page) → IsTrue (is_dirty self.new page)) }
@@ -140,16 +148,16 @@ impl BackedStore {
         ensures held { (b : ℕ) → holds self.new b ≡ holds self.old b }
     {
         let Some(mark) = self.cache.slots.mark(page) else {
-            return Ok(());
+            return Ok(false);
         };
         if !mark.held || !mark.writing {
-            return Ok(());
+            return Ok(false);
         }
         self.cache.end_write(page, kept)?;
         if kept {
             given::record(&mut self.dealings, &Dealing::Kept(page));
         }
-        Ok(())
+        Ok(kept)
     }
 
     /// Drops a clean page from memory with which the host has nothing to do, that isn't about to be changed, and that isn't

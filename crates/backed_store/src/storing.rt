@@ -8,8 +8,8 @@ use foundation::NoMemory;
 static ZEROS: [u8; BLOCK_BYTES] = [0; BLOCK_BYTES];
 
 impl Store for BackedStore {
-    ghost use Rattle.std.specs.Prelude.{false};
-    ghost use Rattle.backed_store.specs.Stores.{contents, holds, is_coming, has_room};
+    ghost use Rattle.std.specs.Prelude.{Some};
+    ghost use Rattle.backed_store.specs.Stores.{contents, holds, is_coming, has_room, ledger_of};
     ghost use Rattle.backed_store.specs.Inner.Whole.{length-contents};
 
     ghost size = { λ s. s.capacity };
@@ -22,7 +22,7 @@ impl Store for BackedStore {
 
     ghost has_room = { has_room };
 
-    ghost is_whole = { λ s. false };
+    ghost storage = { λ s. Some (ledger_of s) };
 
     ghost whole = { λ s b below. length-contents s b };
 

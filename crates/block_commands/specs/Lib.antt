@@ -15,6 +15,5 @@ pub use Rattle.command_model.specs.Luns
 pub use Rattle.command_model.specs.Provisioning
 pub use Rattle.command_model.specs.Replies
 pub use Rattle.command_model.specs.UnmapList
-pub mod Needs
 pub mod Prepared
 pub mod Inner

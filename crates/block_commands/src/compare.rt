@@ -33,6 +33,7 @@ pub(crate) fn compare_and_write<S: Store>(
         ≡ overwritten (S.block_at store.old) lba (to_write blocks bytes.now) b) }
     ensures err { OnErr result ((b : ℕ) → S.block_at store.new b ≡ S.block_at store.old b) }
     ensures size { S.size store.new ≡ S.size store.old }
+    ensures storage { S.storage store.new ≡ S.storage store.old }
 {
     if !is_in_range(store.capacity(), lba, u32::from(blocks)) {
         return Err(Failure::Refused(Sense::LBA_OUT_OF_RANGE));

@@ -20,7 +20,7 @@ use command_model::Reply;
 use foundation::NoMemory;
 use std::alloc::Global;
 
-/// Runs one command on a disk, whole, as [`exec`] does. Whether the disk is backed stays as it is.
+/// Runs one command on a disk, whole, as [`exec`] does. What the host's storage has of it stays as it is.
 #[inline(always)]
 pub fn exec_on(
     alloc: Global,
@@ -43,7 +43,7 @@ pub fn exec_on(
     ensures want { OnErr result (IsTrue (may_want (facts_of facts.now (⟦<Disk as Store>⟧.size disk.old)) command.now)) }
     ensures err { OnErr result ((b : ℕ) → ⟦<Disk as Store>⟧.block_at disk.new b ≡ ⟦<Disk as Store>⟧.block_at disk.old b) }
     ensures capacity { ⟦<Disk as Store>⟧.size disk.new ≡ ⟦<Disk as Store>⟧.size disk.old }
-    ensures kind { ⟦<Disk as Store>⟧.is_whole disk.new ≡ ⟦<Disk as Store>⟧.is_whole disk.old }
+    ensures storage { ⟦<Disk as Store>⟧.storage disk.new ≡ ⟦<Disk as Store>⟧.storage disk.old }
 {
     match disk {
         Disk::Whole(store) => exec(alloc, room, store, command, out, facts),

@@ -60,6 +60,7 @@ pub fn exec<S: Store>(
     ensures want { OnErr result (IsTrue (may_want (facts_of facts.now (S.size store.old)) command.now)) }
     ensures err { OnErr result ((b : ℕ) → S.block_at store.new b ≡ S.block_at store.old b) }
     ensures capacity { S.size store.new ≡ S.size store.old }
+    ensures storage { S.storage store.new ≡ S.storage store.old }
 {
     if let Some(attention) = met_attention(command, facts.pending) {
         return Ok(refused(alloc, facts, attention));
@@ -87,6 +88,7 @@ fn run<S: Store>(
         ≡ unwrap_or (given command.now bytes.now b (S.block_at store.old b)) (S.block_at store.old b)) }
     ensures err { OnErr result ((b : ℕ) → S.block_at store.new b ≡ S.block_at store.old b) }
     ensures size { S.size store.new ≡ S.size store.old }
+    ensures storage { S.storage store.new ≡ S.storage store.old }
     ensures room { IfOk result (λ bytes. vec_len bytes ≤ (need_of command.now).into) }
     ensures want { Wants (wants (S.size store.old) command.now) result }
 {

@@ -25,6 +25,7 @@ pub(crate) fn format_unit<S: Store>(
     ensures ok { OnOk result ((b : ℕ) → S.block_at store.new b ≡ zero_block) }
     ensures err { OnErr result ((b : ℕ) → S.block_at store.new b ≡ S.block_at store.old b) }
     ensures size { S.size store.new ≡ S.size store.old }
+    ensures storage { S.storage store.new ≡ S.storage store.old }
 {
     if is_refused_list(list, bytes) {
         return Err(Failure::Refused(Sense::INVALID_FIELD_IN_PARAMETER_LIST));

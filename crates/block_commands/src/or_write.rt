@@ -33,6 +33,7 @@ pub(crate) fn or_write<S: Store>(
         then or_bytes (S.block_at store.old b) (nth_block bytes.now (b - lba)) else S.block_at store.old b)) }
     ensures err { OnErr result ((b : ℕ) → S.block_at store.new b ≡ S.block_at store.old b) }
     ensures size { S.size store.new ≡ S.size store.old }
+    ensures storage { S.storage store.new ≡ S.storage store.old }
 {
     if !is_in_range(store.capacity(), lba, u32::from(blocks)) {
         return Err(Failure::Refused(Sense::LBA_OUT_OF_RANGE));

@@ -56,7 +56,7 @@ pub fn exec_prepared(
     ensures want { OnErr result (IsTrue (may_want (facts_of facts.now (⟦<Disk as Store>⟧.size store.old)) command.now)) }
     ensures err { OnErr result ((b : ℕ) → ⟦<Disk as Store>⟧.block_at store.new b ≡ ⟦<Disk as Store>⟧.block_at store.old b) }
     ensures capacity { ⟦<Disk as Store>⟧.size store.new ≡ ⟦<Disk as Store>⟧.size store.old }
-    ensures kind { ⟦<Disk as Store>⟧.is_whole store.new ≡ ⟦<Disk as Store>⟧.is_whole store.old }
+    ensures storage { ⟦<Disk as Store>⟧.storage store.new ≡ ⟦<Disk as Store>⟧.storage store.old }
 {
     let (installed, back) = exchange(store, command, facts, prepared)?;
     if installed {
@@ -90,7 +90,7 @@ fn exchange(
         (prepared_draft pages).first (prepared_draft pages).count))) }
     ensures err { OnErr result ((b : ℕ) → ⟦<Disk as Store>⟧.block_at store.new b ≡ ⟦<Disk as Store>⟧.block_at store.old b) }
     ensures size { ⟦<Disk as Store>⟧.size store.new ≡ ⟦<Disk as Store>⟧.size store.old }
-    ensures kind { ⟦<Disk as Store>⟧.is_whole store.new ≡ ⟦<Disk as Store>⟧.is_whole store.old }
+    ensures storage { ⟦<Disk as Store>⟧.storage store.new ≡ ⟦<Disk as Store>⟧.storage store.old }
 {
     let Some(pages) = prepared else {
         return Ok((false, None));
@@ -125,7 +125,7 @@ fn installs(store: &mut Disk, prepared: Prepared) -> Result<(bool, Prepared), No
         (prepared_draft prepared).first (prepared_draft prepared).count)) }
     ensures err { OnErr result ((b : ℕ) → ⟦<Disk as Store>⟧.block_at store.new b ≡ ⟦<Disk as Store>⟧.block_at store.old b) }
     ensures size { ⟦<Disk as Store>⟧.size store.new ≡ ⟦<Disk as Store>⟧.size store.old }
-    ensures kind { ⟦<Disk as Store>⟧.is_whole store.new ≡ ⟦<Disk as Store>⟧.is_whole store.old }
+    ensures storage { ⟦<Disk as Store>⟧.storage store.new ≡ ⟦<Disk as Store>⟧.storage store.old }
     ensures held { (b : ℕ) → IsTrue (⟦<Disk as Store>⟧.is_held store.old b) → IsTrue (⟦<Disk as Store>⟧.is_held store.new b) }
     ensures keeps_room { (b : ℕ) → IsTrue (⟦<Disk as Store>⟧.has_room store.old b) → IsTrue (⟦<Disk as Store>⟧.has_room store.new b) }
 {

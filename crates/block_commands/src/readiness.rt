@@ -8,7 +8,7 @@ ghost use Rattle.command_model.specs.Data.{data_of};
 ghost use Rattle.command_model.specs.Attention.{met};
 ghost use Rattle.command_model.specs.UnmapList.{descriptors_in, descriptors, is_named, are_in_range};
 ghost use Rattle.command_model.specs.Replies.{unmap_answer};
-ghost use Rattle.block_commands.specs.Needs.{needs, needs_wide};
+ghost use Rattle.command_model.specs.Waiting.{needs, needs_wide};
 ghost use Rattle.block_commands.specs.Inner.Ready.{IsReady, is_inside, is_read_wide, is_changed_wide, is_near_wide, is_near_to, is_near_any, is_done};
 
 use crate::attention::met_attention;
@@ -25,10 +25,10 @@ fn to_read<S: Store>(store: &mut S, lba: u64, blocks: u32) -> Readiness
     ensures ready { result ≡ Ready → (b : ℕ) → IsTrue (is_inside (S.size store.old) lba blocks b) → IsTrue (S.is_held store.new b) }
     ensures asked { result ≢ Full → (b : ℕ) → IsTrue (is_inside (S.size store.old) lba blocks b) → IsTrue (S.is_coming store.new b) }
     ensures idle { is_in_range (S.size store.old) lba blocks ≡ false → result ≡ Ready }
-    ensures whole { IsTrue (S.is_whole store.old) → result ≡ Ready }
-    ensures kind { S.is_whole store.new ≡ S.is_whole store.old }
+    ensures whole { is_some (S.storage store.old) ≡ false → result ≡ Ready }
     ensures blocks { (b : ℕ) → S.block_at store.new b ≡ S.block_at store.old b }
     ensures size { S.size store.new ≡ S.size store.old }
+    ensures storage { S.storage store.new ≡ S.storage store.old }
     ensures held { (b : ℕ) → IsTrue (S.is_held store.old b) → IsTrue (S.is_held store.new b) }
     ensures coming { (b : ℕ) → IsTrue (S.is_coming store.old b) → IsTrue (S.is_coming store.new b) }
     ensures keeps_room { (b : ℕ) → IsTrue (S.has_room store.old b) → IsTrue (S.has_room store.new b) }
@@ -45,10 +45,10 @@ fn to_write<S: Store>(store: &mut S, lba: u64, blocks: u32) -> Readiness
     ensures near { result ≡ Ready → (b : ℕ) → IsTrue (is_near_to (S.size store.old) lba blocks b) → IsTrue (S.is_held store.new b) }
     ensures near_asked { result ≢ Full → (b : ℕ) → IsTrue (is_near_to (S.size store.old) lba blocks b) → IsTrue (S.is_coming store.new b) }
     ensures idle { is_in_range (S.size store.old) lba blocks ≡ false → result ≡ Ready }
-    ensures whole { IsTrue (S.is_whole store.old) → result ≡ Ready }
-    ensures kind { S.is_whole store.new ≡ S.is_whole store.old }
+    ensures whole { is_some (S.storage store.old) ≡ false → result ≡ Ready }
     ensures blocks { (b : ℕ) → S.block_at store.new b ≡ S.block_at store.old b }
     ensures size { S.size store.new ≡ S.size store.old }
+    ensures storage { S.storage store.new ≡ S.storage store.old }
     ensures held { (b : ℕ) → IsTrue (S.is_held store.old b) → IsTrue (S.is_held store.new b) }
     ensures coming { (b : ℕ) → IsTrue (S.is_coming store.old b) → IsTrue (S.is_coming store.new b) }
     ensures keeps_room { (b : ℕ) → IsTrue (S.has_room store.old b) → IsTrue (S.has_room store.new b) }
@@ -66,10 +66,10 @@ fn to_unmap_extents<S: Store>(store: &mut S, taken: &[u8], count: usize) -> Read
     ensures room { result ≢ Full → (b : ℕ) → IsTrue (is_named (descriptors_in count taken.now) b) → IsTrue (S.has_room store.new b) }
     ensures near { result ≡ Ready → (b : ℕ) → IsTrue (is_near_any (descriptors_in count taken.now) b) → IsTrue (S.is_held store.new b) }
     ensures near_asked { result ≢ Full → (b : ℕ) → IsTrue (is_near_any (descriptors_in count taken.now) b) → IsTrue (S.is_coming store.new b) }
-    ensures whole { IsTrue (S.is_whole store.old) → result ≡ Ready }
-    ensures kind { S.is_whole store.new ≡ S.is_whole store.old }
+    ensures whole { is_some (S.storage store.old) ≡ false → result ≡ Ready }
     ensures blocks { (b : ℕ) → S.block_at store.new b ≡ S.block_at store.old b }
     ensures size { S.size store.new ≡ S.size store.old }
+    ensures storage { S.storage store.new ≡ S.storage store.old }
     ensures held { (b : ℕ) → IsTrue (S.is_held store.old b) → IsTrue (S.is_held store.new b) }
     ensures coming { (b : ℕ) → IsTrue (S.is_coming store.old b) → IsTrue (S.is_coming store.new b) }
     ensures keeps_room { (b : ℕ) → IsTrue (S.has_room store.old b) → IsTrue (S.has_room store.new b) }
@@ -88,10 +88,10 @@ fn to_unmap<S: Store>(store: &mut S, list: &[u8]) -> Readiness
     ensures room { result ≢ Full → (b : ℕ) → IsTrue (is_done (unmap_answer (S.size store.old) list.now) && is_named (descriptors list.now) b) → IsTrue (S.has_room store.new b) }
     ensures near { result ≡ Ready → (b : ℕ) → IsTrue (is_done (unmap_answer (S.size store.old) list.now) && is_near_any (descriptors list.now) b) → IsTrue (S.is_held store.new b) }
     ensures near_asked { result ≢ Full → (b : ℕ) → IsTrue (is_done (unmap_answer (S.size store.old) list.now) && is_near_any (descriptors list.now) b) → IsTrue (S.is_coming store.new b) }
-    ensures whole { IsTrue (S.is_whole store.old) → result ≡ Ready }
-    ensures kind { S.is_whole store.new ≡ S.is_whole store.old }
+    ensures whole { is_some (S.storage store.old) ≡ false → result ≡ Ready }
     ensures blocks { (b : ℕ) → S.block_at store.new b ≡ S.block_at store.old b }
     ensures size { S.size store.new ≡ S.size store.old }
+    ensures storage { S.storage store.new ≡ S.storage store.old }
     ensures held { (b : ℕ) → IsTrue (S.is_held store.old b) → IsTrue (S.is_held store.new b) }
     ensures coming { (b : ℕ) → IsTrue (S.is_coming store.old b) → IsTrue (S.is_coming store.new b) }
     ensures keeps_room { (b : ℕ) → IsTrue (S.has_room store.old b) → IsTrue (S.has_room store.new b) }
@@ -121,10 +121,10 @@ fn to_read_and_write<S: Store>(store: &mut S, lba: u64, blocks: u32) -> Readines
     ensures near { result ≡ Ready → (b : ℕ) → IsTrue (is_near_to (S.size store.old) lba blocks b) → IsTrue (S.is_held store.new b) }
     ensures near_asked { result ≢ Full → (b : ℕ) → IsTrue (is_near_to (S.size store.old) lba blocks b) → IsTrue (S.is_coming store.new b) }
     ensures idle { is_in_range (S.size store.old) lba blocks ≡ false → result ≡ Ready }
-    ensures whole { IsTrue (S.is_whole store.old) → result ≡ Ready }
-    ensures kind { S.is_whole store.new ≡ S.is_whole store.old }
+    ensures whole { is_some (S.storage store.old) ≡ false → result ≡ Ready }
     ensures blocks { (b : ℕ) → S.block_at store.new b ≡ S.block_at store.old b }
     ensures size { S.size store.new ≡ S.size store.old }
+    ensures storage { S.storage store.new ≡ S.storage store.old }
     ensures held { (b : ℕ) → IsTrue (S.is_held store.old b) → IsTrue (S.is_held store.new b) }
     ensures coming { (b : ℕ) → IsTrue (S.is_coming store.old b) → IsTrue (S.is_coming store.new b) }
     ensures keeps_room { (b : ℕ) → IsTrue (S.has_room store.old b) → IsTrue (S.has_room store.new b) }
@@ -142,10 +142,10 @@ fn to_run_wide<S: Store>(store: &mut S, command: &WideCommand) -> Readiness
     ensures near { result ≡ Ready → (b : ℕ) → IsTrue (is_near_wide (S.size store.old) command.now b) → IsTrue (S.is_held store.new b) }
     ensures near_asked { result ≢ Full → (b : ℕ) → IsTrue (is_near_wide (S.size store.old) command.now b) → IsTrue (S.is_coming store.new b) }
     ensures idle { needs_wide (S.size store.old) command.now ≡ false → result ≡ Ready }
-    ensures whole { IsTrue (S.is_whole store.old) → result ≡ Ready }
-    ensures kind { S.is_whole store.new ≡ S.is_whole store.old }
+    ensures whole { is_some (S.storage store.old) ≡ false → result ≡ Ready }
     ensures blocks { (b : ℕ) → S.block_at store.new b ≡ S.block_at store.old b }
     ensures size { S.size store.new ≡ S.size store.old }
+    ensures storage { S.storage store.new ≡ S.storage store.old }
     ensures held { (b : ℕ) → IsTrue (S.is_held store.old b) → IsTrue (S.is_held store.new b) }
     ensures coming { (b : ℕ) → IsTrue (S.is_coming store.old b) → IsTrue (S.is_coming store.new b) }
     ensures keeps_room { (b : ℕ) → IsTrue (S.has_room store.old b) → IsTrue (S.has_room store.new b) }
@@ -179,10 +179,10 @@ pub fn make_ready<S: Store>(
         IsReady (S.is_coming store.new) (S.has_room store.new) (S.size store.new) command.now (data_of command.now out.now) }
     ensures idle { needs (S.size store.old) command.now ≡ false → result ≡ Ready }
     ensures met { IsTrue (is_some (met command.now facts.now.pending)) → result ≡ Ready }
-    ensures whole { IsTrue (S.is_whole store.old) → result ≡ Ready }
-    ensures kind { S.is_whole store.new ≡ S.is_whole store.old }
+    ensures whole { is_some (S.storage store.old) ≡ false → result ≡ Ready }
     ensures blocks { (b : ℕ) → S.block_at store.new b ≡ S.block_at store.old b }
     ensures size { S.size store.new ≡ S.size store.old }
+    ensures storage { S.storage store.new ≡ S.storage store.old }
     ensures held { (b : ℕ) → IsTrue (S.is_held store.old b) → IsTrue (S.is_held store.new b) }
 {
     if met_attention(command, facts.pending).is_some() {

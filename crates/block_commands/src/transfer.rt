@@ -52,6 +52,7 @@ pub(crate) fn write<S: Store>(
     ensures ok { OnOk result ((b : ℕ) → S.block_at store.new b ≡ overwritten (S.block_at store.old) lba bytes.now b) }
     ensures err { OnErr result ((b : ℕ) → S.block_at store.new b ≡ S.block_at store.old b) }
     ensures size { S.size store.new ≡ S.size store.old }
+    ensures storage { S.storage store.new ≡ S.storage store.old }
 {
     if !is_in_range(store.capacity(), lba, u32::from(blocks)) {
         return Err(Failure::Refused(Sense::LBA_OUT_OF_RANGE));
@@ -76,6 +77,7 @@ pub(crate) fn write_same<S: Store>(
     ensures ok { OnOk result ((b : ℕ) → S.block_at store.new b ≡ filled (S.block_at store.old) lba blocks bytes.now b) }
     ensures err { OnErr result ((b : ℕ) → S.block_at store.new b ≡ S.block_at store.old b) }
     ensures size { S.size store.new ≡ S.size store.old }
+    ensures storage { S.storage store.new ≡ S.storage store.old }
 {
     if !is_in_range(store.capacity(), lba, blocks) {
         return Err(Failure::Refused(Sense::LBA_OUT_OF_RANGE));
@@ -95,6 +97,7 @@ pub(crate) fn write_zeros<S: Store>(store: &mut S, lba: u64, blocks: u32) -> Res
     ensures ok { OnOk result ((b : ℕ) → S.block_at store.new b ≡ zeroed (S.block_at store.old) lba blocks b) }
     ensures err { OnErr result ((b : ℕ) → S.block_at store.new b ≡ S.block_at store.old b) }
     ensures size { S.size store.new ≡ S.size store.old }
+    ensures storage { S.storage store.new ≡ S.storage store.old }
 {
     if !is_in_range(store.capacity(), lba, blocks) {
         return Err(Sense::LBA_OUT_OF_RANGE);

@@ -30,6 +30,7 @@ pub(crate) fn unmap<S: Store>(store: &mut S, list: &[u8]) -> Result<(), Sense>
         ≡ (if is_named (descriptors list.now) b then zero_block else S.block_at store.old b)) }
     ensures err { OnErr result ((b : ℕ) → S.block_at store.new b ≡ S.block_at store.old b) }
     ensures size { S.size store.new ≡ S.size store.old }
+    ensures storage { S.storage store.new ≡ S.storage store.old }
 {
     if list.is_empty() {
         return Ok(());
@@ -87,6 +88,7 @@ fn zero_extents<S: Store>(store: &mut S, taken: &[u8], count: usize)
     ensures blocks { (b : ℕ) → S.block_at store.new b
         ≡ (if is_named (descriptors_in count taken.now) b then zero_block else S.block_at store.old b) }
     ensures size { S.size store.new ≡ S.size store.old }
+    ensures storage { S.storage store.new ≡ S.storage store.old }
 {
     for i in 0..count {
         let extent = extent_at(taken, i);

@@ -52,6 +52,7 @@ pub(crate) fn wide<S: Store>(
         ≡ unwrap_or (wide_given command.now bytes.now b (S.block_at store.old b)) (S.block_at store.old b)) }
     ensures err { OnErr result ((b : ℕ) → S.block_at store.new b ≡ S.block_at store.old b) }
     ensures size { S.size store.new ≡ S.size store.old }
+    ensures storage { S.storage store.new ≡ S.storage store.old }
     ensures room { IfOk result (λ bytes. vec_len bytes ≤ (wide_need command.now).into) }
     ensures want { Wants (wide_wants (S.size store.old) command.now) result }
 {

@@ -3,4 +3,5 @@ pub mod Drafts
 pub mod Kept
 pub mod Pages
 pub mod Tables
+pub mod Storage
 pub mod Inner

@@ -46,7 +46,7 @@ impl FlatStore {
 }
 
 impl Store for FlatStore {
-    ghost use Rattle.std.specs.Prelude.{true};
+    ghost use Rattle.std.specs.Prelude.{true, None};
     ghost use Rattle.block_store.specs.Inner.Whole.{length-nth_block};
 
     ghost size = { block_count };
@@ -59,7 +59,7 @@ impl Store for FlatStore {
 
     ghost has_room = { λ s b. true };
 
-    ghost is_whole = { λ s. true };
+    ghost storage = { λ s. None };
 
     ghost whole = { length-nth_block };
 

@@ -131,7 +131,7 @@ impl PagedStore {
 }
 
 impl Store for PagedStore {
-    ghost use Rattle.std.specs.Prelude.{◌/◌, ◌%◌, true, IsOk};
+    ghost use Rattle.std.specs.Prelude.{◌/◌, ◌%◌, true, None, IsOk};
     ghost use Rattle.block_store.specs.Kept.{kept, blocks_of};
     ghost use Rattle.block_store.specs.Inner.Padding.{length-blocks_in};
 
@@ -145,7 +145,7 @@ impl Store for PagedStore {
 
     ghost has_room = { λ s b. true };
 
-    ghost is_whole = { λ s. true };
+    ghost storage = { λ s. None };
 
     ghost whole = { λ s b below. length-blocks_in (kept s.pages (b / 8)) (b % 8) };
 

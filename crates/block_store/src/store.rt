@@ -1,7 +1,8 @@
 //! The trait of a store of blocks.
 
-ghost use Rattle.std.specs.Prelude.{◌≡◌, ◌≢◌, ℕ, ◌+◌, ◌*◌, ◌%◌, ◌<◌, ◌≤◌, ◌++◌, Bool, IsTrue, List, length, vec_len, vec_capacity, OnOk, OnErr};
+ghost use Rattle.std.specs.Prelude.{◌≡◌, ◌≢◌, ℕ, ◌+◌, ◌*◌, ◌%◌, ◌<◌, ◌≤◌, ◌++◌, Bool, IsTrue, List, length, vec_len, vec_capacity, OnOk, OnErr, Option, is_some, false};
 ghost use Rattle.block_store.specs.Blocks.{block_count, overwritten, filled, zeroed, run, is_within, zero_block};
+ghost use Rattle.block_store.specs.Storage.{Ledger};
 ghost use Rattle.block_store.specs.Inner.Pages.{is_beside};
 ghost use Rattle.block_store.specs.declared.readiness.Readiness.TheVariants.{Ready, Full};
 
@@ -35,8 +36,8 @@ pub trait Store {
     // True if a block can be written over without more memory for its page.
     ghost has_room: { Self → ℕ → Bool };
 
-    // True if all blocks are in memory, now and later.
-    ghost is_whole: { Self → Bool };
+    // What the host's storage has of them, where their pages may go; none where all are in memory, now and later.
+    ghost storage: { Self → Option Ledger };
 
     /// Returns how many blocks there are.
     fn capacity(&self) -> u64
@@ -47,12 +48,12 @@ pub trait Store {
         requires range { first + count ≤ size self.old }
         ensures ready { result ≡ Ready → (b : ℕ) → IsTrue (is_within first count b) → IsTrue (is_held self.new b) }
         ensures asked { result ≢ Full → (b : ℕ) → IsTrue (is_within first count b) → IsTrue (is_coming self.new b) }
-        ensures whole { IsTrue (is_whole self.old) → result ≡ Ready }
-        ensures kind { is_whole self.new ≡ is_whole self.old }
+        ensures whole { is_some (storage self.old) ≡ false → result ≡ Ready }
         ensures blocks { (b : ℕ) → block_at self.new b ≡ block_at self.old b }
         ensures held { (b : ℕ) → IsTrue (is_held self.old b) → IsTrue (is_held self.new b) }
         ensures coming { (b : ℕ) → IsTrue (is_coming self.old b) → IsTrue (is_coming self.new b) }
         ensures keeps_room { (b : ℕ) → IsTrue (has_room self.old b) → IsTrue (has_room self.new b) }
+        ensures storage { storage self.new ≡ storage self.old }
         ensures size { size self.new ≡ size self.old };
 
     /// Makes room for the pages of a range, so that its blocks can be written over, and asks the host for those that it
@@ -62,12 +63,12 @@ pub trait Store {
         ensures room { result ≢ Full → (b : ℕ) → IsTrue (is_within first count b) → IsTrue (has_room self.new b) }
         ensures ready { result ≡ Ready → (b : ℕ) → IsTrue (is_beside first count b) → IsTrue (is_held self.new b) }
         ensures asked { result ≢ Full → (b : ℕ) → IsTrue (is_beside first count b) → IsTrue (is_coming self.new b) }
-        ensures whole { IsTrue (is_whole self.old) → result ≡ Ready }
-        ensures kind { is_whole self.new ≡ is_whole self.old }
+        ensures whole { is_some (storage self.old) ≡ false → result ≡ Ready }
         ensures blocks { (b : ℕ) → block_at self.new b ≡ block_at self.old b }
         ensures held { (b : ℕ) → IsTrue (is_held self.old b) → IsTrue (is_held self.new b) }
         ensures coming { (b : ℕ) → IsTrue (is_coming self.old b) → IsTrue (is_coming self.new b) }
         ensures keeps_room { (b : ℕ) → IsTrue (has_room self.old b) → IsTrue (has_room self.new b) }
+        ensures storage { storage self.new ≡ storage self.old }
         ensures size { size self.new ≡ size self.old };
 
     /// Appends the bytes of `count` blocks from `first` on to a list that has room for them.
@@ -93,6 +94,7 @@ pub trait Store {
         ensures err { OnErr result ((b : ℕ) → block_at self.new b ≡ block_at self.old b) }
         ensures held { (b : ℕ) → IsTrue (is_held self.old b) → IsTrue (is_held self.new b) }
         ensures keeps_room { (b : ℕ) → IsTrue (has_room self.old b) → IsTrue (has_room self.new b) }
+        ensures storage { storage self.new ≡ storage self.old }
         ensures size { size self.new ≡ size self.old };
 
     /// Puts the same 512 bytes into each of `count` blocks from `first` on. May want memory, as
@@ -110,6 +112,7 @@ pub trait Store {
         ensures err { OnErr result ((b : ℕ) → block_at self.new b ≡ block_at self.old b) }
         ensures held { (b : ℕ) → IsTrue (is_held self.old b) → IsTrue (is_held self.new b) }
         ensures keeps_room { (b : ℕ) → IsTrue (has_room self.old b) → IsTrue (has_room self.new b) }
+        ensures storage { storage self.new ≡ storage self.old }
         ensures size { size self.new ≡ size self.old };
 
     /// Puts zeros into each of `count` blocks from `first` on. Takes no memory.
@@ -120,6 +123,7 @@ pub trait Store {
         ensures blocks { (b : ℕ) → block_at self.new b ≡ zeroed (block_at self.old) first count b }
         ensures held { (b : ℕ) → IsTrue (is_held self.old b) → IsTrue (is_held self.new b) }
         ensures keeps_room { (b : ℕ) → IsTrue (has_room self.old b) → IsTrue (has_room self.new b) }
+        ensures storage { storage self.new ≡ storage self.old }
         ensures size { size self.new ≡ size self.old };
 
     /// Puts zeros into every block, at once: it takes longer the more was written, and not the more blocks there are. A store
@@ -127,6 +131,7 @@ pub trait Store {
     fn zero_all(&mut self) -> Result<(), NoMemory>
         ensures ok { OnOk result ((b : ℕ) → block_at self.new b ≡ zero_block) }
         ensures err { OnErr result ((b : ℕ) → block_at self.new b ≡ block_at self.old b) }
+        ensures storage { storage self.new ≡ storage self.old }
         ensures size { size self.new ≡ size self.old };
 
     // A block has 512 bytes.

@@ -24,6 +24,7 @@ pub mod Modes
 pub mod Provisioning
 pub mod Replies
 pub mod UnmapList
+pub mod Waiting
 pub mod Wide
 pub mod Memory
 pub mod Inner

@@ -124,6 +124,7 @@ applies (Transition.Respond c r xs) w h =
     record { opened = g.opened; there = g.there; left = g.left; still = g.still }
 applies (Transition.Hard p jobs) w h = (h.unit, h.there)
 applies (Transition.Resize place blocks) w h = (h.unit, h.there, h.may)
+applies (Transition.Deal place x) w h = h
 applies (Transition.Give e c xs) w h = (e, h.later, h.waits)
 applies (Transition.Miss e) w h = (e, h.later, h.waits)
 applies (Transition.Idle e) w h = absurd h

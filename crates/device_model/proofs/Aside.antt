@@ -1,19 +1,26 @@
 -- Jobs that wait for pages: their units' disks are such ones, and their commands may run.
-use Rattle.std.proofs.Common.{◌≡◌, ℕ, Bool, true, false, ◌||◌, List, [], ◌∷◌, ◌++◌, Some, refl, sym, ◌∙◌, ap, subst, inl, inr}
-use Rattle.std.specs.Prelude.{slice_get}
+use Rattle.std.proofs.Common.{◌≡◌, ℕ, Bool, true, false, ◌||◌, ◌&&◌, List, [], ◌∷◌, ◌++◌, Option, Some, None, is_some, refl, sym, ◌∙◌, ap, subst, inl, inr}
+use Rattle.std.specs.Prelude.{slice_get, min}
+use Rattle.std.specs.Option.{option_map}
 use Rattle.std.specs.List.{AllByRecursion}
 use Rattle.ring_core.specs.declared.log.Ticket.{Ticket}
+use Rattle.block_store.specs.Storage.{Dealing, and_then}
+use Rattle.command_model.specs.Waiting.{waits_at}
+use Rattle.unit_model.specs.Contents.{capacity_of}
 use Rattle.unit_model.specs.Steps.{Step}
 use Rattle.unit_model.specs.Marks.{marked}
 use Rattle.unit_model.specs.Enabling.{enabled}
 use Rattle.unit_model.proofs.Tickets.{clash}
 use Rattle.unit_model.specs.Jobs.{PlainJob}
-use Rattle.unit_model.specs.Unit.{PlainUnit, after as stepped, parking}
+use Rattle.unit_model.specs.Unit.{PlainUnit, is_backed, after as stepped, parking, dealing}
 use Rattle.task_mgmt.specs.Functions.{step_by}
+use Rattle.task_mgmt.specs.declared.kind.MarkBy.{MarkBy}
+use Rattle.task_mgmt.specs.declared.kind.MarkBy.TheVariants.{Abort, Reset}
 use Rattle.device_model.specs.World.{PlainWorld, Opens, change, Everywhere, all_off}
 use Rattle.device_model.specs.Transitions.{Transition}
 use Rattle.device_model.specs.Event.Hard.{hard_code}
 use Rattle.device_model.specs.After.{after}
+use Rattle.device_model.specs.Event.Wake.{Defers}
 use Rattle.device_model.specs.Happens.{May, Occurrence, Runs}
 use Rattle.device_model.specs.Standing.{IsAside, AreAside, NoneIsBacked}
 use Rattle.device_model.proofs.Lists.{same, there_change, at_other}
@@ -24,14 +31,14 @@ use Rattle.device_model.proofs.Off.{between_parts, each_push}
 -- its unit is there, has such a disk, and didn't mark it
 abbrev AsideAt : List PlainUnit → PlainJob → Type 0
 AsideAt us x =
-    (u : PlainUnit) × (slice_get us x.unit ≡ Some u) × (u.backed ≡ true) × (marked x.entry.ticket u.steps ≡ false)
+    (u : PlainUnit) × (slice_get us x.unit ≡ Some u) × (is_backed u ≡ true) × (marked x.entry.ticket u.steps ≡ false)
 
 abbrev AllAside : List PlainUnit → List PlainJob → Type 0
 AllAside us xs = AllByRecursion (AsideAt us) xs
 
 -- a unit's change that marks no task
 abbrev MarksNone : (PlainUnit → PlainUnit) → Type 0
-MarksNone g = (u : PlainUnit) → ((g u).backed ≡ u.backed) × ((t : Ticket) → marked t (g u).steps ≡ marked t u.steps)
+MarksNone g = (u : PlainUnit) → (is_backed (g u) ≡ is_backed u) × ((t : Ticket) → marked t (g u).steps ≡ marked t u.steps)
 
 aside_on : (g : PlainUnit → PlainUnit) (k : ℕ) (us : List PlainUnit) (x : PlainJob) → MarksNone g → AsideAt us x
     → AsideAt (change g k us) x
@@ -44,14 +51,14 @@ aside_on g k us x f (u, at, backed, off) =
           let is : t.0 ≡ g u = p.1 ∙ ap g was in (
             t.0,
             t.1,
-            ap (λ (z : PlainUnit). z.backed) is ∙ (f u).0 ∙ backed,
+            ap (λ (z : PlainUnit). is_backed z) is ∙ (f u).0 ∙ backed,
             ap (λ (z : PlainUnit). marked x.entry.ticket z.steps) is ∙ (f u).1 x.entry.ticket ∙ off,
           )
       | inr p ↦
           let is : t.0 ≡ u = p.1 ∙ was in (
             t.0,
             t.1,
-            ap (λ (z : PlainUnit). z.backed) is ∙ backed,
+            ap (λ (z : PlainUnit). is_backed z) is ∙ backed,
             ap (λ (z : PlainUnit). marked x.entry.ticket z.steps) is ∙ off,
           )
     ]
@@ -60,6 +67,30 @@ all_on : (g : PlainUnit → PlainUnit) (k : ℕ) (us : List PlainUnit) (xs : Lis
     → AllAside (change g k us) xs
 all_on g k us [] f h = tt
 all_on g k us (x ∷ xs) f h = (aside_on g k us x f h.0, all_on g k us xs f h.1)
+
+-- the steps that change what the storage has leave that there is one
+some_still : {X Y : Type 0} (f : X → Y) (o : Option X) → is_some (option_map f o) ≡ is_some o
+some_still f None = refl
+some_still f (Some x) = refl
+
+pub backed_resize : (blocks : ℕ) (u : PlainUnit) → is_backed (stepped (Step.Resize blocks) u) ≡ is_backed u
+backed_resize blocks u = some_still (and_then (Dealing.Cut (min (capacity_of u.opening u.steps) blocks))) u.storage
+
+pub backed_deal : (x : Dealing) (u : PlainUnit) → is_backed (dealing x u) ≡ is_backed u
+backed_deal x u = some_still (and_then x) u.storage
+
+pub backed_mark : (how : MarkBy) (u : PlainUnit) → is_backed (stepped (step_by how) u) ≡ is_backed u
+backed_mark (Abort rule) u = refl
+backed_mark (Reset c) u = refl
+
+both_first : (a b : Bool) → (a && b) ≡ true → a ≡ true
+both_first true b h = refl
+both_first false b h = h
+
+waits_backed : (w : PlainWorld) (k : ℕ) (x : PlainJob) (m : Defers w k x) → is_backed m.holds.unit ≡ true
+waits_backed w k x m =
+    let u = m.holds.unit in
+    both_first (is_backed u) (waits_at (capacity_of u.opening u.steps) m.entry.command) m.waits
 
 abbrev Waits : PlainWorld → Type 0
 Waits w = AllAside w.units w.aside
@@ -75,14 +106,16 @@ transition_waits (Transition.Commit k x r) w m h =
 transition_waits (Transition.CommitBusy k x) w m h =
     all_on (stepped (Step.Busy x.entry.ticket)) x.unit w.units w.aside (λ u. (refl, λ t. refl)) h
 transition_waits (Transition.Defer k x) w m h =
-    each_push (AsideAt w.units) w.aside x h (m.holds.unit, m.holds.there, m.backed, m.ready.is_unmarked)
+    each_push (AsideAt w.units) w.aside x h (m.holds.unit, m.holds.there, waits_backed w k x m, m.ready.is_unmarked)
 transition_waits Transition.Wake w m h = tt
 transition_waits (Transition.Leave k place t jobs) w m h =
     all_on (stepped (Step.Leave t)) place w.units w.aside (λ u. (refl, λ t. refl)) h
 transition_waits (Transition.Mark t p how jobs) w m h = tt
 transition_waits (Transition.Hard p jobs) w m h = tt
 transition_waits (Transition.Resize place blocks) w m h =
-    all_on (stepped (Step.Resize blocks)) place w.units w.aside (λ u. (refl, λ t. refl)) h
+    all_on (stepped (Step.Resize blocks)) place w.units w.aside (λ u. (backed_resize blocks u, λ t. refl)) h
+transition_waits (Transition.Deal place x) w m h =
+    all_on (dealing x) place w.units w.aside (λ u. (backed_deal x u, λ t. refl)) h
 transition_waits d w m h = h
 
 left_on : (a b : Bool) → b ≡ false → (a || b) ≡ true → a ≡ true
@@ -96,7 +129,7 @@ is_aside w x c (u, at, backed, off) =
     record {
       unit = c.0;
       there = c.1;
-      backed = ap (λ (v : PlainUnit). v.backed) is ∙ backed;
+      backed = ap (λ (v : PlainUnit). is_backed v) is ∙ backed;
       ready =
           record {
             is_there = c.2.0;
@@ -124,9 +157,9 @@ run_aside old trace w o r =
 abbrev pub Bare : PlainWorld → Type 0
 Bare w = NoneIsBacked w × (w.aside ≡ []) × (w.woken ≡ [])
 
-not_backed : (g : PlainUnit → PlainUnit) (k : ℕ) (us : List PlainUnit) → ((u : PlainUnit) → (g u).backed ≡ u.backed)
-    → Everywhere (λ i u. u.backed ≡ false) us → Everywhere (λ i u. u.backed ≡ false) (change g k us)
-not_backed g k us e h = everywhere (λ i u. u.backed ≡ false) g k us (λ u at n. e u ∙ n) h
+not_backed : (g : PlainUnit → PlainUnit) (k : ℕ) (us : List PlainUnit) → ((u : PlainUnit) → is_backed (g u) ≡ is_backed u)
+    → Everywhere (λ i u. is_backed u ≡ false) us → Everywhere (λ i u. is_backed u ≡ false) (change g k us)
+not_backed g k us e h = everywhere (λ i u. is_backed u ≡ false) g k us (λ u at n. e u ∙ n) h
 
 no_job : {x : PlainJob} {xs : List PlainJob} → [] ≡ x ∷ xs → ⊥
 no_job e = cc
@@ -145,17 +178,19 @@ transition_bare (Transition.Commit k x r) w m h =
 transition_bare (Transition.CommitBusy k x) w m h =
     (not_backed (stepped (Step.Busy x.entry.ticket)) x.unit w.units (λ u. refl) h.0, h.1, h.2)
 transition_bare (Transition.Defer k x) w m h =
-    absurd (clash (sym m.backed ∙ h.0 x.unit m.holds.unit m.holds.there))
+    absurd (clash (sym (waits_backed w k x m) ∙ h.0 x.unit m.holds.unit m.holds.there))
 transition_bare Transition.Wake w m h = absurd (no_job (sym h.1 ∙ m.waits))
 transition_bare (Transition.Resume k x) w m h = absurd (no_job (sym h.2 ∙ m.first))
 transition_bare (Transition.Leave k place t jobs) w m h =
     (not_backed (stepped (Step.Leave t)) place w.units (λ u. refl) h.0, h.1, h.2)
 transition_bare (Transition.Mark t p how jobs) w m h =
-    (not_backed (stepped (step_by how)) p.unit w.units (λ u. refl) h.0, refl, none_woken w h.1 h.2)
+    (not_backed (stepped (step_by how)) p.unit w.units (backed_mark how) h.0, refl, none_woken w h.1 h.2)
 transition_bare (Transition.Hard p jobs) w m h =
     (not_backed (stepped (Step.Reset hard_code)) p.unit w.units (λ u. refl) h.0, refl, none_woken w h.1 h.2)
 transition_bare (Transition.Resize place blocks) w m h =
-    (not_backed (stepped (Step.Resize blocks)) place w.units (λ u. refl) h.0, h.1, h.2)
+    (not_backed (stepped (Step.Resize blocks)) place w.units (backed_resize blocks) h.0, h.1, h.2)
+transition_bare (Transition.Deal place x) w m h =
+    (not_backed (dealing x) place w.units (backed_deal x) h.0, h.1, h.2)
 transition_bare d w m h = h
 
 pub run_bare : (old : PlainWorld) (trace : List Occurrence) (w : PlainWorld) → Opens old → Runs old trace w

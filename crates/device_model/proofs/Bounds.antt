@@ -139,6 +139,7 @@ own_pays (Transition.Poke x) w h o = absurd o
 own_pays (Transition.Hard p jobs) w h o = absurd o
 own_pays (Transition.Resize place blocks) w h o = absurd o
 own_pays Transition.Wake w h o = absurd o
+own_pays (Transition.Deal place x) w h o = absurd o
 own_pays (Transition.Idle e) w h o = absurd h
 own_pays d w h o = omega (arith)
 

@@ -10,7 +10,7 @@ use Rattle.ring_core.specs.State.{PlainChain}
 use Rattle.ring_core.specs.declared.log.Ticket.{Ticket}
 use Rattle.unit_model.specs.Jobs.{PlainJob, is_job_of}
 use Rattle.task_mgmt.specs.Functions.{PlainFunction, marking, asking, failing, checking, step_by}
-use Rattle.unit_model.specs.Unit.{PlainUnit, after as stepped, parking}
+use Rattle.unit_model.specs.Unit.{PlainUnit, after as stepped, parking, dealing}
 use Rattle.device_model.specs.Parts.{Outcome, Slot, Hand}
 use Rattle.device_model.specs.World.{PlainQueue, Seat, Opened, PlainWorld, change, owner, Everywhere, all_of, all_off}
 use Rattle.device_model.specs.Transitions.{Transition}
@@ -367,6 +367,14 @@ places v (Transition.Hard p jobs) w m b h =
     )
 places v (Transition.Resize place blocks) w m b h =
     (h.0, steps v (Step.Resize blocks) place w.units h.1, h.2, h.3, h.4, h.5)
+places v (Transition.Deal place x) w m b h = (
+  h.0,
+  everywhere (λ i u. AllByRecursion (IsJob v) u.parked) (dealing x) place w.units (λ u at old. old) h.1,
+  h.2,
+  h.3,
+  h.4,
+  h.5,
+)
 places v (Transition.Give e c xs) w m b h =
     let g = completing xs.seen c in (
       slots v g c.ticket.queue w.queues (λ q old. old) h.0,

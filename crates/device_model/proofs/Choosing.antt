@@ -381,6 +381,7 @@ decided w (Event.Prepare k) own = absurd own
 decided w (Event.Resize place blocks) own = absurd own
 decided w (Event.Hard place) own = absurd own
 decided w Event.Wake own = absurd own
+decided w (Event.Deal place x) own = absurd own
 decided w (Event.Resume k) own = resume_decided w k (slice_get w.seats k) refl
 decided w Event.Raise own = raise_decided w w.waiting refl
 

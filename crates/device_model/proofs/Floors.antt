@@ -8,7 +8,7 @@ use Rattle.ring_core.specs.declared.log.Ticket.{Ticket}
 use Rattle.unit_model.specs.Endings.{Ending}
 use Rattle.unit_model.specs.Steps.{Step, next_number}
 use Rattle.unit_model.specs.Jobs.{PlainJob}
-use Rattle.unit_model.specs.Unit.{PlainUnit, after as stepped, parking}
+use Rattle.unit_model.specs.Unit.{PlainUnit, after as stepped, parking, dealing}
 use Rattle.task_mgmt.specs.Functions.{step_by}
 use Rattle.task_mgmt.specs.declared.kind.MarkBy.{MarkBy}
 use Rattle.task_mgmt.specs.declared.kind.MarkBy.TheVariants.{Abort, Reset}
@@ -103,6 +103,17 @@ units_on n s k us qs f b i q at =
       arrived = h.arrived;
       floors = below_after (stepped s) k i (front q) (front q) us (omega (arith))
           (λ u le. let z = f i u.steps in omega (arith, z, le)) h.floors;
+    }
+
+-- a unit's change that leaves its steps, where no queue is changed
+units_keep : (n : ℕ) (g : PlainUnit → PlainUnit) (k : ℕ) (us : List PlainUnit) (qs : List PlainQueue)
+    → ((u : PlainUnit) → (g u).steps ≡ u.steps) → Ordered n us qs → Ordered n (change g k us) qs
+units_keep n g k us qs e b i q at =
+    let h = b i q at in
+    record {
+      arrived = h.arrived;
+      floors = below_after g k i (front q) (front q) us (omega (arith))
+          (λ u le. let z = ap (λ l. next_number i l) (e u) in omega (arith, z, le)) h.floors;
     }
 
 -- a mark raises no next number
@@ -331,6 +342,8 @@ transition_orders (Transition.Hard p jobs) w m h =
     units_on (length w.inventory.addresses) (Step.Reset hard_code) p.unit w.units w.queues (λ i l. refl) h
 transition_orders (Transition.Resize place blocks) w m h =
     units_on (length w.inventory.addresses) (Step.Resize blocks) place w.units w.queues (λ i l. refl) h
+transition_orders (Transition.Deal place x) w m h =
+    units_keep (length w.inventory.addresses) (dealing x) place w.units w.queues (λ u. refl) h
 transition_orders d w m h = h
 
 -- a new queue has accepted none, and a new unit has no history

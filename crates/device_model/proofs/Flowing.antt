@@ -17,7 +17,7 @@ use Rattle.unit_model.specs.Jobs.{PlainJob, of_tasks, is_job_of}
 use Rattle.task_mgmt.specs.Functions.{PlainFunction, marking, asking, failing, checking, step_by}
 use Rattle.task_mgmt.specs.declared.kind.MarkBy.{MarkBy}
 use Rattle.task_mgmt.specs.declared.kind.MarkBy.TheVariants.{Abort, Reset}
-use Rattle.unit_model.specs.Unit.{PlainUnit, after as stepped, parking}
+use Rattle.unit_model.specs.Unit.{PlainUnit, after as stepped, parking, dealing}
 use Rattle.device_model.specs.Parts.{Outcome, Slot, Hand}
 use Rattle.device_model.specs.World.{PlainQueue, Seat, Opened, PlainWorld, change, owner, Everywhere, IsNewSeat, Opens}
 use Rattle.device_model.specs.Transitions.{Transition}
@@ -277,6 +277,9 @@ held_transition f w (Transition.Hard p jobs) h =
 held_transition f w (Transition.Resize place blocks) h =
     let u = stays f.kept (Step.Resize blocks) place w.units h.unit h.there refl in
     omega (arith, u)
+held_transition f w (Transition.Deal place x) h =
+    let u = same_sum (at_unit f.kept) (dealing x) place w.units (λ v. refl) in
+    omega (arith, u)
 held_transition f w (Transition.Give e c xs) h =
     let q = same_sum (in_queue f) (completing xs.seen c) c.ticket.queue w.queues (λ z. refl) in
     let a = ap (λ l. sum_by (of_chain f.port) l) h.held in
@@ -339,6 +342,9 @@ entered_transition p (Transition.Hard i jobs) w a h =
 entered_transition p (Transition.Resize place blocks) w a h =
     let u = same_sum (entered_count p) (stepped (Step.Resize blocks)) place w.units (λ v. refl) in
     omega (arith, u)
+entered_transition p (Transition.Deal place x) w a h =
+    let u = same_sum (entered_count p) (dealing x) place w.units (λ v. refl) in
+    omega (arith, u)
 entered_transition p d w a h = omega (arith)
 
 alive_transition : (p : Ticket → ℕ) (d : Transition) (w : PlainWorld) → AreOwned w → May d w
@@ -376,6 +382,9 @@ alive_transition p (Transition.Hard i jobs) w a h =
     omega (arith, u)
 alive_transition p (Transition.Resize place blocks) w a h =
     let u = same_sum (living_count p) (stepped (Step.Resize blocks)) place w.units (λ v. refl) in
+    omega (arith, u)
+alive_transition p (Transition.Deal place x) w a h =
+    let u = same_sum (living_count p) (dealing x) place w.units (λ v. refl) in
     omega (arith, u)
 alive_transition p d w a h = omega (arith)
 

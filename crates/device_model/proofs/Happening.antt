@@ -376,6 +376,7 @@ does w (Event.Prepare k) f own no_fetch h = absurd own
 does w (Event.Resize place blocks) f own no_fetch h = absurd own
 does w (Event.Hard place) f own no_fetch h = absurd own
 does w Event.Wake f own no_fetch h = absurd own
+does w (Event.Deal place x) f own no_fetch h = absurd own
 does w (Event.Resume k) f own no_fetch h =
     (Transition.Resume k h.job, refl, record { worker = h.worker; free = h.free; rest = h.rest; first = h.first })
 does w (Event.Fetch i) f own no_fetch h = absurd (no_fetch tt)

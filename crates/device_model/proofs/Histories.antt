@@ -4,7 +4,7 @@ use Rattle.std.specs.Prelude.{slice_get}
 use Rattle.unit_model.specs.Steps.{Step, alive}
 use Rattle.unit_model.specs.Enabling.{is_parked}
 use Rattle.unit_model.specs.Lawful.{IsLawful}
-use Rattle.unit_model.specs.Unit.{PlainUnit, tasks_of_jobs, after as stepped, parking, IsUnit}
+use Rattle.unit_model.specs.Unit.{PlainUnit, tasks_of_jobs, after as stepped, parking, IsUnit, dealing}
 use Rattle.task_mgmt.specs.Functions.{step_by}
 use Rattle.task_mgmt.specs.declared.kind.MarkBy.{MarkBy}
 use Rattle.task_mgmt.specs.declared.kind.MarkBy.TheVariants.{Abort, Reset}
@@ -75,4 +75,6 @@ transition_units (Transition.Mark t p s jobs) w m h =
     one_goes (step_by s) p.unit w.units u m.marking.unit_there (may_mark s u) (free_mark s u) h
 transition_units (Transition.Hard p jobs) w m h = one_goes (Step.Reset hard_code) p.unit w.units m.unit m.there tt tt h
 transition_units (Transition.Resize place blocks) w m h = one_goes (Step.Resize blocks) place w.units m.unit m.there m.may tt h
+transition_units (Transition.Deal place x) w m h =
+    one_changes (dealing x) place w.units m.unit m.there (λ is. record { lawful = is.lawful; holds = is.holds }) h
 transition_units d w m h = h

@@ -111,9 +111,9 @@ joins (Transition.CommitAborted k x why) w s u q =
 joins (Transition.Defer k x) w s u q =
     record {
       holds = holds w k (Hand.Taken x) x.unit u.0 s u.1;
-      entry = u.2.0.0;
-      ready = u.2.0.1;
-      backed = u.2.1;
+      entry = u.2.0;
+      ready = u.2.1;
+      waits = u.2.2;
     }
 joins Transition.Wake w s u q = s
 joins (Transition.Resume k x) w s u q = s
@@ -146,6 +146,7 @@ joins (Transition.Respond c r xs) w s u q =
 joins (Transition.Hard p jobs) w s u q =
     record { unit = u.0; there = u.1; before = u.2.0; releases = u.2.1; seat = s.0; seat_there = s.1 }
 joins (Transition.Resize place blocks) w s u q = record { unit = u.0; there = u.1; may = u.2 }
+joins (Transition.Deal place x) w s u q = record { unit = u.0; there = u.1; may = u.2 }
 joins (Transition.Give e c xs) w s u q =
     record {
       later = s.later;

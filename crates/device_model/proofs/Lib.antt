@@ -38,6 +38,7 @@ pub mod Quiet
 pub mod Choosing
 pub mod Rests
 pub mod Waits
+pub mod Storing
 pub mod Happening
 pub mod Lowers
 pub mod Bounds

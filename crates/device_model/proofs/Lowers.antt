@@ -171,6 +171,7 @@ lowers (Transition.Resize place blocks) w h =
     let n = length-append w.waiting (change_reports w.tells_changes (slice_get w.units place)) in
     let m = changes_few w.tells_changes (slice_get w.units place) in
     omega (arith, a, n, m)
+lowers (Transition.Deal place x) w h = let a = held_transition owed w (Transition.Deal place x) h in omega (arith, a)
 lowers (Transition.Give e c xs) w h =
     let a = held_transition owed w (Transition.Give e c xs) h in
     let b = still_whole (completing xs.seen c) c.ticket.queue w (λ q. refl) in

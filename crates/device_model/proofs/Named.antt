@@ -9,7 +9,7 @@ use Rattle.unit_model.specs.Steps.{Step}
 use Rattle.unit_model.specs.Released.{released}
 use Rattle.unit_model.proofs.Tickets.{eq-same, same-true}
 use Rattle.unit_model.specs.Jobs.{PlainJob, is_job_of}
-use Rattle.unit_model.specs.Unit.{PlainUnit, after as stepped, parking}
+use Rattle.unit_model.specs.Unit.{PlainUnit, after as stepped, parking, dealing}
 use Rattle.task_mgmt.specs.Functions.{step_by}
 use Rattle.device_model.specs.Parts.{Outcome, Slot, Hand}
 use Rattle.device_model.specs.World.{PlainQueue, Seat, PlainWorld, Opens, IsNewSeat, change, Everywhere}
@@ -163,6 +163,8 @@ units_after (Transition.Leave k place t jobs) w m h = steps (Step.Leave t) place
 units_after (Transition.Mark t p s jobs) w m h = steps (step_by s) p.unit w.units h.1
 units_after (Transition.Hard p jobs) w m h = steps (Step.Reset hard_code) p.unit w.units h.1
 units_after (Transition.Resize place blocks) w m h = steps (Step.Resize blocks) place w.units h.1
+units_after (Transition.Deal place x) w m h =
+    everywhere (λ i u. AllByRecursion (IsFor i) u.parked) (dealing x) place w.units (λ u at n. n) h.1
 units_after d w m h = h.1
 
 -- The seats and the hand-off

@@ -2,7 +2,7 @@
 use Rattle.std.proofs.Common.{◌≡◌, ℕ, Some}
 use Rattle.std.specs.Prelude.{slice_get}
 use Rattle.unit_model.specs.Steps.{Step}
-use Rattle.unit_model.specs.Unit.{PlainUnit, after as stepped, parking}
+use Rattle.unit_model.specs.Unit.{PlainUnit, after as stepped, parking, dealing}
 use Rattle.task_mgmt.specs.Functions.{step_by}
 use Rattle.device_model.specs.Parts.{Outcome, Slot}
 use Rattle.device_model.specs.World.{PlainQueue, PlainWorld, change}
@@ -39,7 +39,7 @@ unit_part (Transition.CommitBusy k x) w h =
     (u, at, (h.may, h.wants), get_change (stepped (Step.Busy x.entry.ticket)) x.unit w.units u at)
 unit_part (Transition.CommitAborted k x why) w h = (h.holds.unit, h.holds.there, (h.alive, h.marked), h.holds.there)
 unit_part (Transition.Defer k x) w h =
-    (h.holds.unit, h.holds.there, ((h.entry, h.ready), h.backed), h.holds.there)
+    (h.holds.unit, h.holds.there, (h.entry, h.ready, h.waits), h.holds.there)
 unit_part (Transition.Leave k place t jobs) w h =
     let u = h.holds.unit in let at = h.holds.there in
     (u, at, (h.may, h.enables), get_change (stepped (Step.Leave t)) place w.units u at)
@@ -56,6 +56,8 @@ unit_part (Transition.Hard p jobs) w h = (
 )
 unit_part (Transition.Resize place blocks) w h =
     (h.unit, h.there, h.may, get_change (stepped (Step.Resize blocks)) place w.units h.unit h.there)
+unit_part (Transition.Deal place x) w h =
+    (h.unit, h.there, h.may, get_change (dealing x) place w.units h.unit h.there)
 unit_part (Transition.EnterStale x) w h = absurd h
 unit_part (Transition.CommitUnknown k x) w h = absurd h
 unit_part (Transition.Idle e) w h = absurd h

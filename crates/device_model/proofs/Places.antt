@@ -11,7 +11,7 @@ use Rattle.ring_core.specs.State.{next_ticket}
 use Rattle.ring_core.specs.declared.log.Ticket.{Ticket}
 use Rattle.unit_model.specs.Jobs.{PlainJob, of_tasks, is_job_of}
 use Rattle.task_mgmt.specs.Functions.{PlainFunction, marking, asking, failing, checking, step_by}
-use Rattle.unit_model.specs.Unit.{PlainUnit, after as stepped, parking}
+use Rattle.unit_model.specs.Unit.{PlainUnit, after as stepped, parking, dealing}
 use Rattle.device_model.specs.Parts.{PlainFetch, Outcome, Slot, Hand}
 use Rattle.device_model.specs.World.{PlainQueue, Seat, Opened, PlainWorld, change, Everywhere, IsNewSeat, Opens}
 use Rattle.device_model.specs.Transitions.{Transition}
@@ -262,6 +262,9 @@ moves p (Transition.Hard m jobs) w h =
     record { accepted = omega (arith); used = omega (arith); standing = omega (arith, s, j, k) }
 moves p (Transition.Resize place blocks) w h =
     let s = stays p (Step.Resize blocks) place w.units h.unit h.there refl in
+    record { accepted = omega (arith); used = omega (arith); standing = omega (arith, s) }
+moves p (Transition.Deal place x) w h =
+    let s = sum_change (at_unit p) (dealing x) place w.units h.unit h.there in
     record { accepted = omega (arith); used = omega (arith); standing = omega (arith, s) }
 moves p (Transition.Ask t place rule b) w h =
     let f = goes_on p (asking b) w.function in

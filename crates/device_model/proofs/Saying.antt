@@ -9,7 +9,7 @@ use Rattle.unit_model.specs.Endings.{Ending}
 use Rattle.unit_model.specs.Steps.{Step}
 use Rattle.unit_model.specs.Released.{released}
 use Rattle.unit_model.specs.Jobs.{PlainJob, is_job_of}
-use Rattle.unit_model.specs.Unit.{PlainUnit, after as stepped, parking}
+use Rattle.unit_model.specs.Unit.{PlainUnit, after as stepped, parking, dealing}
 use Rattle.task_mgmt.specs.Functions.{step_by}
 use Rattle.device_model.specs.Parts.{PlainFetch, Outcome, Slot, Hand, request_of}
 use Rattle.device_model.specs.World.{PlainQueue, Seat, PlainWorld, Opens, change, owner, Everywhere, all_of, all_off}
@@ -493,6 +493,17 @@ says_transition old (Transition.Resize place blocks) ds w e n m h =
       seats = old_seats d ds w.seats h.seats;
       handed_off = older_jobs (between w) d ds h.handed_off;
       units = steps old d ds (Step.Resize blocks) place w.units (λ i. refl) h.units;
+    }
+says_transition old (Transition.Deal place x) ds w e n m h =
+    let d = Transition.Deal place x in
+    record {
+      slots = old_slots old.inventory d ds w.queues h.slots;
+      seats = old_seats d ds w.seats h.seats;
+      handed_off = older_jobs (between w) d ds h.handed_off;
+      units = everywhere (UnitSays old (d ∷ ds)) (dealing x) place w.units (λ u at was. (
+        record { opened = was.0.opened; there = was.0.there; opening = was.0.opening; steps = was.0.steps },
+        was.1,
+      )) (old_units old d ds w.units (λ i. refl) h.units);
     }
 says_transition old (Transition.Give r c xs) ds w e n m h =
     let d = Transition.Give r c xs in

@@ -9,7 +9,7 @@ use Rattle.unit_model.specs.Endings.{Ending}
 use Rattle.ring_core.specs.State.{PlainChain}
 use Rattle.ring_core.specs.Writes.{Write, all_written}
 use Rattle.unit_model.specs.Jobs.{PlainJob}
-use Rattle.unit_model.specs.Unit.{after as stepped, parking}
+use Rattle.unit_model.specs.Unit.{after as stepped, parking, dealing}
 use Rattle.task_mgmt.specs.Functions.{step_by}
 use Rattle.device_model.specs.Parts.{Completion, Outcome, Slot, Hand}
 use Rattle.device_model.specs.World.{PlainWorld, Opens, change, owner, Everywhere}
@@ -140,6 +140,7 @@ so_many_after (Transition.Mark t p m jobs) w =
 so_many_after (Transition.Hard p jobs) w =
     (refl, stepped_many (Step.Reset hard_code) p.unit w, many (with_jobs jobs) w.workers w.seats)
 so_many_after (Transition.Resize place blocks) w = (refl, stepped_many (Step.Resize blocks) place w, refl)
+so_many_after (Transition.Deal place x) w = (refl, many (dealing x) place w.units, refl)
 so_many_after (Transition.Respond c r xs) w = (used_many c xs w, refl, refl)
 so_many_after (Transition.Give e c xs) w = (used_many c xs w, refl, refl)
 so_many_after d w = (refl, refl, refl)
@@ -243,6 +244,7 @@ tells_after (Transition.Check a b) w = refl
 tells_after (Transition.Respond a b c) w = refl
 tells_after (Transition.Hard a b) w = refl
 tells_after (Transition.Resize a b) w = refl
+tells_after (Transition.Deal a b) w = refl
 tells_after (Transition.Give a b c) w = refl
 tells_after (Transition.Miss a) w = refl
 tells_after (Transition.Idle a) w = refl

@@ -12,7 +12,7 @@ use Rattle.unit_model.specs.Released.{released}
 use Rattle.unit_model.specs.Weights.{weight, alive_count}
 use Rattle.unit_model.proofs.Parked.{alive_enter, alive_leave}
 use Rattle.unit_model.specs.Jobs.{PlainJob, is_job_of, of_tasks}
-use Rattle.unit_model.specs.Unit.{PlainUnit, after as stepped, parking}
+use Rattle.unit_model.specs.Unit.{PlainUnit, after as stepped, parking, dealing}
 use Rattle.task_mgmt.specs.Functions.{step_by}
 use Rattle.task_mgmt.specs.declared.kind.MarkBy.{MarkBy}
 use Rattle.task_mgmt.specs.declared.kind.MarkBy.TheVariants.{Abort, Reset}
@@ -347,6 +347,9 @@ transition_balances (Transition.Hard i jobs) w m names h n p =
 transition_balances (Transition.Resize place blocks) w m names h n p =
     let out = out_count n p w.seats (between w) in
     calm n p (Step.Resize blocks) place w.units m.unit out out m.there refl refl refl (h n p)
+transition_balances (Transition.Deal place x) w m names h n p =
+    let out = out_count n p w.seats (between w) in
+    moves n p (dealing x) place w.units m.unit 0 0 out out m.there (omega (arith)) refl (h n p)
 transition_balances d w m names h n p =
     let f = flows n p d w m names in
     λ u at. let b = h n p u at in omega (arith, b, f)

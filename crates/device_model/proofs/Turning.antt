@@ -41,6 +41,7 @@ may (Transition.Check t p) w h = h
 may (Transition.Respond c r xs) w h = h
 may (Transition.Hard p jobs) w h = h
 may (Transition.Resize place blocks) w h = h
+may (Transition.Deal place x) w h = h
 may (Transition.Give e c xs) w h = h
 may (Transition.Miss e) w h = h
 may (Transition.Idle e) w h = absurd h
@@ -80,6 +81,7 @@ changes (Transition.Check t p) w h = refl
 changes (Transition.Respond c r xs) w h = refl
 changes (Transition.Hard p jobs) w h = refl
 changes (Transition.Resize place blocks) w h = refl
+changes (Transition.Deal place x) w h = refl
 changes (Transition.Give e c xs) w h = refl
 changes (Transition.Miss e) w h = refl
 

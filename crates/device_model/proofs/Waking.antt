@@ -11,7 +11,7 @@ use Rattle.unit_model.specs.Tasks.{Entry, same_ticket, task_of}
 use Rattle.unit_model.specs.Steps.{Step, alive, is_alive}
 use Rattle.unit_model.specs.Clearing.{met_by, met_at, is_clear}
 use Rattle.unit_model.specs.Jobs.{PlainJob}
-use Rattle.unit_model.specs.Unit.{PlainUnit, after as stepped, parking}
+use Rattle.unit_model.specs.Unit.{PlainUnit, after as stepped, parking, dealing}
 use Rattle.task_mgmt.specs.Functions.{PlainFunction, marking, next_look, asking, failing, checking}
 use Rattle.task_mgmt.specs.declared.function.Mark.{Mark as Place}
 use Rattle.device_model.specs.Parts.{Outcome, Slot, Hand, lengths_of}
@@ -900,6 +900,38 @@ check_before v w g s k is units step sp h =
           }
     ]
 
+-- where one unit keeps its steps
+check_kept : (v w : PlainWorld) (g : PlainUnit → PlainUnit) (k : ℕ) → v.function ≡ w.function
+    → v.units ≡ change g k w.units → ((u : PlainUnit) → (g u).steps ≡ u.steps) → MayCheck v → MayCheck w
+check_kept v w g k is units kept h =
+    elim (item_was g k w.units h.mark.unit h.unit (ap (λ l. slice_get l h.mark.unit) (sym units) ∙ h.unit_there)) [
+      | inl p ↦
+          let now = ap (λ (u : PlainUnit). u.steps) p.3 ∙ kept p.1 in
+          record {
+            opened = h.opened;
+            there = sym is ∙ h.there;
+            left = h.left;
+            mark = h.mark;
+            later = h.later;
+            still = h.still;
+            unit = p.1;
+            unit_there = ap (λ n. slice_get w.units n) p.0 ∙ p.2;
+            clear = subst (λ l. is_clear h.mark.place l ≡ true) now h.clear;
+          }
+      | inr at ↦
+          record {
+            opened = h.opened;
+            there = sym is ∙ h.there;
+            left = h.left;
+            mark = h.mark;
+            later = h.later;
+            still = h.still;
+            unit = h.unit;
+            unit_there = at;
+            clear = h.clear;
+          }
+    ]
+
 none_waits : (xs : List Place) (x : Place) (later : List Place) → xs ≡ [] → xs ≡ x ∷ later → ⊥
 none_waits xs x later a b = cc
 
@@ -936,6 +968,7 @@ check_wakes (Transition.Hard p jobs) w m h =
 check_wakes (Transition.Resize place blocks) w m h =
     let s = Step.Resize blocks in
     inl (check_before (after (Transition.Resize place blocks) w) w (stepped s) s place refl refl (λ u. refl) (λ past t k. k) h)
+check_wakes (Transition.Deal place x) w m h = inl (check_kept (after (Transition.Deal place x) w) w (dealing x) place refl refl (λ u. refl) h)
 check_wakes (Transition.Ask t place rule b) w m h = inr (inl refl)
 check_wakes (Transition.MarkRefused t) w m h = inr (inl refl)
 check_wakes (Transition.Check t p) w m h = inl (applies (Transition.Check t p) w m)
@@ -1059,6 +1092,7 @@ either d w (Event.Prepare k) own m h = absurd own
 either d w (Event.Resize place blocks) own m h = absurd own
 either d w (Event.Hard place) own m h = absurd own
 either d w Event.Wake own m h = absurd own
+either d w (Event.Deal place x) own m h = absurd own
 either d w (Event.Resume k) own m h = resume_wakes d w k m h
 either d w Event.Raise own m h = raise_wakes d w m h
 

@@ -15,7 +15,7 @@ use Rattle.unit_model.proofs.Tickets.{same-true, itself, apart, or_right}
 use Rattle.unit_model.proofs.Distinct.{alive_distinct}
 use Rattle.unit_model.proofs.Filtered.{other_head}
 use Rattle.unit_model.specs.Jobs.{PlainJob}
-use Rattle.unit_model.specs.Unit.{PlainUnit, IsUnit, after as stepped, parking}
+use Rattle.unit_model.specs.Unit.{PlainUnit, IsUnit, after as stepped, parking, dealing}
 use Rattle.unit_model.specs.Asking.{IsOf}
 use Rattle.task_mgmt.specs.Functions.{step_by}
 use Rattle.task_mgmt.specs.declared.kind.MarkBy.{MarkBy}
@@ -31,7 +31,7 @@ use Rattle.device_model.specs.Found.{MayStep, handed_out}
 use Rattle.device_model.specs.Event.Commit.{CommitsUnknown}
 use Rattle.device_model.specs.Lawful.{AreUnits}
 use Rattle.device_model.specs.Standing.{AreAtWork, IsToCommit, IsToLeave, HandWorks}
-use Rattle.device_model.proofs.Lists.{same, get_change, get_other, at_other}
+use Rattle.device_model.proofs.Lists.{stays as still, same, get_change, get_other, at_other}
 use Rattle.device_model.proofs.Staying.{run_keeps}
 use Rattle.device_model.proofs.Histories.{may_mark, new_units, transition_units}
 use Rattle.device_model.proofs.Handed.{IsOpen, IsEnded, Spares, open_on, ended_on, open_entered, open_given}
@@ -197,6 +197,26 @@ stays s place old new seats off g m h = (
   λ i r at. mild_seat s place old new r g m (h.0 i r at),
   jobs_on s place old new off g (mild_jobs s place off m) h.1,
 )
+
+-- A change of one unit that leaves its steps
+
+at_kept : (P : List Step → Type 0) (g : PlainUnit → PlainUnit) (k i : ℕ) (us : List PlainUnit)
+    → ((u : PlainUnit) → (g u).steps ≡ u.steps) → At P us i → At P (change g k us) i
+at_kept P g k i us e h =
+    let v = still (λ (u : PlainUnit). u.steps) g k us e i h.0 h.1 in
+    (v.0, v.1, subst P (sym v.2) h.2)
+
+hand_kept : (g : PlainUnit → PlainUnit) (k : ℕ) (us : List PlainUnit) (h : Hand) → ((u : PlainUnit) → (g u).steps ≡ u.steps)
+    → HandAt us h → HandAt (change g k us) h
+hand_kept g k us Hand.Empty e h = tt
+hand_kept g k us (Hand.Taken x) e h = at_kept (IsOpen x.entry) g k x.unit us e h
+hand_kept g k us (Hand.Done x o) e h = at_kept (IsEnded x.entry.ticket) g k x.unit us e h
+hand_kept g k us (Hand.Answered place t) e h = at_kept (IsEnded t) g k place us e h
+
+jobs_kept : (g : PlainUnit → PlainUnit) (k : ℕ) (us : List PlainUnit) (xs : List PlainJob)
+    → ((u : PlainUnit) → (g u).steps ≡ u.steps) → JobsAt us xs → JobsAt (change g k us) xs
+jobs_kept g k us [] e h = tt
+jobs_kept g k us (x ∷ xs) e h = (at_kept (IsOpen x.entry) g k x.unit us e h.0, jobs_kept g k us xs e h.1)
 
 -- A task stands in one place
 
@@ -505,6 +525,14 @@ transition_works (Transition.Resize place blocks) w m us names b h =
     let s = Step.Resize blocks in
     stays s place w.units (change (stepped s) place w.units) w.seats (between w)
     (goes s (stepped s) place w.units (λ v. refl)) (λ t. tt) h
+transition_works (Transition.Deal place x) w m us names b h = (
+  λ i r at.
+      let was = h.0 i r at in (
+        hand_kept (dealing x) place w.units r.hand (λ u. refl) was.0,
+        jobs_kept (dealing x) place w.units r.out (λ u. refl) was.1,
+      ),
+  jobs_kept (dealing x) place w.units (between w) (λ u. refl) h.1,
+)
 transition_works d w m us names b h = h
 
 -- Every world that is reached

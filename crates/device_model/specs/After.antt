@@ -14,6 +14,7 @@ use Rattle.device_model.specs.Event.Check.{after_check}
 use Rattle.device_model.specs.Event.AnswerTmf.{after_respond}
 use Rattle.device_model.specs.Event.Hard.{after_hard}
 use Rattle.device_model.specs.Event.Resize.{after_resize}
+use Rattle.device_model.specs.Event.Deal.{after_deal}
 use Rattle.device_model.specs.Event.Raise.{after_give, after_miss}
 use Rattle.device_model.specs.Event.Wake.{after_defer, after_wake, after_resume}
 
@@ -50,6 +51,7 @@ after (Transition.Check t p) w = after_check t p w
 after (Transition.Respond c r xs) w = after_respond c r xs w
 after (Transition.Hard p jobs) w = after_hard p jobs w
 after (Transition.Resize place blocks) w = after_resize place blocks w
+after (Transition.Deal place x) w = after_deal place x w
 after (Transition.Give e c xs) w = after_give e c xs w
 after (Transition.Miss e) w = after_miss e w
 after (Transition.Idle e) w = w

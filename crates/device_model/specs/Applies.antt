@@ -17,6 +17,7 @@ use Rattle.device_model.specs.Event.Mark.{MayMark}
 use Rattle.device_model.specs.Event.Check.{MayCheck}
 use Rattle.device_model.specs.Event.AnswerTmf.{MayRespond}
 use Rattle.device_model.specs.Event.Wake.{Awakens, MayResume}
+use Rattle.device_model.specs.Event.Deal.{Deals}
 
 abbrev pub Applies : PlainWorld → Event → Type 0
 Applies w (Event.Poke x) = LiesIn (length w.memory) x.addr (length x.bytes)
@@ -37,3 +38,4 @@ Applies w (Event.Resize place blocks) = (u : PlainUnit) × UnitIs w place u × M
 Applies w Event.Raise = (e : EventRecord) × (later : List EventRecord) × (w.waiting ≡ e ∷ later)
 Applies w Event.Wake = Awakens w
 Applies w (Event.Resume k) = MayResume w k
+Applies w (Event.Deal place x) = Deals w place x

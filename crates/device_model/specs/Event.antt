@@ -11,5 +11,6 @@ pub mod Check
 pub mod AnswerTmf
 pub mod Hard
 pub mod Resize
+pub mod Deal
 pub mod Raise
 pub mod Wake

@@ -1,10 +1,11 @@
 -- What may happen next, as a plain value.
 use Rattle.std.specs.Prelude.{ℕ}
+use Rattle.block_store.specs.Storage.{Dealing}
 use Rattle.ring_core.specs.Writes.{Write}
 use Rattle.device_model.specs.declared.event.Event as declared
 use Rattle.device_model.specs.declared.event.Event.TheVariants as event
 
--- one atomic step of the device, of its guest or of its operator
+-- one atomic step of the device, of its guest, of its operator or of its host
 pub data Event : Type 0 where
   Poke : Write → Event
   Fetch : ℕ → Event
@@ -24,6 +25,8 @@ pub data Event : Type 0 where
   Raise : Event
   Wake : Event
   Resume : ℕ → Event
+  -- no event of the code: calls of the host make these steps
+  Deal : ℕ → Dealing → Event
 
 -- an event of the code
 abbrev pub plain_event : declared.Event → Event

@@ -19,6 +19,7 @@ use Rattle.device_model.specs.Event.Check.{Checks}
 use Rattle.device_model.specs.Event.AnswerTmf.{Responds}
 use Rattle.device_model.specs.Event.Hard.{Resets}
 use Rattle.device_model.specs.Event.Resize.{Resizes}
+use Rattle.device_model.specs.Event.Deal.{Deals}
 use Rattle.device_model.specs.Event.Raise.{Gives, Misses}
 use Rattle.device_model.specs.Event.Wake.{Defers, Awakens, Resumes}
 use Rattle.device_model.specs.After.{after}
@@ -57,6 +58,7 @@ Happens (Transition.Check t p) w = Checks w t p
 Happens (Transition.Respond c r xs) w = Responds w c r xs
 Happens (Transition.Hard p jobs) w = Resets w p jobs
 Happens (Transition.Resize place blocks) w = Resizes w place blocks
+Happens (Transition.Deal place x) w = Deals w place x
 Happens (Transition.Give e c xs) w = Gives w e c xs
 Happens (Transition.Miss e) w = Misses w e
 Happens (Transition.Idle e) w = ⊥

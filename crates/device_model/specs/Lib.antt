@@ -28,6 +28,7 @@ pub mod Ordering
 pub mod Functions
 pub mod EventBuffers
 pub mod Waiting
+pub mod Storing
 pub mod Promise
 pub mod Live
 pub mod Inner

@@ -63,7 +63,8 @@ rouses w d = []
 abbrev pub roused : PlainWorld → Transition → ℕ
 roused w d = length (rouses w d)
 
--- a chain pays its price, a unit that a function visits 2, a hard reset and a resize 2, a write of the guest and a wake 1
+-- a chain pays its price, a unit that a function visits 2, a hard reset and a resize 2, a write of the guest, a wake and a
+-- deal 1
 abbrev pub pays : Transition → ℕ
 pays (Transition.Mark t p m jobs) = 2
 pays (Transition.Ask t place rule b) = 2
@@ -72,6 +73,7 @@ pays (Transition.Hard p jobs) = 2
 pays (Transition.Resize place blocks) = 2
 pays (Transition.Poke x) = 1
 pays Transition.Wake = 1
+pays (Transition.Deal place x) = 1
 pays d = fetches price d
 
 abbrev pub if_answered : Hand → ℕ

@@ -17,7 +17,7 @@ use Rattle.unit_model.specs.Steps.{Step, alive, is_alive, next_number}
 use Rattle.unit_model.specs.Marks.{mark_of}
 use Rattle.unit_model.specs.Clearing.{is_clear}
 use Rattle.unit_model.specs.Seen.{any_met}
-use Rattle.unit_model.specs.Unit.{PlainUnit, after as stepped, parking}
+use Rattle.unit_model.specs.Unit.{PlainUnit, may_wait, after as stepped, parking, MayDeal, dealing}
 use Rattle.unit_model.specs.Asking.{IsNamed, IsMisdelivered, CannotCommit}
 use Rattle.task_mgmt.specs.Functions.{step_by, response_of}
 use Rattle.task_mgmt.specs.declared.control.ControlDecision.TheVariants as managed
@@ -58,6 +58,7 @@ unit_of (Transition.Ask t place rule b) = Some place
 unit_of (Transition.Check t p) = Some p.unit
 unit_of (Transition.Hard p jobs) = Some p.unit
 unit_of (Transition.Resize place blocks) = Some place
+unit_of (Transition.Deal place x) = Some place
 unit_of d = None
 
 -- what it asks of the unit
@@ -76,13 +77,15 @@ AsksUnit (Transition.CommitBusy k x) u = MayStep u (Step.Busy x.entry.ticket) ×
 AsksUnit (Transition.CommitAborted k x why) u =
     (is_alive x.entry.ticket u.steps ≡ true) × (mark_of x.entry.ticket u.steps ≡ Some why)
 AsksUnit (Transition.CommitUnknown k x) u = CannotCommit (task_of x.entry.ticket (alive u.steps)) x u.steps
-AsksUnit (Transition.Defer k x) u = ((e : Entry) × history.IsReady x.entry.ticket e u.steps) × (u.backed ≡ true)
+AsksUnit (Transition.Defer k x) u =
+    (e : Entry) × history.IsReady x.entry.ticket e u.steps × (may_wait u e.command ≡ true)
 AsksUnit (Transition.Leave k place t jobs) u = MayStep u (Step.Leave t) × (jobs ≡ handed_out u (Step.Leave t))
 AsksUnit (Transition.Mark t p m jobs) u = (p.place ≡ length u.steps) × (jobs ≡ handed_out u (step_by m))
 AsksUnit (Transition.Ask t place rule b) u = b ≡ any_met rule (alive u.steps)
 AsksUnit (Transition.Check t p) u = is_clear p.place u.steps ≡ true
 AsksUnit (Transition.Hard p jobs) u = (p.place ≡ length u.steps) × (jobs ≡ handed_out u (Step.Reset hard_code))
 AsksUnit (Transition.Resize place blocks) u = MayStep u (Step.Resize blocks)
+AsksUnit (Transition.Deal place x) u = MayDeal u x
 AsksUnit d u = ⊥
 
 -- and what it leaves
@@ -96,6 +99,7 @@ unit_after (Transition.Leave k place t jobs) u = stepped (Step.Leave t) u
 unit_after (Transition.Mark t p m jobs) u = stepped (step_by m) u
 unit_after (Transition.Hard p jobs) u = stepped (Step.Reset hard_code) u
 unit_after (Transition.Resize place blocks) u = stepped (Step.Resize blocks) u
+unit_after (Transition.Deal place x) u = dealing x u
 unit_after d u = u
 
 -- the queue whose lock the transition takes, with the memory's inside it
@@ -218,6 +222,7 @@ StandsFor (Transition.Check t p) w = (later : List Place) × IsWaiting w t (p �
 StandsFor (Transition.Respond c r xs) w = (g : IsDone w c) × (r ≡ response_of g.waiting.opened.function)
 StandsFor (Transition.Hard p jobs) w = HasSeat w w.workers
 StandsFor (Transition.Resize place blocks) w = ⊤
+StandsFor (Transition.Deal place x) w = ⊤
 StandsFor (Transition.Give e c xs) w = IsPort w e c
 StandsFor (Transition.Miss e) w = Misses w e
 StandsFor (Transition.EnterStale x) w = ⊥

@@ -9,7 +9,7 @@ use Rattle.unit_model.specs.Marks.{marked}
 use Rattle.unit_model.specs.Enabling.{enabled}
 use Rattle.unit_model.specs.Lawful.{IsReady}
 use Rattle.unit_model.specs.Jobs.{PlainJob}
-use Rattle.unit_model.specs.Unit.{PlainUnit}
+use Rattle.unit_model.specs.Unit.{PlainUnit, is_backed}
 use Rattle.unit_model.specs.Asking.{IsNamed}
 use Rattle.unit_model.specs.declared.rule.Rule.{Rule}
 use Rattle.task_mgmt.specs.declared.kind.Kind.TheVariants.{Querying}
@@ -100,7 +100,7 @@ pub record AreAtWork (w : PlainWorld) : Type 0 where
 pub record IsAside (w : PlainWorld) (x : PlainJob) : Type 0 where
   pub unit : PlainUnit
   pub there : UnitIs w x.unit unit
-  pub backed : unit.backed ≡ true
+  pub backed : is_backed unit ≡ true
   pub ready : IsReady x.entry.ticket x.entry unit.steps
 
 abbrev pub AreAside : PlainWorld → Type 0
@@ -108,7 +108,7 @@ AreAside w = AllByRecursion (IsAside w) w.aside
 
 -- no unit's disk is one whose pages come and go
 abbrev pub NoneIsBacked : PlainWorld → Type 0
-NoneIsBacked w = Everywhere (λ i u. u.backed ≡ false) w.units
+NoneIsBacked w = Everywhere (λ i u. is_backed u ≡ false) w.units
 
 -- Tickets
 

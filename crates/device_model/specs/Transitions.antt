@@ -1,5 +1,6 @@
 -- A transition is an event with what it found and did. It fixes the world after it; the event and the action are parts of it.
 use Rattle.std.specs.Prelude.{ℕ, Bool, true, false, List, [], ◌∷◌, Option, Some, None}
+use Rattle.block_store.specs.Storage.{Dealing}
 use Rattle.scsi_codec.specs.declared.event_queue.Event.{Event as EventRecord}
 use Rattle.scsi_codec.specs.declared.control_queue.FunctionResponse.{FunctionResponse}
 use Rattle.command_model.specs.PlainReply.{PlainReply}
@@ -63,6 +64,8 @@ pub data Transition : Type 0 where
   Hard : Place → List PlainJob → Transition
   -- the unit, and its blocks from now on
   Resize : ℕ → ℕ → Transition
+  -- the unit, and what the host takes of its disk or says that it wrote
+  Deal : ℕ → Dealing → Transition
   -- Raise: into the oldest buffer, or missed
   Give : EventRecord → PlainChain → Completion → Transition
   Miss : EventRecord → Transition
@@ -108,6 +111,7 @@ event_of (Transition.Check t p) = Event.Check
 event_of (Transition.Respond c r xs) = Event.AnswerTmf
 event_of (Transition.Hard p jobs) = Event.Hard p.unit
 event_of (Transition.Resize place blocks) = Event.Resize place blocks
+event_of (Transition.Deal place x) = Event.Deal place x
 event_of (Transition.Give e c xs) = Event.Raise
 event_of (Transition.Miss e) = Event.Raise
 event_of (Transition.Idle e) = e

@@ -30,6 +30,7 @@ IsOwn (Event.Prepare k) = ⊥
 IsOwn (Event.Hard place) = ⊥
 IsOwn (Event.Resize place blocks) = ⊥
 IsOwn Event.Wake = ⊥
+IsOwn (Event.Deal place x) = ⊥
 IsOwn e = ⊤
 
 -- whoever writes memory wakes each Fetch, since the guest's rings lie there; a job that was put wakes each Take; jobs that

@@ -11,6 +11,7 @@ mod event;
 pub mod laws;
 pub mod live_laws;
 pub mod settling_laws;
+pub mod storage_laws;
 pub mod trace_laws;
 pub mod waiting_laws;
 

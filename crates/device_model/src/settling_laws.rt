@@ -92,7 +92,8 @@ pub fn nothing_is_stuck()
 {}
 
 /// Each step lowers what is still owed, but for what it brings. A chain brings its price as it is fetched, a function
-/// that visits a unit 2, a hard reset or a resize 2, a write of the guest or a wake 1. Each job that is woken brings 2.
+/// that visits a unit 2, a hard reset or a resize 2, a write of the guest, a wake or a deal 1. Each job that is woken
+/// brings 2.
 pub fn each_transition_is_paid_for()
     ensures { (w : PlainWorld) (d : Transition) → Happens d w → measure (after d w) + 1 ≤
         measure w + pays d + 2 * roused w d }

@@ -49,6 +49,7 @@ elsewhere a b w Event.AnswerTmf is h =
     record { opened = h.opened; there = h.there; left = h.left; still = h.still }
 elsewhere a b w (Event.Hard place) is h = h
 elsewhere a b w (Event.Resize place blocks) is h = h
+elsewhere a b w (Event.Deal place x) is h = record { unit = h.unit; there = h.there; may = h.may }
 elsewhere a b w Event.Raise is h = h
 elsewhere a b w Event.Wake is h = record { first = h.first; rest = h.rest; waits = h.waits }
 elsewhere a b w (Event.Resume k) is h =

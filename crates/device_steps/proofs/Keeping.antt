@@ -4,7 +4,7 @@ use Rattle.std.specs.Prelude.{map}
 use Rattle.ring_core.specs.declared.layout.Layout.{Layout}
 use Rattle.unit_model.specs.Steps.{Step}
 use Rattle.unit_model.specs.Endings.{Ending}
-use Rattle.unit_model.specs.Unit.{PlainUnit, after as stepped, parking}
+use Rattle.unit_model.specs.Unit.{PlainUnit, is_backed, after as stepped, parking, dealing}
 use Rattle.task_mgmt.specs.Functions.{step_by}
 use Rattle.device_model.specs.Parts.{Outcome, Slot}
 use Rattle.device_model.specs.World.{PlainQueue, PlainWorld, change}
@@ -12,6 +12,7 @@ use Rattle.device_model.specs.Transitions.{Transition}
 use Rattle.device_model.specs.Changing.{arriving, taking, spending, broken_by, slotted, directing, completing}
 use Rattle.device_model.specs.Event.Hard.{hard_code}
 use Rattle.device_model.specs.After.{after}
+use Rattle.device_model.proofs.Aside.{backed_mark, backed_resize, backed_deal}
 use Rattle.device_steps.specs.Sound.{size_of, lun_of}
 
 -- what a change keeps of the item
@@ -57,6 +58,7 @@ rings_stay look (Transition.Check t p) w = refl
 rings_stay look (Transition.Respond c r xs) w = map_change (λ (q : PlainQueue). look q.ring.memory q.ring.layout) (completing xs.seen c) c.ticket.queue w.queues (λ (q : PlainQueue). refl)
 rings_stay look (Transition.Hard p jobs) w = refl
 rings_stay look (Transition.Resize place blocks) w = refl
+rings_stay look (Transition.Deal place x) w = refl
 rings_stay look (Transition.Give e c xs) w = map_change (λ (q : PlainQueue). look q.ring.memory q.ring.layout) (completing xs.seen c) c.ticket.queue w.queues (λ (q : PlainQueue). refl)
 rings_stay look (Transition.Miss e) w = refl
 rings_stay look (Transition.Idle e) w = refl
@@ -106,6 +108,21 @@ luns_stay (Transition.Check t p) w = refl
 luns_stay (Transition.Respond c r xs) w = refl
 luns_stay (Transition.Hard p jobs) w = map_change lun_of (stepped (Step.Reset hard_code)) p.unit w.units (λ (u : PlainUnit). refl)
 luns_stay (Transition.Resize place blocks) w = map_change lun_of (stepped (Step.Resize blocks)) place w.units (λ (u : PlainUnit). refl)
+luns_stay (Transition.Deal place x) w = map_change lun_of (dealing x) place w.units (λ (u : PlainUnit). refl)
 luns_stay (Transition.Give e c xs) w = refl
 luns_stay (Transition.Miss e) w = refl
 luns_stay (Transition.Idle e) w = refl
+
+-- and its kind of disk: one whose pages come and go, or one in memory
+pub kinds_stay : (d : Transition) (w : PlainWorld) → map is_backed (after d w).units ≡ map is_backed w.units
+kinds_stay (Transition.Run x) w = map_change is_backed (stepped (Step.Enter x.entry)) x.unit w.units (λ u. refl)
+kinds_stay (Transition.Park x) w = map_change is_backed (parking x) x.unit w.units (λ u. refl)
+kinds_stay (Transition.EnterFull x) w = map_change is_backed (stepped (Step.Full x.entry.ticket)) x.unit w.units (λ u. refl)
+kinds_stay (Transition.Commit k x r) w = map_change is_backed (stepped (Step.Commit x.entry.ticket r)) x.unit w.units (λ u. refl)
+kinds_stay (Transition.CommitBusy k x) w = map_change is_backed (stepped (Step.Busy x.entry.ticket)) x.unit w.units (λ u. refl)
+kinds_stay (Transition.Leave k place t jobs) w = map_change is_backed (stepped (Step.Leave t)) place w.units (λ u. refl)
+kinds_stay (Transition.Mark t p how jobs) w = map_change is_backed (stepped (step_by how)) p.unit w.units (backed_mark how)
+kinds_stay (Transition.Hard p jobs) w = map_change is_backed (stepped (Step.Reset hard_code)) p.unit w.units (λ u. refl)
+kinds_stay (Transition.Resize place blocks) w = map_change is_backed (stepped (Step.Resize blocks)) place w.units (backed_resize blocks)
+kinds_stay (Transition.Deal place x) w = map_change is_backed (dealing x) place w.units (backed_deal x)
+kinds_stay d w = refl

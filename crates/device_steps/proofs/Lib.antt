@@ -5,6 +5,7 @@ pub mod Stages
 pub mod Woken
 pub mod Reached
 pub mod Placing
+pub mod Dealing
 pub mod InMemory
 pub mod Once
 pub mod Memories

@@ -6,8 +6,8 @@ use Rattle.std.proofs.lemmas.Option.{slice_get_within}
 use Rattle.unit_model.specs.Unit.{PlainUnit}
 use Rattle.device_model.specs.World.{Seat, Everywhere, IsNewSeat}
 use Rattle.device_model.proofs.Lists.{nothing, same}
-use Rattle.block_store.specs.declared.paged.PagedStore.{PagedStore}
-use Rattle.unit_history.specs.Disks.{opening_over, IsDiskOf}
+use Rattle.backed_store.specs.declared.disk.Disk.{Disk}
+use Rattle.unit_history.specs.Disks.{unit_over, IsDiskOf}
 use Rattle.device_steps.specs.Opening.{AreDisksOf, over_disks}
 use Rattle.device_steps.specs.Inner.Opening.{AreSeats}
 use Rattle.device_steps.specs.Kept.{KeptSeat, seat_of}
@@ -75,7 +75,7 @@ pub seats_many : (count limit : ℕ) (seats : List KeptSeat) → AreSeats count 
 seats_many count limit seats is = rw length-map is.many
 
 -- units over disks are as many
-pub over_length : (units : List PlainUnit) (disks : List PagedStore) → length (over_disks units disks) ≡ length units
+pub over_length : (units : List PlainUnit) (disks : List Disk) → length (over_disks units disks) ≡ length units
 over_length [] disks = refl
 over_length (v ∷ units) [] = refl
 over_length (v ∷ units) (disk ∷ disks) = ap (λ (n : ℕ). suc n) (over_length units disks)
@@ -86,19 +86,19 @@ over_none [] = refl
 over_none (v ∷ units) = refl
 
 -- the last disk may be given first
-pub over_last : (units : List PlainUnit) (disks : List PagedStore) (disk : PagedStore) (u v : PlainUnit)
-    → slice_get units (length disks) ≡ Some u → v ≡ record u { opening = opening_over disk u.opening }
+pub over_last : (units : List PlainUnit) (disks : List Disk) (disk : Disk) (u v : PlainUnit)
+    → slice_get units (length disks) ≡ Some u → v ≡ unit_over disk u
     → over_disks (slice_set units (length disks) v) disks ≡ over_disks units (disks ++ disk ∷ [])
 over_last [] disks disk u v at is = absurd (nothing at)
 over_last (z ∷ units) [] disk u v at is =
     over_none (v ∷ units)
-    ∙ ap (λ (x : PlainUnit). x ∷ units) (is ∙ ap (λ (x : PlainUnit). record x { opening = opening_over disk x.opening }) (sym (same at)))
-    ∙ ap (λ (xs : List PlainUnit). record z { opening = opening_over disk z.opening } ∷ xs) (sym (over_none units))
+    ∙ ap (λ (x : PlainUnit). x ∷ units) (is ∙ ap (λ (x : PlainUnit). unit_over disk x) (sym (same at)))
+    ∙ ap (λ (xs : List PlainUnit). unit_over disk z ∷ xs) (sym (over_none units))
 over_last (z ∷ units) (first ∷ disks) disk u v at is =
-    ap (λ (xs : List PlainUnit). record z { opening = opening_over first z.opening } ∷ xs) (over_last units disks disk u v at is)
+    ap (λ (xs : List PlainUnit). unit_over first z ∷ xs) (over_last units disks disk u v at is)
 
 -- the disks of one more unit
-pub disks_more : (units : List PlainUnit) (disks : List PagedStore) (u : PlainUnit) (disk : PagedStore) → AreDisksOf units disks
+pub disks_more : (units : List PlainUnit) (disks : List Disk) (u : PlainUnit) (disk : Disk) → AreDisksOf units disks
     → IsDiskOf u disk → AreDisksOf (units ++ u ∷ []) (disks ++ disk ∷ [])
 disks_more [] [] u disk are is = (is, tt)
 disks_more (v ∷ units) (d ∷ disks) u disk are is = (are.0, disks_more units disks u disk are.1 is)

@@ -1,19 +1,20 @@
 -- A device that was reached is so behind one step.
-use Rattle.std.proofs.Common.{ℕ, Bool, true, false, ◌∷◌, refl, sym, subst, arith}
-use Rattle.std.specs.Prelude.{map, ◌≤◌}
+use Rattle.std.proofs.Common.{◌≡◌, ◌∙◌, ℕ, Bool, true, false, List, ◌∷◌, refl, sym, ap, subst, arith}
+use Rattle.std.specs.Prelude.{map, slice_get, ◌≤◌}
+use Rattle.unit_model.specs.Unit.{is_backed}
 use Rattle.device_model.specs.World.{PlainWorld, Everywhere}
 use Rattle.device_model.specs.Events.{Event}
 use Rattle.device_model.specs.Transitions.{Transition, event_of}
 use Rattle.device_model.specs.Lawful.{KeepsParts}
 use Rattle.device_model.specs.Turns.{Turns, IsStep}
 use Rattle.device_model.specs.Standing.{NoneIsBacked}
-use Rattle.device_model.proofs.Aside.{run_bare}
-use Rattle.device_model.proofs.Staying.{transition_stays}
+use Rattle.device_model.proofs.Staying.{transition_stays, run_keeps}
 use Rattle.device_model.proofs.Turning.{step_of}
 use Rattle.device_steps.specs.Sound.{AreFew, IsReached, IsWhole, size_of, lun_of}
 use Rattle.device_steps.specs.Inner.Cursors.{StepsNext}
 use Rattle.device_steps.specs.declared.cursor.Cursor.{Cursor}
-use Rattle.device_steps.proofs.Keeping.{sizes_stay, luns_stay}
+use Rattle.device_steps.proofs.Keeping.{sizes_stay, luns_stay, kinds_stay}
+use Rattle.device_steps.proofs.Setting.{each_image, map_get}
 
 -- by a step
 pub reached_by : (w : PlainWorld) (e : Event) (b : Bool) (w' : PlainWorld) → IsReached w → IsStep w e b w' → IsReached w'
@@ -22,7 +23,6 @@ reached_by w e b w' r s =
       old = r.old;
       trace = record { event = e; action = s.action } ∷ r.trace;
       reached = record { opens = r.reached.opens; runs = (w, r.reached.runs, s.step) };
-      disks = r.disks;
     }
 
 -- a turn leaves as many queues and seats
@@ -51,6 +51,11 @@ pub whole_by_step : (asked : ℕ → Bool) (Q : Transition → Type 0) (w : Plai
     → StepsNext asked Q w c w' → IsWhole w'
 whole_by_step asked Q w c w' h t = whole_by w (event_of t.0) true w' h (t.0, refl, t.1, t.3)
 
--- no unit is backed, since none was at the opening
-pub none_backed : (w : PlainWorld) → IsReached w → NoneIsBacked w
-none_backed w r = (run_bare r.old r.trace w r.reached.opens r.reached.runs r.disks).0
+-- where no unit is backed, none was at the opening
+pub none_was_backed : (w : PlainWorld) (r : IsReached w) → NoneIsBacked w → NoneIsBacked r.old
+none_was_backed w r none i u at =
+    let same : map is_backed w.units ≡ map is_backed r.old.units =
+    run_keeps (λ (z : PlainWorld). map is_backed z.units ≡ map is_backed r.old.units) (λ d z m h. kinds_stay d z ∙ h) r.old r.trace w
+    refl r.reached.runs in
+    each_image is_backed (λ (b : Bool). b ≡ false) w.units (λ k v there. none k v there) i (is_backed u)
+    (ap (λ (bs : List Bool). slice_get bs i) same ∙ map_get is_backed i r.old.units u at)

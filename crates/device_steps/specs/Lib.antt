@@ -6,6 +6,7 @@ pub mod Apart
 pub mod Settling
 pub mod Serving
 pub mod Opening
+pub mod Paging
 pub mod Asking
 pub mod Views
 pub mod Inner

@@ -12,8 +12,9 @@ use Rattle.unit_model.specs.Contents.{Opening}
 use Rattle.unit_model.specs.Jobs.{PlainJob}
 use Rattle.unit_model.specs.Unit.{PlainUnit}
 use Rattle.unit_model.specs.Unit as unit
-use Rattle.block_store.specs.declared.paged.PagedStore.{PagedStore}
-use Rattle.unit_history.specs.Disks.{opening_over, IsDiskOf}
+use Rattle.backed_store.specs.Disks.{size_of as disk_size}
+use Rattle.backed_store.specs.declared.disk.Disk.{Disk}
+use Rattle.unit_history.specs.Disks.{unit_over, IsDiskOf}
 use Rattle.scsi_codec.specs.declared.lun.Address.{Address}
 use Rattle.request_intake.specs.Inventory.{address_of, inventory_of, luns_of}
 use Rattle.request_intake.specs.declared.inventory.UnitSpec.{UnitSpec}
@@ -88,40 +89,40 @@ pub record IsOpening (c : Config) (w : PlainWorld) : Type 0 where
   pub parts : IsOpeningFor (size_of c) c w
 
 -- there is a disk for each unit, of its capacity
-pub record AreDisksFor (wanted : List UnitSpec) (disks : List PagedStore) : Type 0 where
+pub record AreDisksFor (wanted : List UnitSpec) (disks : List Disk) : Type 0 where
   pub count : length disks ≡ length wanted
-  pub sizes : (k : ℕ) (u : UnitSpec) (disk : PagedStore) → slice_get wanted k ≡ Some u → slice_get disks k ≡ Some disk
-      → disk.capacity ≡ u.blocks
+  pub sizes : (k : ℕ) (u : UnitSpec) (disk : Disk) → slice_get wanted k ≡ Some u → slice_get disks k ≡ Some disk
+      → disk_size disk ≡ u.blocks
 
--- the units, each with the blocks of its disk
-abbrev pub over_disks : List PlainUnit → List PagedStore → List PlainUnit
-over_disks (u ∷ units) (disk ∷ disks) = record u { opening = opening_over disk u.opening } ∷ over_disks units disks
+-- the units, each with its disk
+abbrev pub over_disks : List PlainUnit → List Disk → List PlainUnit
+over_disks (u ∷ units) (disk ∷ disks) = unit_over disk u ∷ over_disks units disks
 over_disks units disks = units
 
--- a device as it opens, but with the blocks of disks
-pub record IsOpeningOver (c : Config) (disks : List PagedStore) (w : PlainWorld) : Type 0 where
+-- a device as it opens, but with these disks
+pub record IsOpeningOver (c : Config) (disks : List Disk) (w : PlainWorld) : Type 0 where
   pub bare : PlainWorld
   pub opening : IsOpening c bare
   pub is : w ≡ record bare { units = over_disks bare.units disks }
 
 -- the device of some configuration, of which nothing has happened yet, whose disks these may be
-pub record OpensFor (w : PlainWorld) (disks : List PagedStore) : Type 0 where
+pub record OpensFor (w : PlainWorld) (disks : List Disk) : Type 0 where
   pub config : Config
   pub taken : is_config config ≡ true
   pub opening : IsOpening config w
   pub are : AreDisksFor config.units.items disks
 
 -- of whichever configuration it was the device, now it is that over these disks
-abbrev pub OpensAnew : PlainWorld → List PagedStore → PlainWorld → Type 0
+abbrev pub OpensAnew : PlainWorld → List Disk → PlainWorld → Type 0
 OpensAnew old disks new = (c : Config) → IsOpening c old → IsOpeningOver c disks new
 
 -- a configuration with disks is refused as such exactly where the device doesn't take it, or they aren't its disks
-abbrev pub OverRefusedAs : Config → List PagedStore → StartFault → Type 0
+abbrev pub OverRefusedAs : Config → List Disk → StartFault → Type 0
 OverRefusedAs c disks BadConfig = is_config c ≡ true → AreDisksFor c.units.items disks → ⊥
 OverRefusedAs c disks NoMemory = (is_config c ≡ true) × AreDisksFor c.units.items disks
 
 -- the disks of the units, each as its history left it
-abbrev pub AreDisksOf : List PlainUnit → List PagedStore → Type 0
+abbrev pub AreDisksOf : List PlainUnit → List Disk → Type 0
 AreDisksOf [] [] = ⊤
 AreDisksOf (u ∷ units) (disk ∷ disks) = IsDiskOf u disk × AreDisksOf units disks
 AreDisksOf units disks = ⊥

@@ -3,14 +3,12 @@ use Rattle.std.specs.Prelude.{ℕ, ◌≡◌, ◌≤◌, List, length, map}
 use Rattle.unit_model.specs.Unit.{PlainUnit}
 use Rattle.device_model.specs.World.{PlainQueue, PlainWorld, Everywhere}
 use Rattle.device_model.specs.Happens.{Occurrence, Reached}
-use Rattle.device_model.specs.Standing.{NoneIsBacked}
 
--- some trace reached it from an opening, whose disks are all in memory: so no job waits for pages
+-- some trace reached it from an opening
 pub record IsReached (w : PlainWorld) : Type 0 where
   pub old : PlainWorld
   pub trace : List Occurrence
   pub reached : Reached old trace w
-  pub disks : NoneIsBacked old
 
 abbrev pub size_of : PlainQueue → ℕ
 size_of q = q.ring.layout.size

@@ -4,7 +4,7 @@
 //!
 //! An event is taken exactly where it applies, and does what the model's event does, for every list of bytes that the
 //! memory may be. A turn takes the first event that applies. A job whose command waits for pages of its disk is put aside,
-//! and tried again in its turn once it is woken; no unit has such a disk yet. `World` and `LiveWorld` are made of these
+//! and tried again in its turn once it is woken. `World` and `LiveWorld` are made of these
 //! steps, and crate `world` says what is promised of them.
 #![tactic(auto)]
 
@@ -15,6 +15,7 @@ mod cursor;
 mod device;
 mod handed_off;
 mod opening;
+mod paging;
 mod pending;
 mod seat;
 mod service;

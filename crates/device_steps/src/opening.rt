@@ -15,7 +15,8 @@ use crate::bay::Bay;
 use crate::device::Device;
 use crate::handed_off::HandedOff;
 use crate::seat::Seat;
-use block_store::{PagedStore, Store};
+use backed_store::Disk;
+use block_store::Store;
 use config::{Config, MOST_DESCRIPTORS, form, tells_changes};
 use event_queue::{EventPort, WaitingEvents};
 use foundation::NoMemory;
@@ -149,7 +150,7 @@ pub fn open_device<M: Memory>(
 }
 
 /// Returns true if there is a disk for each unit, of its capacity. A host calls it before it opens a device over disks.
-pub fn are_disks_for(wanted: &[UnitSpec], disks: &[PagedStore]) -> bool
+pub fn are_disks_for(wanted: &[UnitSpec], disks: &[Disk]) -> bool
     ensures yes { IsTrue result → AreDisksFor wanted.now disks.now }
     ensures no { IsFalse result → AreDisksFor wanted.now disks.now → ⊥ }
 {
@@ -164,10 +165,9 @@ pub fn are_disks_for(wanted: &[UnitSpec], disks: &[PagedStore]) -> bool
     true
 }
 
-/// Gives each unit its disk, where no step of any was taken and none is backed.
-pub(crate) fn hand_in(units: &mut Vec<UnitState>, disks: &mut Vec<PagedStore>)
+/// Gives each unit its disk, where no step of any was taken.
+pub(crate) fn hand_in(units: &mut Vec<UnitState>, disks: &mut Vec<Disk>)
     requires fresh { Everywhere (λ k u. u.steps ≡ []) units.old.items }
-    requires whole { Everywhere (λ k u. u.backed ≡ false) units.old.items }
     requires enough { length disks.old.items ≤ length units.old.items }
     ensures over { units.new.items ≡ over_disks units.old.items disks.old.items }
     ensures none { disks.new.items ≡ [] }
@@ -177,9 +177,8 @@ pub(crate) fn hand_in(units: &mut Vec<UnitState>, disks: &mut Vec<PagedStore>)
     }
 }
 
-/// Returns the disks of units, as their histories left them, in an empty list that has room for them. No unit is backed.
-pub(crate) fn disks_of(units: Vec<UnitState>, empty: Vec<PagedStore>) -> Vec<PagedStore>
-    requires whole { Everywhere (λ k u. u.backed ≡ false) units.items }
+/// Returns the disks of units, as their histories left them, in an empty list that has room for them.
+pub(crate) fn disks_of(units: Vec<UnitState>, empty: Vec<Disk>) -> Vec<Disk>
     requires empty { empty.items ≡ [] }
     requires room { length units.items ≤ vec_capacity empty }
     ensures { AreDisksOf units.items result.items }
@@ -187,17 +186,15 @@ pub(crate) fn disks_of(units: Vec<UnitState>, empty: Vec<PagedStore>) -> Vec<Pag
     let mut disks = empty;
     let mut units = units.into_iter();
     while let Some(unit) = units.next() {
-        disks.push_reserved(unit.into_store());
+        disks.push_reserved(unit.into_disk());
     }
     disks
 }
 
 impl Device {
-    /// Gives each unit its disk, where no step of any was taken and none is backed. A host calls it once, right behind the
-    /// opening.
-    pub fn hand_in(&mut self, disks: &mut Vec<PagedStore>)
+    /// Gives each unit its disk, where no step of any was taken. A host calls it once, right behind the opening.
+    pub fn hand_in(&mut self, disks: &mut Vec<Disk>)
         requires fresh { Everywhere (λ k u. u.steps ≡ []) self.old.units }
-        requires whole { Everywhere (λ k u. u.backed ≡ false) self.old.units }
         requires enough { length disks.old.items ≤ length self.old.units }
         ensures over { self.new ≡ record self.old { units = over_disks self.old.units disks.old.items } }
         ensures none { disks.new.items ≡ [] }
@@ -207,7 +204,7 @@ impl Device {
 
     /// Returns an empty list that has room for its disks. A host calls it before it ends the device. `NoMemory` where the
     /// list was refused memory.
-    pub fn room_for_disks(&self, alloc: Global) -> Result<Vec<PagedStore>, NoMemory>
+    pub fn room_for_disks(&self, alloc: Global) -> Result<Vec<Disk>, NoMemory>
         ensures empty { IfOk result (λ disks. disks.items ≡ []) }
         ensures room { IfOk result (λ disks. length self.now.units ≤ vec_capacity disks) }
     {
@@ -217,10 +214,8 @@ impl Device {
         }
     }
 
-    /// Ends the device, and returns the disks of its units in an empty list that has room for them. No unit is backed. A host
-    /// calls it last.
-    pub fn into_disks(self, empty: Vec<PagedStore>) -> Vec<PagedStore>
-        requires whole { Everywhere (λ k u. u.backed ≡ false) self.units }
+    /// Ends the device, and returns the disks of its units in an empty list that has room for them. A host calls it last.
+    pub fn into_disks(self, empty: Vec<Disk>) -> Vec<Disk>
         requires empty { empty.items ≡ [] }
         requires room { length self.units ≤ vec_capacity empty }
         ensures { AreDisksOf self.units result.items }

@@ -3,6 +3,7 @@
 use crate::guest::{READY, Sent, send};
 use crate::opening::{NUMBERS, start_with};
 use crate::steps::{UNIT, settle};
+use backed_store::Disk;
 use block_store::{PagedStore, Store};
 use foundation::NoMemory;
 use std::alloc::Global;
@@ -40,7 +41,7 @@ fn shorten(world: &mut World) -> Result<bool, NoMemory> {
 }
 
 /// Ends a device. It has no contract, so that what `close` promises is read once.
-fn close(world: World, alloc: Global) -> Result<Vec<PagedStore>, NoMemory> {
+fn close(world: World, alloc: Global) -> Result<Vec<Disk>, NoMemory> {
     match world.close(alloc) {
         Ok(disks) => Ok(disks),
         Err(_) => Err(NoMemory),
@@ -49,9 +50,9 @@ fn close(world: World, alloc: Global) -> Result<Vec<PagedStore>, NoMemory> {
 
 /// Returns the disks of a device of one unit of 8 blocks, over a disk of zeros, after a WRITE and a resize; `None`
 /// where it didn't open.
-fn written(alloc: Global) -> Result<Option<Vec<PagedStore>>, NoMemory> {
+fn written(alloc: Global) -> Result<Option<Vec<Disk>>, NoMemory> {
     let mut disks = Vec::new(alloc);
-    if disks.push(PagedStore::new(alloc, 8)).is_err() {
+    if disks.push(Disk::Whole(PagedStore::new(alloc, 8))).is_err() {
         return Err(NoMemory);
     }
     match start_with(alloc, NUMBERS, &[UNIT], &mut disks) {

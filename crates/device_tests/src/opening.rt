@@ -1,6 +1,6 @@
 //! Devices, by the numbers of their configuration.
 
-use block_store::PagedStore;
+use backed_store::Disk;
 use foundation::NoMemory;
 use ring_core::Layout;
 use std::alloc::Global;
@@ -77,7 +77,7 @@ pub(crate) fn start_with(
     alloc: Global,
     numbers: Numbers,
     units: &[UnitSpec],
-    disks: &mut Vec<PagedStore>,
+    disks: &mut Vec<Disk>,
 ) -> Result<World, StartFault> {
     match config_of(alloc, numbers, units) {
         Ok(config) => Ok(World::new_with(alloc, &config, disks)?),

@@ -3,7 +3,7 @@ use Rattle.std.proofs.Common.{◌≡◌, ℕ, List, [], ◌∷◌, refl, ap, inl
 use Rattle.std.specs.Prelude.{slice_get, option_map}
 use Rattle.unit_model.specs.Endings.{Ending}
 use Rattle.unit_model.specs.Steps.{Step}
-use Rattle.unit_model.specs.Unit.{PlainUnit, after as stepped, parking}
+use Rattle.unit_model.specs.Unit.{PlainUnit, after as stepped, parking, dealing}
 use Rattle.task_mgmt.specs.Functions.{step_by}
 use Rattle.device_model.specs.Parts.{Outcome, Slot, Hand}
 use Rattle.device_model.specs.World.{PlainQueue, PlainWorld, change, owner}
@@ -121,6 +121,7 @@ unit_kept (Transition.Leave k place t jobs) w i out = unit_other (stepped (Step.
 unit_kept (Transition.Mark t p m jobs) w i out = unit_other (stepped (step_by m)) p.unit w i (λ e. out (inr (inl e)))
 unit_kept (Transition.Hard p jobs) w i out = unit_other (stepped (Step.Reset hard_code)) p.unit w i (λ e. out (inl e))
 unit_kept (Transition.Resize place blocks) w i out = unit_other (stepped (Step.Resize blocks)) place w i (λ e. out (inl e))
+unit_kept (Transition.Deal place x) w i out = unit_other (dealing x) place w i (λ e. out (inl e))
 unit_kept d w i out = refl
 
 seat_apart : (i k : ℕ) → (Part.SeatAt i ≡ Part.SeatAt k → ⊥) → i ≡ k → ⊥

@@ -4,7 +4,7 @@ use Rattle.std.specs.Prelude.{slice_get, option_map}
 use Rattle.ring_core.specs.Writes.{all_written}
 use Rattle.unit_model.specs.Endings.{Ending}
 use Rattle.unit_model.specs.Steps.{Step}
-use Rattle.unit_model.specs.Unit.{after as stepped, parking}
+use Rattle.unit_model.specs.Unit.{after as stepped, parking, dealing}
 use Rattle.task_mgmt.specs.Functions.{step_by, marking, asking, failing, checking}
 use Rattle.device_model.specs.Parts.{Outcome, Slot, Hand, is_short}
 use Rattle.device_model.specs.World.{PlainQueue, Seat, PlainWorld, change, owner}
@@ -126,6 +126,7 @@ unit_own (Transition.Leave k place t jobs) w v i f all e = alike (stepped (Step.
 unit_own (Transition.Mark t p m jobs) w v i f all e = alike (stepped (step_by m)) p.unit w.units v.units i e
 unit_own (Transition.Hard p jobs) w v i f all e = alike (stepped (Step.Reset hard_code)) p.unit w.units v.units i e
 unit_own (Transition.Resize place blocks) w v i f all e = alike (stepped (Step.Resize blocks)) place w.units v.units i e
+unit_own (Transition.Deal place x) w v i f all e = alike (dealing x) place w.units v.units i e
 unit_own d w v i f all e = e
 
 -- at a seat whose number goes by the number of workers

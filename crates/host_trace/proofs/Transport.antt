@@ -265,7 +265,7 @@ happens_at (Transition.Defer k x) w v f all h =
           (inl refl))) h.holds;
       entry = h.entry;
       ready = h.ready;
-      backed = h.backed;
+      waits = h.waits;
     }
 happens_at Transition.Wake w v f all h =
     record { first = h.first; rest = h.rest; waits = sym (all Part.Aside (inl refl)).0 ∙ h.waits }
@@ -353,6 +353,8 @@ happens_at (Transition.Hard p jobs) w v f all h =
           (sym (all (Part.SeatAt w.workers) (inr (inl refl))) ∙ h.seat_there);
     }
 happens_at (Transition.Resize place blocks) w v f all h =
+    record { unit = h.unit; there = sym (all (Part.UnitAt place) (inl refl)) ∙ h.there; may = h.may }
+happens_at (Transition.Deal place x) w v f all h =
     record { unit = h.unit; there = sym (all (Part.UnitAt place) (inl refl)) ∙ h.there; may = h.may }
 happens_at (Transition.Give e c xs) w v f all h =
     let q = c.ticket.queue in

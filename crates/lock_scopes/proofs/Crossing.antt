@@ -151,7 +151,7 @@ disk_sends = enum_send (enum_shape disk_type) ((store.the_field_send, tt), ((bac
 
 unit_fields : IsSend unit.the_row
 unit_fields = declared_send unit.the_type
-    (search sendable, (as_row_send facts_field facts_sends, (search sendable, (attentions.the_send, (as_row_send disk_field disk_sends, (search crosses depth 30, (search sendable, (set_sends, (steps_sends, (lasts_sends, (search (crosses, option.the_send) depth 30, (search crosses depth 30, (search (crosses, option.the_send, pages.the_send) depth 30, (changes.the_send, tt))))))))))))))
+    (search sendable, (as_row_send facts_field facts_sends, (search sendable, (attentions.the_send, (as_row_send disk_field disk_sends, (search crosses depth 30, (search sendable, (set_sends, (steps_sends, (lasts_sends, (search (crosses, option.the_send) depth 30, (search (crosses, option.the_send) depth 30, (search crosses depth 30, (search (crosses, option.the_send, pages.the_send) depth 30, (changes.the_send, tt)))))))))))))))
 
 pub unit_sends : IsSend unit_row
 unit_sends = search (sendable, unit_fields)

@@ -15,9 +15,10 @@ use Rattle.ring_core.specs.Offer.{used_writes}
 use Rattle.unit_model.specs.Endings.{Ending, answer_of}
 use Rattle.unit_model.specs.Steps.{Step}
 use Rattle.unit_model.specs.Released.{released}
+use Rattle.unit_model.specs.Asking.{Asked}
 use Rattle.unit_model.specs.Jobs.{PlainJob, Jobs, of_tasks}
 use Rattle.unit_history.specs.Serving.{ServesAlone}
-use Rattle.unit_model.specs.Unit.{PlainUnit, Steps}
+use Rattle.unit_model.specs.Unit.{PlainUnit, may_wait, Steps}
 use Rattle.unit_history.specs.Calls as calls
 use Rattle.unit_history.specs.Endings.{ending_of}
 use Rattle.unit_history.specs.declared.outcomes.Outcome as answers
@@ -132,9 +133,10 @@ pub waits_on : (shared : Bool) (stored : List Write → Type 0) (x y : PlainJob)
     → EachSeen shared may may (λ found left seen. ServesIn shared stored x u q found s out None u' q left seen s' out')
 waits_on shared stored x y u v u' q may s s' out out' none empty enters waits jobs =
     let is : y ≡ x = enters.0 in
-    let kind : v.backed ≡ u.backed = ap (λ (z : PlainUnit). z.backed) enters.3.is in
+    let asked : waits.entry.command ≡ x.entry.command = ap (λ (a : Asked). a.command) waits.of.as_asked ∙ ap (λ (j : PlainJob). j.entry.command) is in
+    let waits_there : may_wait u waits.entry.command ≡ true = sym (ap (λ (z : PlainUnit). may_wait z waits.entry.command) enters.3.is) ∙ waits.waits in
     hands_on shared stored x u u' q may s s' (y ∷ []) out out' none
-    (inr (ap (λ (j : PlainJob). j ∷ []) is, sym kind ∙ waits.backed))
+    (inr (ap (λ (j : PlainJob). j ∷ []) is, sym (ap (λ (k : Command). may_wait u k) asked) ∙ waits_there))
     (λ list.
     subst (λ (z : PlainUnit). EntersAs x u list z s' (with_more (y ∷ []) list)) (sym waits.same)
     (subst (λ (t : Slot). EntersAs x u list v t (with_more (y ∷ []) list)) (sym empty) (runs x u v list y enters))) jobs

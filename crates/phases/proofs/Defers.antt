@@ -64,7 +64,7 @@ waits_still x None u v made not_over waits same =
       hand = ap (λ (y : PlainJobInHand). hand_with y.job y.outcome) same;
       entry = waits.entry;
       ready = waits.ready;
-      backed = waits.backed;
+      waits = waits.waits;
     }
 waits_still x (Some o) u v made not_over waits same = absurd (false≢true (sym not_over))
 
@@ -86,7 +86,7 @@ deferred Hand.Empty g x u v aside aside' there s more = let e = sym there ∙ s.
 deferred (Hand.Taken y) g x u v aside aside' there s more =
     let e : Hand.Taken x ≡ Hand.Taken y = sym there ∙ s.hand in
     let one : x ≡ y = cc in
-    inr (λ k. (record { asks = ((s.entry, s.ready), s.backed); is = s.unit }, refl, more ∙ ap (λ (z : PlainJob). with_more (z ∷ []) aside) one))
+    inr (λ k. (record { asks = (s.entry, s.ready, s.waits); is = s.unit }, refl, more ∙ ap (λ (z : PlainJob). with_more (z ∷ []) aside) one))
 deferred (Hand.Done y o) g x u v aside aside' there s more = let e = sym there ∙ s.1 in absurd (cc)
 deferred (Hand.Answered place t) g x u v aside aside' there s more = let e = sym there ∙ s.1 in absurd (cc)
 

@@ -8,7 +8,7 @@ use Rattle.unit_model.specs.Lawful.{IsReady}
 use Rattle.unit_model.specs.Clearing.{is_clear}
 use Rattle.unit_model.specs.Seen.{any_met}
 use Rattle.unit_model.specs.Jobs.{PlainJob, Jobs}
-use Rattle.unit_model.specs.Unit.{PlainUnit}
+use Rattle.unit_model.specs.Unit.{PlainUnit, may_wait}
 use Rattle.unit_history.specs.Calls.{CannotLeave}
 use Rattle.task_mgmt.specs.Functions.{marking, asking, failing, checking, step_by}
 use Rattle.task_mgmt.specs.declared.kind.Kind.{Kind}
@@ -75,15 +75,15 @@ ending_after (Transition.CommitBusy k x) = Ending.Busy
 ending_after (Transition.CommitAborted k x why) = Ending.Aborted why
 ending_after d = Ending.Lost
 
--- nothing changed: the command of the job may run, and waits for its unit's disk
+-- nothing changed: the command of the job may run, and may have to wait at its unit
 pub record WaitsInHand (x : PlainJob) (u u' : PlainUnit) (h' : Hand) : Type 0 where
   pub unit : u' ≡ u
   pub hand : h' ≡ Hand.Taken x
   pub entry : Entry
   pub ready : IsReady x.entry.ticket entry u.steps
-  pub backed : u.backed ≡ true
+  pub waits : may_wait u entry.command ≡ true
 
--- a commit; or the job waits, so only where the unit's disk is backed
+-- a commit; or the job waits, so only where it may have to
 abbrev pub Commits : Hand → PlainUnit → Bool → PlainUnit → Hand → Type 0
 Commits (Hand.Taken x) u true u' h' =
     (k : ℕ) → (d : Transition) × IsCommitting k x d × DoesUnit d u u' × (h' ≡ Hand.Done x (Outcome.Ended (ending_after d)))

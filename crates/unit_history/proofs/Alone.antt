@@ -3,6 +3,7 @@ use Rattle.std.proofs.Common.{◌≡◌, ℕ, ◌+◌, ◌-◌, ◌≤◌, Bool,
 use Rattle.ring_core.specs.declared.log.Ticket.{Ticket}
 use Rattle.block_store.specs.Blocks.{Blocks}
 use Rattle.foundation.specs.declared.NoMemory.{NoMemory}
+use Rattle.block_store.specs.Storage.{Ledger}
 use Rattle.unit_attention.specs.declared.code.Code.{Code}
 use Rattle.block_commands.specs.declared.facts.UnitFacts.{UnitFacts}
 use Rattle.block_commands.specs.Inner.Told.{facts_of}
@@ -168,40 +169,40 @@ module _ (o : Opening) (past : List Step) (block_at : Blocks) (pending : List Co
         (keep_leave (kept_ran room2 less) j.entry.ticket (task_of_job (length past) j false true) room3
         (is_found (length past) j true) refl fewer)
 
-    enters : (backed : Bool) → j.address ≡ unit_address o
-        → Enters (unit_with o past [] false backed) j (entered.Run j) (unit_with o (Step.Enter j.entry ∷ past) [] false backed)
-    enters backed named =
+    enters : (storage : Option Ledger) → j.address ≡ unit_address o
+        → Enters (unit_with o past [] false storage) j (entered.Run j) (unit_with o (Step.Enter j.entry ∷ past) [] false storage)
+    enters storage named =
         let run : Some j ≡ run_at_once [] j = sym (ap (λ b. cond b None (Some j)) (unblocked j.entry)) in
-        subst (λ x. Enters (unit_with o past [] false backed) j (entered.Run j)
-        (unit_with o (Step.Enter j.entry ∷ past) (parked_of (x ∷ [])) false backed)) (enters_so (length past) j)
-        (enters_task k j (Some j) (length past) (Step.Enter j.entry ∷ past) false false backed named (omega arith) le run refl refl)
+        subst (λ x. Enters (unit_with o past [] false storage) j (entered.Run j)
+        (unit_with o (Step.Enter j.entry ∷ past) (parked_of (x ∷ [])) false storage)) (enters_so (length past) j)
+        (enters_task k j (Some j) (length past) (Step.Enter j.entry ∷ past) false false storage named (omega arith) le run refl refl)
 
-    leaves : (backed : Bool) → Steps (unit_with o (step_for j.entry.ticket p ∷ Step.Enter j.entry ∷ past) [] false backed) (Step.Leave j.entry.ticket)
-        (unit_with o (Step.Leave j.entry.ticket ∷ step_for j.entry.ticket p ∷ Step.Enter j.entry ∷ past) [] false backed)
-    leaves backed =
-        steps_is o (Step.Leave j.entry.ticket) (step_for j.entry.ticket p ∷ Step.Enter j.entry ∷ past) _ [] [] false false backed backed
+    leaves : (storage : Option Ledger) → Steps (unit_with o (step_for j.entry.ticket p ∷ Step.Enter j.entry ∷ past) [] false storage) (Step.Leave j.entry.ticket)
+        (unit_with o (Step.Leave j.entry.ticket ∷ step_for j.entry.ticket p ∷ Step.Enter j.entry ∷ past) [] false storage)
+    leaves storage =
+        steps_is o (Step.Leave j.entry.ticket) (step_for j.entry.ticket p ∷ Step.Enter j.entry ∷ past) _ [] [] false false storage storage
         (may_leave (kept_ran room1 (omega arith)) j.entry.ticket (task_of_job (length past) j false true)
         (is_found (length past) j true) refl) refl refl refl refl
 
     -- all of it
-    pub serves : (backed : Bool) (answers : Ending → Type 0) → j.address ≡ unit_address o
+    pub serves : (storage : Option Ledger) (answers : Ending → Type 0) → j.address ≡ unit_address o
         → answers (ending_of (outcome_for (unit_address o) (length (Step.Enter j.entry ∷ past)) j.entry.ticket p))
         → j.chain.ticket ≡ j.entry.ticket
-        → ServesAlone answers (unit_with o past [] false backed) j
-        (unit_with o (Step.Leave j.entry.ticket ∷ step_for j.entry.ticket p ∷ Step.Enter j.entry ∷ past) [] false backed)
-    serves backed answers named answered own =
+        → ServesAlone answers (unit_with o past [] false storage) j
+        (unit_with o (Step.Leave j.entry.ticket ∷ step_for j.entry.ticket p ∷ Step.Enter j.entry ∷ past) [] false storage)
+    serves storage answers named answered own =
         record {
-          once_entered = unit_with o (Step.Enter j.entry ∷ past) [] false backed;
-          once_run = unit_with o (step_for j.entry.ticket p ∷ Step.Enter j.entry ∷ past) [] false backed;
+          once_entered = unit_with o (Step.Enter j.entry ∷ past) [] false storage;
+          once_run = unit_with o (step_for j.entry.ticket p ∷ Step.Enter j.entry ∷ past) [] false storage;
           outcome = outcome_for (unit_address o) (length (Step.Enter j.entry ∷ past)) j.entry.ticket p;
-          enters = enters backed named;
-          commits = commits_run (kept_entered room1 reserve) j j.entry false backed backed facts p block_at' pending' refl
+          enters = enters storage named;
+          commits = commits_run (kept_entered room1 reserve) j j.entry false storage storage facts p block_at' pending' refl
               (is_of (kept_entered room1 reserve) j (task_of_job (length past) j false false) (is_found (length past) j false) refl)
               ready as_told ran;
           answered = answered;
-          leaves = subst (λ t. Steps (unit_with o (step_for j.entry.ticket p ∷ Step.Enter j.entry ∷ past) [] false backed) (Step.Leave t)
-              (unit_with o (Step.Leave j.entry.ticket ∷ step_for j.entry.ticket p ∷ Step.Enter j.entry ∷ past) [] false backed))
-              (sym own) (leaves backed);
+          leaves = subst (λ t. Steps (unit_with o (step_for j.entry.ticket p ∷ Step.Enter j.entry ∷ past) [] false storage) (Step.Leave t)
+              (unit_with o (Step.Leave j.entry.ticket ∷ step_for j.entry.ticket p ∷ Step.Enter j.entry ∷ past) [] false storage))
+              (sym own) (leaves storage);
           alone = refl;
         }
 
@@ -256,15 +257,15 @@ module _ (o : Opening) (past : List Step) (block_at : Blocks) (pending : List Co
       let ran' = recorded_run o t j.entry p (Step.Enter j.entry ∷ past) _ capacity c c' entered there notes size refl in
       recorded_on o (Step.Leave t) (step_for t p ∷ Step.Enter j.entry ∷ past) steps' c' ran' (λ b below out. (below, refl)) is
 
-  pub serves_alone : (answers : Ending → Type 0) (keeps keeps' backed backed' : Bool) → backed' ≡ backed → j.address ≡ unit_address o → keeps ≡ false → keeps' ≡ false
+  pub serves_alone : (answers : Ending → Type 0) (keeps keeps' : Bool) (storage storage' : Option Ledger) → storage' ≡ storage → j.address ≡ unit_address o → keeps ≡ false → keeps' ≡ false
       → answers (ending_of (outcome_for (unit_address o) (length (Step.Enter j.entry ∷ past)) j.entry.ticket p))
       → j.chain.ticket ≡ j.entry.ticket
-      → ServesAlone answers (unit_with o past (parked_of tasks) keeps backed) j (unit_with o steps' (parked_of tasks) keeps' backed')
-  serves_alone answers keeps keeps' backed backed' kind named a b answered own =
-      subst (λ x. ServesAlone answers (unit_with o past (parked_of tasks) keeps backed) j (unit_with o steps' (parked_of tasks) keeps' x)) (sym kind)
-      (subst (λ x. ServesAlone answers (unit_with o past (parked_of tasks) x backed) j (unit_with o steps' (parked_of tasks) keeps' backed)) (sym a)
-      (subst (λ x. ServesAlone answers (unit_with o past (parked_of tasks) false backed) j (unit_with o steps' (parked_of tasks) x backed)) (sym b)
-      (subst (λ ts. ServesAlone answers (unit_with o past (parked_of ts) false backed) j (unit_with o steps' (parked_of ts) false backed)) (sym none)
-      (subst (λ ss. ServesAlone answers (unit_with o past [] false backed) j (unit_with o ss [] false backed)) (sym is)
+      → ServesAlone answers (unit_with o past (parked_of tasks) keeps storage) j (unit_with o steps' (parked_of tasks) keeps' storage')
+  serves_alone answers keeps keeps' storage storage' kind named a b answered own =
+      subst (λ x. ServesAlone answers (unit_with o past (parked_of tasks) keeps storage) j (unit_with o steps' (parked_of tasks) keeps' x)) (sym kind)
+      (subst (λ x. ServesAlone answers (unit_with o past (parked_of tasks) x storage) j (unit_with o steps' (parked_of tasks) keeps' storage)) (sym a)
+      (subst (λ x. ServesAlone answers (unit_with o past (parked_of tasks) false storage) j (unit_with o steps' (parked_of tasks) x storage)) (sym b)
+      (subst (λ ts. ServesAlone answers (unit_with o past (parked_of ts) false storage) j (unit_with o steps' (parked_of ts) false storage)) (sym none)
+      (subst (λ ss. ServesAlone answers (unit_with o past [] false storage) j (unit_with o ss [] false storage)) (sym is)
       (serves o past block_at pending last_tickets room kept_none j last_tickets' le came room1 reserve facts p block_at' pending' as_told ran
-      backed answers named answered own)))))
+      storage answers named answered own)))))

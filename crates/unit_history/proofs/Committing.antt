@@ -1,7 +1,8 @@
 -- What a unit answers to a job that is committed, and what its parts are then.
-use Rattle.std.proofs.Common.{◌≡◌, ℕ, ◌+◌, ◌≤◌, ◌||◌, Bool, inl, inr, List, ◌∷◌, map, length, Option, Some, None, is_some, IsTrue, true, false, refl, sym, ◌∙◌, ap, subst}
+use Rattle.std.proofs.Common.{◌≡◌, ℕ, ◌+◌, ◌≤◌, ◌||◌, ◌&&◌, Bool, inl, inr, List, ◌∷◌, map, length, Option, Some, None, is_some, IsTrue, true, false, refl, sym, ◌∙◌, ap, subst}
 use Rattle.ring_core.specs.declared.log.Ticket.{Ticket}
 use Rattle.block_store.specs.Blocks.{Blocks}
+use Rattle.block_store.specs.Storage.{Ledger}
 use Rattle.unit_attention.specs.declared.code.Code.{Code}
 use Rattle.command_model.specs.PlainReply.{PlainReply}
 use Rattle.command_model.specs.Effects.{block_after}
@@ -19,8 +20,7 @@ use Rattle.unit_model.specs.Jobs.{PlainJob}
 use Rattle.task_set.specs.Tasks.{PlainTask, parked_of}
 use Rattle.task_set.specs.Inner.Tasks.{moved, task_at}
 use Rattle.unit_model.specs.Asking.{IsOf, asked_of, CannotCommit}
-use Rattle.block_commands.specs.Needs.{needs}
-use Rattle.unit_history.specs.Flushes.{is_flush}
+use Rattle.command_model.specs.Waiting.{waits_at}
 use Rattle.unit_history.specs.Calls.{Commits, Waits}
 use Rattle.unit_history.specs.Inner.Parts.{AreKept}
 use Rattle.command_model.specs.Memory.{may_run_short}
@@ -39,6 +39,10 @@ or-left false b is = let never : false ≡ true = is in cc
 pub or-right : (a b : Bool) → b ≡ true → (a || b) ≡ true
 or-right true b is = refl
 or-right false b is = is
+
+both : (a b : Bool) → a ≡ true → b ≡ true → (a && b) ≡ true
+both true b is also = also
+both false b is also = is
 
 -- a task that may do nothing, by what is kept of it
 cannot : (s : Seen) (j : PlainJob) (past : List Step) → s ≡ seen past s.entry → Turns s j turn.Unknown → CannotCommit (Some s.entry) j past
@@ -64,18 +68,17 @@ module _ {o : Opening} {past : List Step} {block_at : Blocks} {pending : List Co
       ap (λ n. mark_of n past) (ticket_at k t x at) ∙ sym (ap (λ (s : Seen). s.mark) (task_at_alive k t x at).1) ∙ mark
 
   -- its command may run, on a disk whose pages come and go: it waits
-  pub waits_for : (j : PlainJob) (x : PlainTask) (keeps backed backed' : Bool) → task_at j.entry.ticket tasks ≡ Some x → Turns x.seen j turn.Ready
-      → backed ≡ true → (needs (capacity_of o past) x.seen.entry.command || is_flush x.seen.entry.command) ≡ true → backed' ≡ backed
-      → Waits (record { opening = o; steps = past; parked = parked_of tasks; keeps_replies = keeps; backed = backed }) j
-      (record { opening = o; steps = past; parked = parked_of tasks; keeps_replies = keeps; backed = backed' })
-  waits_for j x keeps backed backed' at turns on cause kind =
+  pub waits_for : (j : PlainJob) (x : PlainTask) (keeps : Bool) (storage storage' : Option Ledger) → task_at j.entry.ticket tasks ≡ Some x → Turns x.seen j turn.Ready
+      → is_some storage ≡ true → waits_at (capacity_of o past) x.seen.entry.command ≡ true → storage' ≡ storage
+      → Waits (record { opening = o; steps = past; parked = parked_of tasks; keeps_replies = keeps; storage = storage }) j
+      (record { opening = o; steps = past; parked = parked_of tasks; keeps_replies = keeps; storage = storage' })
+  waits_for j x keeps storage storage' at turns on cause kind =
       record {
         entry = x.seen.entry;
         of = is_of j x at turns.0;
         ready = is_ready k j.entry.ticket x at turns.1 turns.2 turns.3;
-        backed = on;
-        cause = cause;
-        same = same_unit o past past _ _ keeps keeps backed backed' refl refl refl kind;
+        waits = both _ _ on cause;
+        same = same_unit o past past _ _ keeps keeps storage storage' refl refl refl kind;
       }
 
   ran_reply : (e : Entry) (facts : Facts) → facts ≡ facts_after o past → reply_of facts e.command e.data_out block_at ≡ reply_after o e past
@@ -92,21 +95,21 @@ module _ {o : Opening} {past : List Step} {block_at : Blocks} {pending : List Co
       ran.pends reserve
 
   -- and what is answered
-  pub commits_run : (j : PlainJob) (e : Entry) (keeps backed backed' : Bool) (facts : Facts) (p : Option PlainPerformed) (block_at' : Blocks) (pending' : List Code)
-      → backed' ≡ backed → IsOf j e past → IsReady j.entry.ticket e past → facts ≡ facts_after o past → Performs keeps facts e.command e.data_out p block_at block_at' pending pending'
-      → Commits (record { opening = o; steps = past; parked = parked_of tasks; keeps_replies = keeps; backed = backed }) j
+  pub commits_run : (j : PlainJob) (e : Entry) (keeps : Bool) (storage storage' : Option Ledger) (facts : Facts) (p : Option PlainPerformed) (block_at' : Blocks) (pending' : List Code)
+      → storage' ≡ storage → IsOf j e past → IsReady j.entry.ticket e past → facts ≡ facts_after o past → Performs keeps facts e.command e.data_out p block_at block_at' pending pending'
+      → Commits (record { opening = o; steps = past; parked = parked_of tasks; keeps_replies = keeps; storage = storage }) j
       (outcome_for (unit_address o) (length past) j.entry.ticket p)
-      (record { opening = o; steps = step_for j.entry.ticket p ∷ past; parked = parked_of (map (moved (finished j.entry.ticket)) tasks); keeps_replies = keeps; backed = backed' })
-  commits_run j e keeps backed backed' facts None block_at' pending' kind of ready as_told short = (
+      (record { opening = o; steps = step_for j.entry.ticket p ∷ past; parked = parked_of (map (moved (finished j.entry.ticket)) tasks); keeps_replies = keeps; storage = storage' })
+  commits_run j e keeps storage storage' facts None block_at' pending' kind of ready as_told short = (
     e,
     of,
     subst (λ f. IsTrue (may_run_short keeps f e.command)) as_told short.want,
     record {
       may = may_busy k j.entry.ticket e ready;
-      is = same_unit o _ _ _ _ keeps keeps backed backed' refl (parked_busy o past block_at pending tasks last_tickets room j.entry.ticket k) refl kind;
+      is = same_unit o _ _ _ _ keeps keeps storage storage' refl (parked_busy o past block_at pending tasks last_tickets room j.entry.ticket k) refl kind;
     },
   )
-  commits_run j e keeps backed backed' facts (Some p) block_at' pending' kind of ready as_told ran =
+  commits_run j e keeps storage storage' facts (Some p) block_at' pending' kind of ready as_told ran =
       let r : p.reply ≡ reply_after o e past = ran.reply ∙ ran_reply e facts as_told in (
         e,
         of,
@@ -114,7 +117,7 @@ module _ {o : Opening} {past : List Step} {block_at : Blocks} {pending : List Co
         ap (λ w. receipt_of o past j.entry.ticket (Some w)) r,
         record {
           may = may_commit k j.entry.ticket e (reply_after o e past) ready refl;
-          is = same_unit o _ _ _ _ keeps keeps backed backed' (ap (λ w. Step.Commit j.entry.ticket w ∷ past) r)
+          is = same_unit o _ _ _ _ keeps keeps storage storage' (ap (λ w. Step.Commit j.entry.ticket w ∷ past) r)
               (parked_commit o past block_at pending tasks last_tickets room j.entry.ticket (reply_after o e past) k) refl kind;
         },
       )

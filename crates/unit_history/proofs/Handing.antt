@@ -3,6 +3,7 @@ use Rattle.std.proofs.Common.{◌≡◌, ℕ, Bool, true, false, not, ◌&&◌, 
 use Rattle.std.specs.List.{AllByRecursion}
 use Rattle.std.proofs.lemmas.List.{append-nil}
 use Rattle.ring_core.specs.declared.log.Ticket.{Ticket}
+use Rattle.block_store.specs.Storage.{Ledger}
 use Rattle.unit_attention.specs.declared.code.Code.{Code}
 use Rattle.block_store.specs.Blocks.{Blocks}
 use Rattle.command_model.specs.PlainReply.{PlainReply}
@@ -215,9 +216,9 @@ pub holds : (o : Opening) (past : List Step) (blocks : Blocks) (pending : List C
 holds o past blocks pending tasks last_tickets room k = jobs_wait tasks k.fit ∙ ap waiting k.set ∙ waiting_parked past (alive past)
 
 -- such parts are a unit
-pub is_unit : (o : Opening) (past : List Step) (blocks : Blocks) (pending : List Code) (tasks : List PlainTask) (last_tickets : List (Option ℕ)) (room : ℕ) (keeps backed : Bool)
-    → AreKept o past blocks pending tasks last_tickets room → IsUnit (record { opening = o; steps = past; parked = parked_of tasks; keeps_replies = keeps; backed = backed })
-is_unit o past blocks pending tasks last_tickets room keeps backed k = record { lawful = k.lawful; holds = holds o past blocks pending tasks last_tickets room k }
+pub is_unit : (o : Opening) (past : List Step) (blocks : Blocks) (pending : List Code) (tasks : List PlainTask) (last_tickets : List (Option ℕ)) (room : ℕ) (keeps : Bool) (storage : Option Ledger)
+    → AreKept o past blocks pending tasks last_tickets room → IsUnit (record { opening = o; steps = past; parked = parked_of tasks; keeps_replies = keeps; storage = storage })
+is_unit o past blocks pending tasks last_tickets room keeps storage k = record { lawful = k.lawful; holds = holds o past blocks pending tasks last_tickets room k }
 
 jobs_filter : (q : Entry → Bool) (jobs : List PlainJob) → tasks_of_jobs (filter (λ (j : PlainJob). q j.entry) jobs) ≡ filter q (tasks_of_jobs jobs)
 jobs_filter q [] = refl

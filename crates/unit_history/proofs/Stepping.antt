@@ -2,10 +2,11 @@
 use Rattle.std.proofs.Common.{◌≡◌, ℕ, Bool, false, ◌||◌, List, ◌∷◌, ◌++◌, Option, Some, None, is_some, sym, ◌∙◌, ap, subst}
 use Rattle.ring_core.specs.declared.log.Ticket.{Ticket}
 use Rattle.block_store.specs.Blocks.{Blocks}
+use Rattle.block_store.specs.Storage.{Ledger}
 use Rattle.unit_attention.specs.declared.code.Code.{Code}
 use Rattle.unit_model.specs.Tasks.{task_of}
 use Rattle.unit_model.specs.Steps.{Step, alive, done}
-use Rattle.unit_model.specs.Contents.{Opening}
+use Rattle.unit_model.specs.Contents.{Opening, capacity_of}
 use Rattle.unit_model.specs.Lawful.{May}
 use Rattle.unit_model.specs.Released.{released}
 use Rattle.unit_model.specs.Jobs.{PlainJob, Jobs, but_tasks}
@@ -13,25 +14,26 @@ use Rattle.task_set.specs.Tasks.{PlainTask}
 use Rattle.task_set.specs.Inner.Tasks.{task_at}
 use Rattle.unit_history.specs.Calls.{CannotLeave}
 use Rattle.unit_history.specs.Inner.Parts.{AreKept}
-use Rattle.unit_model.specs.Unit.{PlainUnit, Steps}
+use Rattle.unit_model.specs.Unit.{PlainUnit, Steps, storage_after}
 use Rattle.unit_history.proofs.Keeping.{task_at_alive, task_at_none, is_done, is_marked}
 
-abbrev pub unit_with : Opening → List Step → List PlainJob → Bool → Bool → PlainUnit
-unit_with o steps jobs keeps backed = record { opening = o; steps = steps; parked = jobs; keeps_replies = keeps; backed = backed }
+abbrev pub unit_with : Opening → List Step → List PlainJob → Bool → Option Ledger → PlainUnit
+unit_with o steps jobs keeps storage = record { opening = o; steps = steps; parked = jobs; keeps_replies = keeps; storage = storage }
 
-same_unit : (o : Opening) (steps steps' : List Step) (jobs jobs' : List PlainJob) (keeps keeps' backed backed' : Bool)
-    → steps' ≡ steps → jobs' ≡ jobs → keeps' ≡ keeps → backed' ≡ backed
-    → unit_with o steps' jobs' keeps' backed' ≡ unit_with o steps jobs keeps backed
-same_unit o steps steps' jobs jobs' keeps keeps' backed backed' a b c d =
-    ap (λ w. unit_with o w jobs' keeps' backed') a ∙ ap (λ w. unit_with o steps w keeps' backed') b
-    ∙ ap (λ w. unit_with o steps jobs w backed') c ∙ ap (λ w. unit_with o steps jobs keeps w) d
+same_unit : (o : Opening) (steps steps' : List Step) (jobs jobs' : List PlainJob) (keeps keeps' : Bool) (storage storage' : Option Ledger)
+    → steps' ≡ steps → jobs' ≡ jobs → keeps' ≡ keeps → storage' ≡ storage
+    → unit_with o steps' jobs' keeps' storage' ≡ unit_with o steps jobs keeps storage
+same_unit o steps steps' jobs jobs' keeps keeps' storage storage' a b c d =
+    ap (λ w. unit_with o w jobs' keeps' storage') a ∙ ap (λ w. unit_with o steps w keeps' storage') b
+    ∙ ap (λ w. unit_with o steps jobs w storage') c ∙ ap (λ w. unit_with o steps jobs keeps w) d
 
 -- the unit goes on by a step that may come next
-pub steps_is : (o : Opening) (s : Step) (past steps' : List Step) (jobs jobs' : List PlainJob) (keeps keeps' backed backed' : Bool)
-    → May o s past → steps' ≡ s ∷ past → jobs' ≡ but_tasks (released s past) jobs → keeps' ≡ keeps → backed' ≡ backed
-    → Steps (unit_with o past jobs keeps backed) s (unit_with o steps' jobs' keeps' backed')
-steps_is o s past steps' jobs jobs' keeps keeps' backed backed' may a b c d =
-    record { may = may; is = same_unit o (s ∷ past) steps' (but_tasks (released s past) jobs) jobs' keeps keeps' backed backed' a b c d }
+pub steps_is : (o : Opening) (s : Step) (past steps' : List Step) (jobs jobs' : List PlainJob) (keeps keeps' : Bool) (storage storage' : Option Ledger)
+    → May o s past → steps' ≡ s ∷ past → jobs' ≡ but_tasks (released s past) jobs → keeps' ≡ keeps
+    → storage' ≡ storage_after s (capacity_of o past) storage
+    → Steps (unit_with o past jobs keeps storage) s (unit_with o steps' jobs' keeps' storage')
+steps_is o s past steps' jobs jobs' keeps keeps' storage storage' may a b c d =
+    record { may = may; is = same_unit o (s ∷ past) steps' (but_tasks (released s past) jobs) jobs' keeps keeps' _ storage' a b c d }
 
 -- what it hands out is behind what was there
 pub handed_is : (out out' : Jobs) (given released : List PlainJob) → out' ≡ record out { jobs = out.jobs ++ given } → given ≡ released

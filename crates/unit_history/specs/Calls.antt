@@ -4,15 +4,13 @@ use Rattle.ring_core.specs.declared.log.Ticket.{Ticket}
 use Rattle.unit_model.specs.Tasks.{Entry, task_of, is_blocked}
 use Rattle.unit_model.specs.Steps.{Step, alive, done, next_number}
 use Rattle.unit_model.specs.Marks.{mark_of, marked}
-use Rattle.unit_model.specs.Contents.{is_capacity, capacity_of, facts_after, reply_after}
+use Rattle.unit_model.specs.Contents.{is_capacity, facts_after, reply_after}
 use Rattle.unit_model.specs.Lawful.{IsReady, May}
 use Rattle.unit_model.specs.Receipts.{receipt_of}
 use Rattle.unit_model.specs.Jobs.{PlainJob}
-use Rattle.unit_model.specs.Unit.{PlainUnit, parking, Steps}
+use Rattle.unit_model.specs.Unit.{PlainUnit, may_wait, parking, Steps}
 use Rattle.unit_model.specs.Asking.{IsOf, IsNamed, IsMisdelivered, CannotCommit}
 use Rattle.command_model.specs.Memory.{may_run_short}
-use Rattle.block_commands.specs.Needs.{needs}
-use Rattle.unit_history.specs.Flushes.{is_flush}
 use Rattle.unit_history.specs.declared.outcomes.Entered.{Entered}
 use Rattle.unit_history.specs.declared.outcomes.Entered.TheVariants as entered
 use Rattle.unit_history.specs.declared.outcomes.Outcome.{Outcome}
@@ -52,14 +50,12 @@ Commits old j outcome.Busy new =
     × Steps old (Step.Busy j.entry.ticket) new
 Commits old j outcome.Unknown new = CannotCommit (task_of j.entry.ticket (alive old.steps)) j old.steps × (new ≡ old)
 
--- the command runs later: its task may run, its unit's disk is one whose pages come and go, and nothing is changed
+-- the command runs later: its task may run, it may have to wait, and nothing is changed
 pub record Waits (old : PlainUnit) (j : PlainJob) (new : PlainUnit) : Type 0 where
   pub entry : Entry
   pub of : IsOf j entry old.steps
   pub ready : IsReady j.entry.ticket entry old.steps
-  pub backed : old.backed ≡ true
-  -- it needs blocks, or waits for what was changed before it
-  pub cause : (needs (capacity_of old.opening old.steps) entry.command || is_flush entry.command) ≡ true
+  pub waits : may_wait old entry.command ≡ true
   pub same : new ≡ old
 
 -- own: a capacity is refused where no unit may have it, and memory only for one that it may have

@@ -1,15 +1,15 @@
 -- What a unit keeps.
-use Rattle.std.specs.Prelude.{ℕ, not, List, [], ◌∷◌}
+use Rattle.std.specs.Prelude.{ℕ, List, [], ◌∷◌}
 use Rattle.backed_store.specs.Disks as disks
-use Rattle.block_store.specs.declared.paged.PagedStore.{PagedStore}
+use Rattle.backed_store.specs.declared.disk.Disk.{Disk}
 use Rattle.unit_model.specs.Contents.{Opening}
 use Rattle.task_set.specs.Tasks.{parked_of}
 use Rattle.unit_history.specs.Disks.{disk_bytes}
 use Rattle.unit_model.specs.Unit.{PlainUnit}
 use Rattle.unit_history.specs.declared.unit.UnitState.TheInside.{Inside}
 
--- own: the bytes of all blocks of the store that was handed in, if one was
-abbrev pub content_of : List PagedStore → List ℕ
+-- own: the bytes of all blocks of the disk that was handed in, if one was
+abbrev pub content_of : List Disk → List ℕ
 content_of [] = []
 content_of (disk ∷ more) = disk_bytes disk
 
@@ -26,7 +26,6 @@ opening_of u =
       identity = u.facts.identity;
     }
 
--- its disk is one whose pages come and go, if not all of them stay in memory
 abbrev pub plain_unit : Inside → PlainUnit
 plain_unit u =
     record {
@@ -34,5 +33,5 @@ plain_unit u =
       steps = u.log.steps;
       parked = parked_of u.tasks;
       keeps_replies = u.log.keeps;
-      backed = not (disks.is_whole u.store);
+      storage = disks.storage_of u.store;
     }

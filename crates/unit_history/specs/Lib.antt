@@ -1,6 +1,5 @@
 pub mod Kept
 pub mod Runs
-pub mod Flushes
 pub mod Calls
 pub mod Endings
 pub mod Serving

@@ -89,6 +89,7 @@ fn record_run(
 }
 
 impl UnitState {
+    ghost use Rattle.unit_model.specs.Unit.{is_backed};
     ghost use Rattle.unit_history.specs.Calls.{Commits, Waits};
 
     /// Runs the command of a job's task whole, in one hold of the unit's lock. Tested first to last: `Unknown`; the
@@ -96,7 +97,7 @@ impl UnitState {
     /// reply. The copy is made where replies are kept and its data are short enough. The unit's disk isn't backed.
     #[inline(always)]
     pub fn commit(&mut self, job: &Job) -> Outcome
-        requires { self.old.backed ≡ false }
+        requires { is_backed self.old ≡ false }
         ensures step { Commits self.old job.now result self.new }
         ensures fits { FitsNeed (need_of job.now.entry.command).into result }
     {
@@ -144,7 +145,7 @@ impl UnitState {
         prepared: Option<PreparedWrite>,
         spare: &mut Option<Prepared>,
     ) -> Outcome
-        requires { self.old.backed ≡ false }
+        requires { is_backed self.old ≡ false }
         ensures step { Commits self.old job.now result self.new }
         ensures fits { FitsNeed (need_of job.now.entry.command).into result }
     {
@@ -155,7 +156,8 @@ impl UnitState {
     }
 
     /// Runs the command of a job's task as [`UnitState::commit_with`] does, if the pages that it needs of its disk are in
-    /// memory. Else the host is asked for each of them at once, and the command waits: `None`, with nothing changed. So does
+    /// memory. Else the host is asked for each of them at once, and the command waits: `None`, with nothing changed. Where
+    /// there is no room for them, clean pages go that aren't those of the command that has waited for the longest. So does
     /// a flush, until the host's storage has each change of the disk that was made before it came, and one that comes while
     /// another waits. A task that is marked, and one that may not run, never waits. Nor does a command on a disk that isn't
     /// backed, nor one that needs no block and is no flush.
@@ -169,7 +171,7 @@ impl UnitState {
         ensures step { IfSome result (λ outcome. Commits self.old job.now outcome self.new) }
         ensures fits { IfSome result (λ outcome. FitsNeed (need_of job.now.entry.command).into outcome) }
         ensures waits { IfNone result (Waits self.old job.now self.new) }
-        ensures whole { self.old.backed ≡ false → IsSome result }
+        ensures whole { is_backed self.old ≡ false → IsSome result }
     {
         let ticket = job.ticket();
         let Some(task) = self.tasks.task(ticket) else {
@@ -198,6 +200,8 @@ impl UnitState {
                     pages,
                     spare,
                     keeps,
+                    &mut self.oldest,
+                    ticket,
                 ) else {
                     return None;
                 };

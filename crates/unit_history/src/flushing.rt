@@ -1,8 +1,8 @@
 //! A flush that waits until the host's storage has what was changed before it.
 
-ghost use Rattle.std.specs.Prelude.{◌≡◌, ℕ, false, None, Some, is_some, IsTrue, IsFalse, IfSome};
-ghost use Rattle.backed_store.specs.Disks.{is_whole, latest_of, owes};
-ghost use Rattle.unit_history.specs.Flushes.{is_flush as flushes};
+ghost use Rattle.std.specs.Prelude.{◌≡◌, ℕ, true, false, None, Some, is_some, IsTrue, IsFalse, IfSome};
+ghost use Rattle.backed_store.specs.Disks.{is_backed, latest_of, owes};
+ghost use Rattle.command_model.specs.Waiting.{is_flush as flushes};
 ghost use Rattle.unit_history.specs.Inner.Flushes.{fence_of, without};
 
 use backed_store::Disk;
@@ -57,16 +57,16 @@ pub(crate) fn has_to_wait(
     command: &Command,
     ticket: Ticket,
 ) -> bool
-    ensures backed { IsTrue result → is_whole disk.now ≡ false }
+    ensures backed { IsTrue result → is_backed disk.now ≡ true }
     ensures flush { IsTrue result → IsTrue (flushes command.now) }
     ensures owed { IsTrue result → IfSome (fence_of fence.old disk.now ticket) (λ own. (p : ℕ) × IsTrue (owes disk.now own.change p)) }
     ensures kept { IsTrue result → IfSome (fence_of fence.old disk.now ticket) (λ own. fence.new ≡ Some own) }
     ensures another { IsTrue result → fence_of fence.old disk.now ticket ≡ None → fence.new ≡ fence.old }
-    ensures own { IsFalse result → IsTrue (flushes command.now) → is_whole disk.now ≡ false →
+    ensures own { IsFalse result → IsTrue (flushes command.now) → is_backed disk.now ≡ true →
         IsTrue (is_some (fence_of fence.old disk.now ticket)) }
-    ensures over { IsFalse result → IsTrue (flushes command.now) → is_whole disk.now ≡ false →
+    ensures over { IsFalse result → IsTrue (flushes command.now) → is_backed disk.now ≡ true →
         IfSome (fence_of fence.old disk.now ticket) (λ own. (p : ℕ) → owes disk.now own.change p ≡ false) }
-    ensures gone { IsFalse result → IsTrue (flushes command.now) → is_whole disk.now ≡ false → fence.new ≡ None }
+    ensures gone { IsFalse result → IsTrue (flushes command.now) → is_backed disk.now ≡ true → fence.new ≡ None }
     ensures others { flushes command.now ≡ false → fence.new ≡ fence.old }
 {
     if disk.is_resident() {
@@ -89,7 +89,7 @@ pub(crate) fn has_to_wait(
 /// Returns true if a command would wait that comes now, while no other flush waits.
 pub(crate) fn would_wait(disk: &Disk, command: &Command) -> bool
     ensures over { IsFalse result → IsTrue (flushes command.now) → (p : ℕ) → owes disk.now (latest_of disk.now) p ≡ false }
-    ensures whole { IsTrue (is_whole disk.now) → IsFalse result }
+    ensures whole { is_backed disk.now ≡ false → IsFalse result }
 {
     is_flush(command) && !disk.is_flushed(disk.latest_change())
 }

@@ -6,8 +6,13 @@
 //! cause. A request enters only the unit whose address it names, above the last ticket of its queue. Each job is
 //! handed out once. A command runs whole, with the reply that its history gives; or its task was marked, or memory
 //! was refused, and nothing changed. A Leave wants the proof that the chain was completed (`Answered`). A command that
-//! needs pages which aren't in memory waits, with nothing changed (`commit_ready`). So does SYNCHRONIZE CACHE, until the
+//! needs pages which aren't in memory waits, with nothing changed (`commit_ready`). Where there is no room for them,
+//! others go, and no block changes. So does SYNCHRONIZE CACHE, until the
 //! host's storage has what was changed before it.
+//!
+//! A host reads and writes the pages of a disk that come and go, with one premise: it hands in what its storage kept, as the
+//! unit's ledger says. It is given each page as the unit's blocks are then, and no page that it hands in, gives up or wrote
+//! changes a block, a step or a task.
 //!
 //! Blocks, capacity, attentions and counts (modulo 2^64) are the history's, over disks that are given and given
 //! back. Blocks outside the changes that it tells are unchanged since a place; it may always tell of its latest
@@ -26,8 +31,10 @@ mod kept_replies;
 mod kind;
 mod last_tickets;
 mod log;
+mod making_room;
 mod outcomes;
 mod pages;
+mod paging;
 mod performing;
 mod recorded;
 mod ring;

@@ -5,11 +5,12 @@ ghost use Rattle.std.specs.Option.{option_map};
 ghost use Rattle.cdb.specs.Need.{need_of};
 ghost use Rattle.command_model.specs.PlainReply.{plain_of};
 ghost use Rattle.block_store.specs.Drafts.{prepared_draft};
+ghost use Rattle.backed_store.specs.Disks.{is_backed};
 ghost use Rattle.block_store.specs.declared.readiness.Readiness.TheVariants.{Ready, Full};
 ghost use Rattle.block_commands.specs.Prepared.{IsOf};
 ghost use Rattle.block_commands.specs.Inner.Told.{facts_of};
 ghost use Rattle.block_commands.specs.Inner.Ready.{IsReady};
-ghost use Rattle.block_commands.specs.Needs.{needs};
+ghost use Rattle.command_model.specs.Waiting.{needs};
 ghost use Rattle.command_model.specs.Attention.{met};
 ghost use Rattle.sense.specs.Conditions.{unit_attention};
 ghost use Rattle.unit_model.specs.Contents.{pending_at_start};
@@ -18,12 +19,14 @@ ghost use Rattle.unit_history.specs.Endings.{plain_run};
 ghost use Rattle.unit_history.specs.Inner.Performing.{Performs, performed_of, told, taken, unkept};
 
 use crate::log::LONGEST_KEPT;
+use crate::making_room::{OldestWaiting, make_ready_for};
 use backed_store::Disk;
-use block_commands::{UnitFacts, exec_on, exec_prepared, make_ready, takes_attention};
+use block_commands::{UnitFacts, exec_on, exec_prepared, takes_attention};
 use block_store::{Prepared, Readiness, Store};
 use cdb::Command;
 use command_model::Reply;
 use foundation::NoMemory;
+use ring_core::Ticket;
 use sense::Sense;
 use std::alloc::{AllocError, Global};
 use unit_attention::{Attentions, Code};
@@ -106,16 +109,19 @@ pub struct Performed {
     pub kept: Option<Reply>,
 }
 
-/// Puts what is pending first among the facts, and asks the host for each page that a command needs and that isn't in
-/// memory. The command has exactly the data that it takes. The blocks stay as they are. `Ready` where it may run; so
-/// always on a disk that isn't backed.
+/// Puts what is pending first among the facts, and asks the host for each page that the command of a ticket needs and that
+/// isn't in memory. The command has exactly the data that it takes. The blocks stay as they are. `Ready` where it may run;
+/// so always on a disk that isn't backed. Where there is no room for its pages, others go from memory, but not those of the
+/// command that has waited for the longest.
 #[inline(always)]
-pub fn ready_for(
+pub(crate) fn ready_for(
     facts: &mut UnitFacts,
     attentions: &Attentions,
     store: &mut Disk,
     command: &Command,
     bytes: &[u8],
+    oldest: &mut Option<OldestWaiting>,
+    ticket: Ticket,
 ) -> Readiness
     requires data { length bytes.now ≡ (need_of command.now).out }
     ensures facts { facts.new ≡ told facts.old attentions.now }
@@ -126,8 +132,8 @@ pub fn ready_for(
         IsReady (⟦<Disk as Store>⟧.is_coming store.new) (⟦<Disk as Store>⟧.has_room store.new) (⟦<Disk as Store>⟧.size store.new)
         command.now bytes.now }
     ensures idle { needs (⟦<Disk as Store>⟧.size store.old) command.now ≡ false → result ≡ Ready }
-    ensures whole { IsTrue (⟦<Disk as Store>⟧.is_whole store.old) → result ≡ Ready }
-    ensures kind { ⟦<Disk as Store>⟧.is_whole store.new ≡ ⟦<Disk as Store>⟧.is_whole store.old }
+    ensures whole { is_backed store.old ≡ false → result ≡ Ready }
+    ensures storage { ⟦<Disk as Store>⟧.storage store.new ≡ ⟦<Disk as Store>⟧.storage store.old }
     ensures blocks { ⟦<Disk as Store>⟧.block_at store.new ≡ ⟦<Disk as Store>⟧.block_at store.old }
     ensures size { ⟦<Disk as Store>⟧.size store.new ≡ ⟦<Disk as Store>⟧.size store.old }
 {
@@ -135,10 +141,10 @@ pub fn ready_for(
     if store.is_resident() {
         return Readiness::Ready;
     }
-    make_ready(store, command, bytes, facts)
+    make_ready_for(facts, store, command, bytes, oldest, ticket)
 }
 
-/// Makes a disk ready for a command as [`ready_for`] does. Returns true if the command may run.
+/// Makes a disk ready for a command as [`ready_for`] does, where no command of its unit waits. Returns true if it may run.
 #[inline(always)]
 pub fn is_ready(
     facts: &mut UnitFacts,
@@ -146,18 +152,19 @@ pub fn is_ready(
     store: &mut Disk,
     command: &Command,
     bytes: &[u8],
+    ticket: Ticket,
 ) -> bool
     requires data { length bytes.now ≡ (need_of command.now).out }
     ensures facts { facts.new ≡ told facts.old attentions.now }
     ensures ready { IsTrue result → met command.now (told facts.old attentions.now).pending ≡ None →
         IsReady (⟦<Disk as Store>⟧.is_held store.new) (⟦<Disk as Store>⟧.has_room store.new) (⟦<Disk as Store>⟧.size store.new)
         command.now bytes.now }
-    ensures whole { IsTrue (⟦<Disk as Store>⟧.is_whole store.old) → IsTrue result }
-    ensures kind { ⟦<Disk as Store>⟧.is_whole store.new ≡ ⟦<Disk as Store>⟧.is_whole store.old }
+    ensures whole { is_backed store.old ≡ false → IsTrue result }
+    ensures storage { ⟦<Disk as Store>⟧.storage store.new ≡ ⟦<Disk as Store>⟧.storage store.old }
     ensures blocks { ⟦<Disk as Store>⟧.block_at store.new ≡ ⟦<Disk as Store>⟧.block_at store.old }
     ensures size { ⟦<Disk as Store>⟧.size store.new ≡ ⟦<Disk as Store>⟧.size store.old }
 {
-    match ready_for(facts, attentions, store, command, bytes) {
+    match ready_for(facts, attentions, store, command, bytes, &mut None, ticket) {
         Readiness::Ready => true,
         Readiness::Asked | Readiness::Full => false,
     }
@@ -184,7 +191,7 @@ pub fn run(
         command.now bytes.now (unkept (plain_run result))
         (⟦<Disk as Store>⟧.block_at store.old) (⟦<Disk as Store>⟧.block_at store.new) attentions.old attentions.new }
     ensures size { ⟦<Disk as Store>⟧.size store.new ≡ ⟦<Disk as Store>⟧.size store.old }
-    ensures kind { ⟦<Disk as Store>⟧.is_whole store.new ≡ ⟦<Disk as Store>⟧.is_whole store.old }
+    ensures storage { ⟦<Disk as Store>⟧.storage store.new ≡ ⟦<Disk as Store>⟧.storage store.old }
     ensures fits { IfOk result (λ r. length r.payload.items ≤ (need_of command.now).into) }
 {
     let ran = exec_on(alloc, room, store, command, bytes, facts);
@@ -217,7 +224,7 @@ fn run_prepared(
         command.now bytes.now (unkept (plain_run result))
         (⟦<Disk as Store>⟧.block_at store.old) (⟦<Disk as Store>⟧.block_at store.new) attentions.old attentions.new }
     ensures size { ⟦<Disk as Store>⟧.size store.new ≡ ⟦<Disk as Store>⟧.size store.old }
-    ensures kind { ⟦<Disk as Store>⟧.is_whole store.new ≡ ⟦<Disk as Store>⟧.is_whole store.old }
+    ensures storage { ⟦<Disk as Store>⟧.storage store.new ≡ ⟦<Disk as Store>⟧.storage store.old }
     ensures fits { IfOk result (λ r. length r.payload.items ≤ (need_of command.now).into) }
 {
     let (reply, back) = exec_prepared(alloc, room, store, command, bytes, facts, prepared)?;
@@ -251,7 +258,7 @@ pub fn perform(
         command.now bytes.now (option_map performed_of result)
         (⟦<Disk as Store>⟧.block_at store.old) (⟦<Disk as Store>⟧.block_at store.new) attentions.old attentions.new }
     ensures size { ⟦<Disk as Store>⟧.size store.new ≡ ⟦<Disk as Store>⟧.size store.old }
-    ensures kind { ⟦<Disk as Store>⟧.is_whole store.new ≡ ⟦<Disk as Store>⟧.is_whole store.old }
+    ensures storage { ⟦<Disk as Store>⟧.storage store.new ≡ ⟦<Disk as Store>⟧.storage store.old }
     ensures fits { IfSome result (λ p. length p.reply.payload.items ≤ (need_of command.now).into) }
 {
     if !keeps_replies {
@@ -269,10 +276,10 @@ pub fn perform(
     Some(Performed { reply, kept })
 }
 
-/// Runs a command as [`perform`] does, if what it needs of the disk is in memory. Else it waits, with blocks and
+/// Runs the command of a ticket as [`perform`] does, if what it needs of the disk is in memory. Else it waits, with blocks and
 /// attentions as before: `Asked` where the host is asked for each page at once, `Full` where there is no room for all.
 #[inline(always)]
-pub fn perform_if_ready(
+pub(crate) fn perform_if_ready(
     alloc: Global,
     room: &mut Vec<u8>,
     facts: &mut UnitFacts,
@@ -283,6 +290,8 @@ pub fn perform_if_ready(
     prepared: Option<Prepared>,
     spare: &mut Option<Prepared>,
     keeps_replies: bool,
+    oldest: &mut Option<OldestWaiting>,
+    ticket: Ticket,
 ) -> Result<Option<Performed>, Readiness>
     requires data { length bytes.now ≡ (need_of command.now).out }
     requires own { IfSome prepared (λ pages. IsOf command.now bytes.now (prepared_draft pages)) }
@@ -292,18 +301,18 @@ pub fn perform_if_ready(
         (⟦<Disk as Store>⟧.block_at store.old) (⟦<Disk as Store>⟧.block_at store.new) attentions.old attentions.new) }
     ensures waits { OnErr result ((⟦<Disk as Store>⟧.block_at store.new ≡ ⟦<Disk as Store>⟧.block_at store.old)
         × (attentions.new ≡ attentions.old)) }
-    ensures backed { OnErr result (⟦<Disk as Store>⟧.is_whole store.old ≡ false) }
+    ensures backed { OnErr result (is_backed store.old ≡ true) }
     ensures needed { OnErr result (needs (⟦<Disk as Store>⟧.size store.old) command.now ≡ true) }
     ensures asked { IfErr result (λ why. why ≢ Full → met command.now (told facts.old attentions.old).pending ≡ None →
         IsReady (⟦<Disk as Store>⟧.is_coming store.new) (⟦<Disk as Store>⟧.has_room store.new) (⟦<Disk as Store>⟧.size store.new)
         command.now bytes.now) }
-    ensures whole { IsTrue (⟦<Disk as Store>⟧.is_whole store.old) → IsOk result }
+    ensures whole { is_backed store.old ≡ false → IsOk result }
     ensures facts { facts.new ≡ told facts.old attentions.old }
     ensures size { ⟦<Disk as Store>⟧.size store.new ≡ ⟦<Disk as Store>⟧.size store.old }
-    ensures kind { ⟦<Disk as Store>⟧.is_whole store.new ≡ ⟦<Disk as Store>⟧.is_whole store.old }
+    ensures storage { ⟦<Disk as Store>⟧.storage store.new ≡ ⟦<Disk as Store>⟧.storage store.old }
     ensures fits { IfOk result (λ ran. IfSome ran (λ p. length p.reply.payload.items ≤ (need_of command.now).into)) }
 {
-    match ready_for(facts, attentions, store, command, bytes) {
+    match ready_for(facts, attentions, store, command, bytes, oldest, ticket) {
         Readiness::Ready => Ok(perform(
             alloc,
             room,

@@ -1,12 +1,12 @@
 //! A request that is served to its end in one call, where no other task is alive.
 
-ghost use Rattle.std.specs.Prelude.{◌≡◌, ℕ, IsTrue, false, None};
+ghost use Rattle.std.specs.Prelude.{◌≡◌, ℕ, IsTrue, true, false, None};
 ghost use Rattle.std.specs.Bool.{OnFalse};
-ghost use Rattle.backed_store.specs.Disks.{is_whole, latest_of, owes};
+ghost use Rattle.backed_store.specs.Disks.{is_backed, latest_of, owes};
 ghost use Rattle.block_commands.specs.Inner.Ready.{IsReady};
 ghost use Rattle.block_commands.specs.Inner.Told.{facts_of};
 ghost use Rattle.command_model.specs.Attention.{met};
-ghost use Rattle.unit_history.specs.Flushes.{is_flush};
+ghost use Rattle.command_model.specs.Waiting.{is_flush};
 ghost use Rattle.unit_history.specs.Endings.{ending_of_run, plain_run};
 ghost use Rattle.unit_history.specs.Inner.Performing.{Performs, step_for, told, unkept};
 ghost use Rattle.unit_history.specs.Recorded.{step_recorded};
@@ -65,7 +65,7 @@ fn run_and_answer<A: Answering>(
     ensures answered { A.answers answering.old arrival.now (ending_of_run result) answering.new }
     ensures facts { facts.new ≡ told facts.old attentions.old }
     ensures size { ⟦<Disk as Store>⟧.size store.new ≡ ⟦<Disk as Store>⟧.size store.old }
-    ensures kind { ⟦<Disk as Store>⟧.is_whole store.new ≡ ⟦<Disk as Store>⟧.is_whole store.old }
+    ensures storage { ⟦<Disk as Store>⟧.storage store.new ≡ ⟦<Disk as Store>⟧.storage store.old }
 {
     let command = arrival.command();
     tell_oldest(facts, attentions);
@@ -111,10 +111,10 @@ fn may_run(
     ensures ready { IsTrue result → met arrival.now.entry.command (told facts.old attentions.now).pending ≡ None →
         IsReady (⟦<Disk as Store>⟧.is_held store.new) (⟦<Disk as Store>⟧.has_room store.new) (⟦<Disk as Store>⟧.size store.new)
         arrival.now.entry.command arrival.now.entry.data_out }
-    ensures whole { IsTrue (⟦<Disk as Store>⟧.is_whole store.old) → IsTrue result }
-    ensures flushed { IsTrue result → is_whole store.new ≡ false → IsTrue (is_flush arrival.now.entry.command) →
+    ensures whole { is_backed store.old ≡ false → IsTrue result }
+    ensures flushed { IsTrue result → is_backed store.new ≡ true → IsTrue (is_flush arrival.now.entry.command) →
         (p : ℕ) → owes store.new (latest_of store.new) p ≡ false }
-    ensures kind { ⟦<Disk as Store>⟧.is_whole store.new ≡ ⟦<Disk as Store>⟧.is_whole store.old }
+    ensures storage { ⟦<Disk as Store>⟧.storage store.new ≡ ⟦<Disk as Store>⟧.storage store.old }
     ensures blocks { ⟦<Disk as Store>⟧.block_at store.new ≡ ⟦<Disk as Store>⟧.block_at store.old }
     ensures size { ⟦<Disk as Store>⟧.size store.new ≡ ⟦<Disk as Store>⟧.size store.old }
 {
@@ -137,15 +137,17 @@ fn is_arrival_ready(
     ensures ready { IsTrue result → met arrival.now.entry.command (told facts.old attentions.now).pending ≡ None →
         IsReady (⟦<Disk as Store>⟧.is_held store.new) (⟦<Disk as Store>⟧.has_room store.new) (⟦<Disk as Store>⟧.size store.new)
         arrival.now.entry.command arrival.now.entry.data_out }
-    ensures whole { IsTrue (⟦<Disk as Store>⟧.is_whole store.old) → IsTrue result }
-    ensures flushed { IsTrue result → is_whole store.new ≡ false → IsTrue (is_flush arrival.now.entry.command) →
+    ensures whole { is_backed store.old ≡ false → IsTrue result }
+    ensures flushed { IsTrue result → is_backed store.new ≡ true → IsTrue (is_flush arrival.now.entry.command) →
         (p : ℕ) → owes store.new (latest_of store.new) p ≡ false }
-    ensures kind { ⟦<Disk as Store>⟧.is_whole store.new ≡ ⟦<Disk as Store>⟧.is_whole store.old }
+    ensures storage { ⟦<Disk as Store>⟧.storage store.new ≡ ⟦<Disk as Store>⟧.storage store.old }
     ensures blocks { ⟦<Disk as Store>⟧.block_at store.new ≡ ⟦<Disk as Store>⟧.block_at store.old }
     ensures size { ⟦<Disk as Store>⟧.size store.new ≡ ⟦<Disk as Store>⟧.size store.old }
 {
     let command = arrival.command();
-    is_ready(facts, attentions, store, &command, arrival.data()) && !would_wait(store, &command)
+    let ticket = arrival.ticket();
+    is_ready(facts, attentions, store, &command, arrival.data(), ticket)
+        && !would_wait(store, &command)
 }
 
 impl UnitState {

@@ -1,16 +1,20 @@
 //! A logical unit.
 
-ghost use Rattle.std.specs.Prelude.{◌≡◌, ◌≢◌, ◌+◌, ◌-◌, ◌<◌, ◌≤◌, length, OnOk, OnErr, IsTrue, IsFalse};
+ghost use Rattle.std.specs.Prelude.{ℕ, ◌≡◌, ◌≢◌, ◌+◌, ◌-◌, ◌<◌, ◌≤◌, length, nat_lt, OnOk, OnErr, IsTrue, IsFalse, if◌then◌else◌};
+ghost use Rattle.block_store.specs.Blocks.{zero_block};
+ghost use Rattle.backed_store.specs.Disks.{size_of, blocks_of, storage_of};
 ghost use Rattle.unit_model.specs.Base.{most_before};
 ghost use Rattle.unit_model.specs.Contents.{is_capacity as may_have};
 ghost use Rattle.task_set.specs.Inner.Tasks.{seen_of};
 ghost use Rattle.unit_history.specs.Inner.Parts.{AreClear};
 ghost use Rattle.unit_history.specs.Recorded.{most_steps};
+ghost use Rattle.unit_history.specs.Disks.{storage_over};
 
 use crate::changes::Changes;
 use crate::flushing::{Fence, give_up};
 use crate::last_tickets::LastTickets;
 use crate::log::StepLog;
+use crate::making_room::{OldestWaiting, forget};
 use crate::outcomes::{Entered, ResizeFault, Unknown};
 use crate::performing::attentions_at_start;
 use crate::recorded::{RecordedEntry, RecordedStep};
@@ -42,14 +46,16 @@ pub struct UnitState {
     pub(crate) calm: bool,
     pub(crate) attentions: Attentions,
     pub(crate) store: Disk,
-    // The store that was handed in at the opening, as it was then.
-    pub(crate) opened: Record<PagedStore>,
+    // The disk that was handed in at the opening, as it was then.
+    pub(crate) opened: Record<Disk>,
     pub(crate) opening_blocks: u64,
     pub(crate) tasks: TaskSet,
     pub(crate) log: StepLog,
     pub(crate) last_tickets: LastTickets,
     // The flush that waits, if one does.
     pub(crate) fence: Option<Fence>,
+    // The command that has waited for pages for the longest, if one does.
+    pub(crate) oldest: Option<OldestWaiting>,
     // Room for the data of the next command that returns some.
     pub(crate) room: Vec<u8>,
     // Pages that a commit left over, at most one list of them. The next WRITE that is prepared puts its data over their
@@ -131,13 +137,32 @@ fn forget_where_clear(log: &mut StepLog, tasks: &TaskSet)
     }
 }
 
+/// Returns a disk without the bytes behind its end, which are no block of it.
+fn cut_off(disk: Disk) -> Disk
+    ensures size { size_of result ≡ size_of disk }
+    ensures blocks { (b : ℕ) → blocks_of result b ≡ (if nat_lt b (size_of disk) then blocks_of disk b else zero_block) }
+    ensures storage { storage_of result ≡ storage_over disk }
+{
+    let blocks = disk.capacity();
+    match disk {
+        Disk::Whole(mut store) => {
+            store.resize(blocks);
+            Disk::Whole(store)
+        }
+        Disk::Backed(mut store) => {
+            store.resize(blocks);
+            Disk::Backed(store)
+        }
+    }
+}
+
 impl UnitState {
-    ghost use Rattle.std.specs.Prelude.{◌≡◌, ◌+◌, ◌≤◌, [], false, length, IfOk, IfErr, OnOk, OnErr};
+    ghost use Rattle.std.specs.Prelude.{◌≡◌, ◌+◌, ◌≤◌, [], length, IfOk, IfErr, OnOk, OnErr};
     ghost use Rattle.unit_attention.specs.Code.{IsKnown};
     ghost use Rattle.unit_model.specs.Tasks.{task_of};
     ghost use Rattle.unit_model.specs.Steps.{Step, alive};
     ghost use Rattle.unit_model.specs.Unit.{opening_unit, handing, Steps, IsUnit};
-    ghost use Rattle.unit_history.specs.Disks.{opening_over, IsDiskOf};
+    ghost use Rattle.unit_history.specs.Disks.{unit_over, IsDiskOf};
     ghost use Rattle.unit_history.specs.Calls.{Enters, ResizeRefused, CannotLeave};
 
     /// Makes a unit as it is specified, with the LUNs of its target by rising number, of which no step was taken.
@@ -182,39 +207,31 @@ impl UnitState {
             log: StepLog::new(alloc, keeps_replies),
             last_tickets: LastTickets::new(alloc),
             fence: None,
+            oldest: None,
             room: Vec::new(alloc),
             spare_pages: None,
             changes: Changes::since_place(0),
         })
     }
 
-    /// Gives a unit of which no step was taken the blocks of a store in place of its zeros, and as many as the store
-    /// has. Its disk isn't backed. Takes no memory. Called for a disk that outlives its device, with what
-    /// [`UnitState::into_store`] gave.
-    pub fn hand_in(&mut self, mut store: PagedStore)
+    /// Gives a unit of which no step was taken a disk in place of its zeros: the disk's blocks, and as many. Takes no
+    /// memory. Called for a disk that outlives its device, as [`UnitState::into_disk`] gives it, or whose pages come and
+    /// go. The host's storage of such a disk is cut off at the disk's end.
+    pub fn hand_in(&mut self, disk: Disk)
         requires fresh { self.old.steps ≡ [] }
-        requires whole { self.old.backed ≡ false }
-        ensures { self.new ≡ record self.old { opening = opening_over store self.old.opening } }
+        ensures { self.new ≡ unit_over disk self.old }
     {
-        self.opened = Record::new().and(&store);
-        let blocks = store.capacity();
-        // The store's bytes behind its end are no block of the disk.
-        store.resize(blocks);
-        self.opening_blocks = blocks;
-        self.store = Disk::Whole(store);
+        self.opened = Record::new().and(&disk);
+        self.opening_blocks = disk.capacity();
+        self.store = cut_off(disk);
     }
 
-    /// Returns the blocks of a unit whose disk isn't backed, as its commands and resizes left them. The rest of the unit is
+    /// Returns a unit's disk, as its commands and resizes left it, with what the host's storage has. The rest of the unit is
     /// gone.
-    pub fn into_store(self) -> PagedStore
-        requires { self.backed ≡ false }
+    pub fn into_disk(self) -> Disk
         ensures { IsDiskOf self result }
     {
-        let disk = self.store;
-        match disk {
-            Disk::Whole(store) => store,
-            Disk::Backed(_) => unreachable!(),
-        }
+        self.store
     }
 
     /// Shows what every unit is between calls: its history is lawful, and its parts are what follows from it.
@@ -339,6 +356,7 @@ impl UnitState {
             return Err(Unknown);
         }
         give_up(&mut self.fence, ticket);
+        forget(&mut self.oldest, ticket);
         self.log.push(RecordedStep::Leave(ticket), None);
         self.tasks.leave(ticket, out);
         Ok(())

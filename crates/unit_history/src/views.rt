@@ -15,6 +15,7 @@ use unit_attention::Code;
 use unit_model::{Counts, Rule};
 
 impl UnitState {
+    ghost use Rattle.unit_model.specs.Unit.{is_backed};
     ghost use Rattle.std.specs.Prelude.{◌≡◌, ◌+◌, ◌*◌, ◌≢◌, ◌<◌, ◌≤◌, ◌⊎◌, ◌++◌, true, length, slice_get, OnOk, OnErr, IsTrue, IsFalse, ◌↔◌};
     ghost use Rattle.std.specs.Option.{option_map};
     ghost use Rattle.block_store.specs.Blocks.{run};
@@ -165,7 +166,7 @@ impl UnitState {
 
     /// Returns true if its disk is backed: the host's storage has the pages that aren't in memory, and commands may wait.
     pub fn is_backed(&self) -> bool
-        ensures { result ≡ self.now.backed }
+        ensures { result ≡ is_backed self.now }
     {
         !self.store.is_resident()
     }

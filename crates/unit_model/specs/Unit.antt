@@ -1,10 +1,14 @@
 -- A logical unit as a plain value: what it opened with, its history, and the jobs that it holds.
-use Rattle.std.specs.Prelude.{◌≡◌, ◌++◌, Bool, false, List, [], ◌∷◌, map, filter}
+use Rattle.std.specs.Prelude.{ℕ, ◌≡◌, ◌++◌, ◌&&◌, Bool, true, min, List, [], ◌∷◌, map, filter, Option, None, is_some, ⊤}
+use Rattle.std.specs.Option.{option_map}
+use Rattle.block_store.specs.Storage.{Ledger, Dealing, IsPageOf, and_then}
+use Rattle.cdb.specs.declared.commands.Command.{Command}
+use Rattle.command_model.specs.Waiting.{waits_at}
 use Rattle.unit_model.specs.Tasks.{Entry}
 use Rattle.unit_model.specs.Steps.{Step, alive}
 use Rattle.unit_model.specs.Enabling.{is_parked}
 use Rattle.unit_model.specs.Released.{released}
-use Rattle.unit_model.specs.Contents.{Opening}
+use Rattle.unit_model.specs.Contents.{Opening, blocks_of, capacity_of}
 use Rattle.unit_model.specs.Lawful.{May, IsLawful}
 use Rattle.unit_model.specs.Jobs.{PlainJob, Jobs, of_tasks, but_tasks}
 
@@ -16,16 +20,35 @@ pub record PlainUnit : Type 0 where
   pub parked : List PlainJob
   -- whether the replies of its Commits are kept, to be compared with those of receipts
   pub keeps_replies : Bool
-  -- whether its disk is one whose pages come and go
-  pub backed : Bool
+  -- what its host's storage had and was dealt, if its disk is one whose pages come and go
+  pub storage : Option Ledger
+
+-- own: whether the unit's disk is one whose pages come and go
+abbrev pub is_backed : PlainUnit → Bool
+is_backed u = is_some u.storage
+
+-- own: whether a command may have to wait at the unit: for pages of its disk, or for what was changed before it
+abbrev pub may_wait : PlainUnit → Command → Bool
+may_wait u command = is_backed u && waits_at (capacity_of u.opening u.steps) command
 
 -- own: a unit of which no step was taken, with all of its disk in memory
 abbrev pub opening_unit : Opening → Bool → PlainUnit
-opening_unit o keeps = record { opening = o; steps = []; parked = []; keeps_replies = keeps; backed = false }
+opening_unit o keeps = record { opening = o; steps = []; parked = []; keeps_replies = keeps; storage = None }
+
+-- own: the same of a disk of so many blocks once the step was taken: where the unit is resized, the host cuts its storage off
+-- at the lesser capacity
+abbrev pub storage_after : Step → ℕ → Option Ledger → Option Ledger
+storage_after (Step.Resize blocks) capacity storage = option_map (and_then (Dealing.Cut (min capacity blocks))) storage
+storage_after s capacity storage = storage
 
 -- own: the unit after one more step, without the jobs that this hands out
 abbrev pub after : Step → PlainUnit → PlainUnit
-after s u = record u { steps = s ∷ u.steps; parked = but_tasks (released s u.steps) u.parked }
+after s u =
+    record u {
+      steps = s ∷ u.steps;
+      parked = but_tasks (released s u.steps) u.parked;
+      storage = storage_after s (capacity_of u.opening u.steps) u.storage;
+    }
 
 -- own: the unit after the Enter of a job that it keeps
 abbrev pub parking : PlainJob → PlainUnit → PlainUnit
@@ -38,6 +61,21 @@ handing s u out = record out { jobs = out.jobs ++ of_tasks (released s u.steps) 
 -- own: the tasks of jobs
 abbrev pub tasks_of_jobs : List PlainJob → List Entry
 tasks_of_jobs jobs = map (λ (j : PlainJob). j.entry) jobs
+
+-- own: what the host has of the unit's disk changes, and nothing else of it
+abbrev pub dealing : Dealing → PlainUnit → PlainUnit
+dealing d u = record u { storage = option_map (and_then d) u.storage }
+
+-- own: the host is given what the unit's blocks are, and says itself what it kept; a Resize cuts the storage off
+abbrev pub IsAsItIs : PlainUnit → Dealing → Type 0
+IsAsItIs u (Dealing.Give page bytes) = IsPageOf (blocks_of u.opening u.steps) page bytes
+IsAsItIs u (Dealing.Keep page) = ⊤
+IsAsItIs u (Dealing.Cut blocks) = ⊥
+
+-- own: the host may deal so with the storage of the unit's disk: there is one, and it is given what the blocks are
+pub record MayDeal (u : PlainUnit) (d : Dealing) : Type 0 where
+  pub backed : is_backed u ≡ true
+  pub as_it_is : IsAsItIs u d
 
 -- own: the unit goes on by one step, which may come next
 pub record Steps (old : PlainUnit) (s : Step) (new : PlainUnit) : Type 0 where

@@ -3,7 +3,7 @@ use Rattle.std.proofs.Common.{◌≡◌, ℕ, ◌<◌, zero, suc, true, false, �
 use Rattle.std.specs.Prelude.{slice_get, slice_set, is_some}
 use Rattle.std.specs.List.{list_all}
 use Rattle.std.proofs.lemmas.List.{length-map}
-use Rattle.block_store.specs.declared.paged.PagedStore.{PagedStore}
+use Rattle.backed_store.specs.declared.disk.Disk.{Disk as UnitDisk}
 use Rattle.request_intake.specs.declared.inventory.UnitSpec.{UnitSpec}
 use Rattle.unit_model.specs.Unit.{PlainUnit}
 use Rattle.unit_history.specs.declared.changes.Range.{Range}
@@ -25,18 +25,18 @@ absent (Some x) e = cc
 
 -- where there is no device, and where there is one
 pub created_over : (pages features : ℕ) (queues : List WantedQueue) (units : List WantedUnit) (old told : Fault) (o : Option Served)
-    (disks : List (Option PagedStore)) (a : Answer) (after : Option Served) (disks' : List (Option PagedStore)) → o ≡ None
+    (disks : List (Option UnitDisk)) (a : Answer) (after : Option Served) (disks' : List (Option UnitDisk)) → o ≡ None
     → CreatesOverOf pages features queues units disks old a told after disks'
     → CreatesOver pages features queues units old told o disks a after disks'
 created_over pages features queues units old told o disks a after disks' none is =
     subst (λ (x : Option Served). CreatesOver pages features queues units old told x disks a after disks') (sym none) is
 
-pub closed : (o : Option Served) (d : Served) (disks : List (Option PagedStore)) (a : Answer) (after : Option Served)
-    (disks' : List (Option PagedStore)) → o ≡ Some d → ClosesInto d disks a after disks' → Closes o disks a after disks'
+pub closed : (o : Option Served) (d : Served) (disks : List (Option UnitDisk)) (a : Answer) (after : Option Served)
+    (disks' : List (Option UnitDisk)) → o ≡ Some d → ClosesInto d disks a after disks' → Closes o disks a after disks'
 closed o d disks a after disks' there is = subst (λ (x : Option Served). Closes x disks a after disks') (sym there) is
 
 -- disks that fit are all there
-pub all_there : (units : List UnitSpec) (disks : List (Option PagedStore)) → length disks ≡ length units → Fit units disks
+pub all_there : (units : List UnitSpec) (disks : List (Option UnitDisk)) → length disks ≡ length units → Fit units disks
     → list_all is_some disks ≡ true
 all_there units [] many fit = refl
 all_there [] (x ∷ disks) many fit = absurd (omega (arith, many))
@@ -44,7 +44,7 @@ all_there (u ∷ units) (None ∷ disks) many fit = absurd (fit zero u None refl
 all_there (u ∷ units) (Some s ∷ disks) many fit =
     all_there units disks (omega (arith, many)) (λ k v x at there. fit (suc k) v x at there)
 
-pub are_for : (units : List UnitSpec) (disks : List (Option PagedStore)) (stores : List PagedStore) → length disks ≡ length units
+pub are_for : (units : List UnitSpec) (disks : List (Option UnitDisk)) (stores : List UnitDisk) → length disks ≡ length units
     → Fit units disks → disks ≡ map (λ s. Some s) stores → AreDisksFor units stores
 are_for units disks stores many fit are =
     record {
@@ -54,7 +54,7 @@ are_for units disks stores many fit are =
     }
 
 -- a device gives as many disks as it has units
-pub as_many : (units : List PlainUnit) (stores : List PagedStore) → AreDisksOf units stores → length stores ≡ length units
+pub as_many : (units : List PlainUnit) (stores : List UnitDisk) → AreDisksOf units stores → length stores ≡ length units
 as_many [] [] are = refl
 as_many [] (s ∷ stores) are = absurd are
 as_many (u ∷ units) [] are = absurd are

@@ -4,7 +4,8 @@ use Rattle.std.specs.Prelude.{Bool, true, false, not, ◌&&◌, ◌==◌, Option
 use Rattle.std.specs.Option.{option_map}
 use Rattle.std.proofs.lemmas.Bool.{and_parts}
 use Rattle.std.proofs.lemmas.Bool.Decides.{nat_tests}
-use Rattle.block_store.specs.declared.paged.PagedStore.{PagedStore}
+use Rattle.backed_store.specs.Disks.{size_of}
+use Rattle.backed_store.specs.declared.disk.Disk.{Disk as UnitDisk}
 use Rattle.vscsi_c.specs.declared.served.Served.{Served}
 use Rattle.vscsi_c.specs.Held.{Content, device_in, live_in, disk_in}
 use Rattle.vscsi_c.specs.declared.live_served.LiveServed.{LiveServed}
@@ -51,26 +52,26 @@ pub disk_is_live : (live : Bool) (blocks : ℕ) (o : Option Content) → has_dis
 disk_is_live live blocks None h = not_live live h
 disk_is_live live blocks (Some (Content.Device d)) h = cc
 disk_is_live live blocks (Some (Content.Live d)) h = cc
-disk_is_live live blocks (Some (Content.Disk s)) h = (and_parts live (s.capacity == blocks) h).0
+disk_is_live live blocks (Some (Content.Disk s)) h = (and_parts live (size_of s == blocks) h).0
 
 pub disk_has : (live : Bool) (blocks : ℕ) (o : Option Content) → has_disk live blocks o ≡ true → live ≡ true
-    → option_map (λ (s : PagedStore). s.capacity) (disk_in o) ≡ Some blocks
+    → option_map (λ (s : UnitDisk). size_of s) (disk_in o) ≡ Some blocks
 disk_has live blocks None h e = cc
 disk_has live blocks (Some (Content.Device d)) h e = cc
 disk_has live blocks (Some (Content.Live d)) h e = cc
-disk_has live blocks (Some (Content.Disk s)) h e = ap (λ (n : ℕ). Some n) (same_number s.capacity blocks (and_parts live (s.capacity == blocks) h).1)
+disk_has live blocks (Some (Content.Disk s)) h e = ap (λ (n : ℕ). Some n) (same_number (size_of s) blocks (and_parts live (size_of s == blocks) h).1)
 
 pub no_blocks : (live : Bool) (blocks : ℕ) (o : Option Content) → has_disk live blocks o ≡ true → live ≡ false
-    → option_map (λ (s : PagedStore). s.capacity) (disk_in o) ≡ None
+    → option_map (λ (s : UnitDisk). size_of s) (disk_in o) ≡ None
 no_blocks live blocks None h e = refl
 no_blocks live blocks (Some (Content.Device d)) h e = cc
 no_blocks live blocks (Some (Content.Live d)) h e = cc
-no_blocks live blocks (Some (Content.Disk s)) h e = absurd (clash ((sym e) ∙ (and_parts live (s.capacity == blocks) h).0))
+no_blocks live blocks (Some (Content.Disk s)) h e = absurd (clash ((sym e) ∙ (and_parts live (size_of s == blocks) h).0))
   where
     clash : false ≡ true → ⊥
     clash c = cc
 
-pub disk_there : (o : Option Content) (s : PagedStore) → o ≡ Some (Content.Disk s) → disk_in o ≡ Some s
+pub disk_there : (o : Option Content) (s : UnitDisk) → o ≡ Some (Content.Disk s) → disk_in o ≡ Some s
 disk_there o s e = ap disk_in e
 
 pub no_disk : (live : Bool) (blocks : ℕ) (o : Option Content) → has_disk live blocks o ≡ true → disk_in o ≡ None → o ≡ None

@@ -1,11 +1,13 @@
 -- A call where there is a device, and one where there is none.
-use Rattle.std.proofs.Common.{◌≡◌, refl, sym, subst}
+use Rattle.std.proofs.Common.{◌≡◌, refl, sym, ap, subst}
 use Rattle.std.specs.Prelude.{ℕ, true, false, List, Option, Some, None, is_some}
 use Rattle.unit_model.specs.Contents.{is_capacity}
 use Rattle.config.specs.declared.config.Config.{Config}
 use Rattle.vscsi_c.specs.Wanted.{Asks}
-use Rattle.block_store.specs.declared.paged.PagedStore.{PagedStore}
-use Rattle.vscsi_c.specs.Disks.{OnDisk, CreatesDisk, IsBlank}
+use Rattle.block_store.specs.Blocks.{Blocks}
+use Rattle.backed_store.specs.Disks.{size_of, blocks_of}
+use Rattle.backed_store.specs.declared.disk.Disk.{Disk as UnitDisk}
+use Rattle.vscsi_c.specs.Disks.{OnDisk, CreatesDisk, IsBlank, IsUnchanged}
 use Rattle.vscsi_c.specs.Calls.{Serving, Creates, Makes, Refuses}
 use Rattle.vscsi_c.specs.declared.answer.Answer.{Answer}
 use Rattle.vscsi_c.specs.declared.answer.Answer.TheVariants as answer
@@ -22,15 +24,18 @@ pub without : (R : Served → Answer → Served → Type 0) (Same : Type 0) (old
     → Serving R Same old answer.NoDevice after
 without R Same old after e f s = subst (λ (o : Option Served). Serving R Same o answer.NoDevice after) (sym e) (refl, f, s)
 
-pub handling : (R : PagedStore → Answer → PagedStore → Type 0) (Same : Type 0) (old : Option PagedStore) (a : Answer) (after : Option PagedStore) (s s' : PagedStore)
+pub handling : (R : UnitDisk → Answer → UnitDisk → Type 0) (Same : Type 0) (old : Option UnitDisk) (a : Answer) (after : Option UnitDisk) (s s' : UnitDisk)
     → old ≡ Some s → after ≡ Some s' → R s a s' → OnDisk R Same old a after
-handling R Same old a after s s' e f r = subst (λ (o : Option PagedStore). OnDisk R Same o a after) (sym e) (s', f, r)
+handling R Same old a after s s' e f r = subst (λ (o : Option UnitDisk). OnDisk R Same o a after) (sym e) (s', f, r)
 
-pub without_disk : (R : PagedStore → Answer → PagedStore → Type 0) (Same : Type 0) (old after : Option PagedStore) → old ≡ None → after ≡ None → Same
+pub without_disk : (R : UnitDisk → Answer → UnitDisk → Type 0) (Same : Type 0) (old after : Option UnitDisk) → old ≡ None → after ≡ None → Same
     → OnDisk R Same old answer.NoDisk after
-without_disk R Same old after e f s = subst (λ (o : Option PagedStore). OnDisk R Same o answer.NoDisk after) (sym e) (refl, f, s)
+without_disk R Same old after e f s = subst (λ (o : Option UnitDisk). OnDisk R Same o answer.NoDisk after) (sym e) (refl, f, s)
 
-pub created : (blocks : ℕ) (old after : Option PagedStore) (s : PagedStore) → is_some old ≡ false → is_capacity blocks ≡ true → IsBlank blocks s
+pub unchanged : (s s' : UnitDisk) → blocks_of s' ≡ blocks_of s → size_of s' ≡ size_of s → IsUnchanged s s'
+unchanged s s' same size = record { size = size; blocks = λ b. ap (λ (f : Blocks). f b) same }
+
+pub created : (blocks : ℕ) (old after : Option UnitDisk) (s : UnitDisk) → is_some old ≡ false → is_capacity blocks ≡ true → IsBlank blocks s
     → after ≡ Some s → CreatesDisk blocks old answer.Done after
 created blocks None after s none fits blank is = (fits, s, blank, is)
 created blocks (Some x) after s none fits blank is = cc

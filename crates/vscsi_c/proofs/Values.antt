@@ -24,7 +24,7 @@ use Rattle.std.proofs.cell.Inside.{Good}
 use Rattle.std.specs.Box.Ownership.{box_owns}
 use Rattle.std.proofs.ResultValues.{and_tt}
 use Rattle.std.specs.Prelude.{Option, Some, None, is_some}
-use Rattle.block_store.specs.declared.paged.PagedStore.{PagedStore}
+use Rattle.backed_store.specs.declared.disk.Disk.{Disk as UnitDisk}
 use Rattle.std.specs.contracts.alloc.Global as heap
 use Rattle.std.proofs.alloc.Global.TheLaws as heap_laws
 use Rattle.vscsi_c.specs.Held.{Content, held, device_in, live_in, disk_in}
@@ -79,7 +79,7 @@ found_live (Some (Content.Device d)) there = cc
 found_live (Some (Content.Disk s)) there = cc
 found_live (Some (Content.Live d)) there = (d, refl)
 
-pub found_disk : (o : Option Content) → is_some (disk_in o) ≡ true → (s : PagedStore) × (o ≡ Some (Content.Disk s))
+pub found_disk : (o : Option Content) → is_some (disk_in o) ≡ true → (s : UnitDisk) × (o ≡ Some (Content.Disk s))
 found_disk None there = cc
 found_disk (Some (Content.Device d)) there = cc
 found_disk (Some (Content.Disk s)) there = (s, refl)

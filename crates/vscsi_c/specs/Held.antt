@@ -3,8 +3,8 @@ use Rattle.std.specs.Prelude.{Option, Some, None}
 use Rattle.std.specs.Box.Ownership.{box_owns}
 use Rattle.std.specs.declared.alloc.Global.{Global}
 use Rattle.std.specs.contracts.impls.GlobalAllocator.TheImpl.{ghosts}
-use Rattle.block_store.specs.declared.paged.PagedStore.{PagedStore}
-use Rattle.block_store.specs.contracts.paged.PagedStore as paged
+use Rattle.backed_store.specs.declared.disk.Disk.{Disk as UnitDisk}
+use Rattle.backed_store.specs.contracts.disk.Disk as unit_disk
 use Rattle.vscsi_c.specs.declared.served.Served.{Served}
 use Rattle.vscsi_c.specs.contracts.served.Served as served
 use Rattle.vscsi_c.specs.declared.live_served.LiveServed.{LiveServed}
@@ -18,13 +18,13 @@ the_heap = record { memory = record { seal = tt } }
 
 pub data Content : Type 0 where
   Device : Served → Content
-  Disk : PagedStore → Content
+  Disk : UnitDisk → Content
   Live : LiveServed → Content
 
 abbrev pub held : Ptr → Option Content → Fml
 held at None = ftrue
 held at (Some (Content.Device d)) = box_owns (ghosts.dealloc_token the_heap) served.the_row at d
-held at (Some (Content.Disk s)) = box_owns (ghosts.dealloc_token the_heap) paged.the_row at s
+held at (Some (Content.Disk s)) = box_owns (ghosts.dealloc_token the_heap) unit_disk.the_row at s
 held at (Some (Content.Live d)) = box_owns (ghosts.dealloc_token the_heap) live.the_row at d
 
 -- the device that it owns, if it owns one, and the disk
@@ -32,7 +32,7 @@ abbrev pub device_in : Option Content → Option Served
 device_in (Some (Content.Device d)) = Some d
 device_in content = None
 
-abbrev pub disk_in : Option Content → Option PagedStore
+abbrev pub disk_in : Option Content → Option UnitDisk
 disk_in (Some (Content.Disk s)) = Some s
 disk_in content = None
 

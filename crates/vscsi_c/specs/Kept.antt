@@ -1,6 +1,6 @@
 -- The device that C keeps somewhere, if there is one, and the disk.
 use Rattle.std.specs.Prelude.{Option, List, map}
-use Rattle.block_store.specs.declared.paged.PagedStore.{PagedStore}
+use Rattle.backed_store.specs.declared.disk.Disk.{Disk as UnitDisk}
 use Rattle.vscsi_c.specs.Held.{device_in, live_in, disk_in}
 use Rattle.vscsi_c.specs.declared.device.Device.{Device}
 use Rattle.vscsi_c.specs.declared.disk.Disk.{Disk}
@@ -14,8 +14,8 @@ kept_in d = device_in d.owner.content
 abbrev pub live_at : LiveDevice → Option LiveServed
 live_at d = live_in d.owner.content
 
-abbrev pub disk_at : Disk → Option PagedStore
+abbrev pub disk_at : Disk → Option UnitDisk
 disk_at d = disk_in d.owner.content
 
-abbrev pub disks_at : List Disk → List (Option PagedStore)
+abbrev pub disks_at : List Disk → List (Option UnitDisk)
 disks_at disks = map disk_at disks

@@ -1,7 +1,7 @@
 -- What the calls do that hand disks to a device on live memory and back.
 use Rattle.std.specs.Prelude.{ℕ, ◌≡◌, ◌≢◌, ◌⊎◌, true, false, List, length, map, replicate, Option, Some, None, is_some}
 use Rattle.std.specs.List.{list_any}
-use Rattle.block_store.specs.declared.paged.PagedStore.{PagedStore}
+use Rattle.backed_store.specs.declared.disk.Disk.{Disk as UnitDisk}
 use Rattle.host_bus.specs.Map.{map_of}
 use Rattle.live_mem.specs.Live.{bus_of}
 use Rattle.config.specs.Config.{is_config_for}
@@ -22,7 +22,7 @@ use Rattle.vscsi_c.specs.declared.wanted.WantedUnit.{WantedUnit}
 
 -- the device of a configuration that is taken, over disks and over what C mapped by this number. Nobody was told anything of
 -- it, and none of its queues is mapped
-pub record MakesLiveOver (host_map : ℕ) (c : Config) (stores : List PagedStore) (d : LiveServed) : Type 0 where
+pub record MakesLiveOver (host_map : ℕ) (c : Config) (stores : List UnitDisk) (d : LiveServed) : Type 0 where
   pub over : map_of (bus_of d.world.memory) ≡ host_map
   pub taken : is_config_for all_bytes c ≡ true
   pub size : d.world.memory.size ≡ all_bytes
@@ -34,16 +34,16 @@ pub record MakesLiveOver (host_map : ℕ) (c : Config) (stores : List PagedStore
   pub rings : d.rings ≡ opening_rings c
 
 -- the first unit that has no disk, or one of another capacity, is told by the cause of number 13 and its place
-pub record LacksLiveDisk (c : Config) (disks : List (Option PagedStore)) (told : Fault) : Type 0 where
+pub record LacksLiveDisk (c : Config) (disks : List (Option UnitDisk)) (told : Fault) : Type 0 where
   pub taken : is_config_for all_bytes c ≡ true
   pub lacks : Lacks c.units.items disks told.place
   pub named : plain_cause told ≡ record { cause = 13; place = told.place; detail = 0 }
 
 -- as `LiveWorld::new_with`: the disks are the device's then; else all is as it was, but for why a configuration isn't taken
-abbrev pub CreatesLiveOverOf : ℕ → ℕ → List WantedRing → List WantedUnit → List (Option PagedStore) → Fault → Answer → Fault
-    → Option LiveServed → List (Option PagedStore) → Type 0
+abbrev pub CreatesLiveOverOf : ℕ → ℕ → List WantedRing → List WantedUnit → List (Option UnitDisk) → Fault → Answer → Fault
+    → Option LiveServed → List (Option UnitDisk) → Type 0
 CreatesLiveOverOf host_map features rings units disks old answer.Done told after disks' =
-    (c : Config) × (d : LiveServed) × (stores : List PagedStore) × AsksLive features rings units c × MakesLiveOver host_map c stores d
+    (c : Config) × (d : LiveServed) × (stores : List UnitDisk) × AsksLive features rings units c × MakesLiveOver host_map c stores d
     × (disks ≡ map (λ s. Some s) stores) × (after ≡ Some d) × (told ≡ old) × (disks' ≡ map (λ s. None) stores)
 CreatesLiveOverOf host_map features rings units disks old answer.BadConfig told after disks' =
     (c : Config) × AsksLive features rings units c × (RefusesLive c told ⊎ LacksLiveDisk c disks told) × (after ≡ None)
@@ -55,14 +55,14 @@ CreatesLiveOverOf host_map features rings units disks old answer.NoMemory told a
 CreatesLiveOverOf host_map features rings units disks old a told after disks' = ⊥
 
 abbrev pub CreatesLiveOver : ℕ → ℕ → List WantedRing → List WantedUnit → Fault → Fault → Option LiveServed
-    → List (Option PagedStore) → Answer → Option LiveServed → List (Option PagedStore) → Type 0
+    → List (Option UnitDisk) → Answer → Option LiveServed → List (Option UnitDisk) → Type 0
 CreatesLiveOver host_map features rings units old told None disks a after disks' =
     CreatesLiveOverOf host_map features rings units disks old a told after disks'
 CreatesLiveOver host_map features rings units old told (Some d) disks a after disks' =
     (a ≡ answer.InUse) × (after ≡ Some d) × (told ≡ old) × (disks' ≡ disks)
 
 -- as `LiveWorld::close`: the device is gone then, and its disks stand where there was none; else all is as it was
-abbrev pub ClosesLiveInto : LiveServed → List (Option PagedStore) → Answer → Option LiveServed → List (Option PagedStore) → Type 0
+abbrev pub ClosesLiveInto : LiveServed → List (Option UnitDisk) → Answer → Option LiveServed → List (Option UnitDisk) → Type 0
 ClosesLiveInto d disks answer.BadLength after disks' =
     (length disks ≢ length d.world.device.units) × (after ≡ Some d) × (disks' ≡ disks)
 ClosesLiveInto d disks answer.InUse after disks' =
@@ -71,11 +71,11 @@ ClosesLiveInto d disks answer.NoMemory after disks' =
     (length disks ≡ length d.world.device.units) × (list_any is_some disks ≡ false) × (after ≡ Some d) × (disks' ≡ disks)
 ClosesLiveInto d disks answer.Done after disks' =
     (length disks ≡ length d.world.device.units) × (list_any is_some disks ≡ false)
-    × (stores : List PagedStore) × AreDisksOf d.world.device.units stores × (after ≡ None)
+    × (stores : List UnitDisk) × AreDisksOf d.world.device.units stores × (after ≡ None)
     × (disks' ≡ map (λ s. Some s) stores)
 ClosesLiveInto d disks a after disks' = ⊥
 
-abbrev pub ClosesLive : Option LiveServed → List (Option PagedStore) → Answer → Option LiveServed → List (Option PagedStore)
+abbrev pub ClosesLive : Option LiveServed → List (Option UnitDisk) → Answer → Option LiveServed → List (Option UnitDisk)
     → Type 0
 ClosesLive None disks a after disks' = (a ≡ answer.NoDevice) × (after ≡ None) × (disks' ≡ disks)
 ClosesLive (Some d) disks a after disks' = ClosesLiveInto d disks a after disks'

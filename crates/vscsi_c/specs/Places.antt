@@ -1,5 +1,6 @@
 -- What C sees of a place where it keeps something. Only the places' own types cite it.
 use Rattle.std.specs.Prelude.{ℕ, ◌==◌, ◌&&◌, Bool, false, not, Option, Some, None}
+use Rattle.backed_store.specs.Disks.{size_of}
 use Rattle.vscsi_c.specs.Held.{Content}
 
 -- a device where the place is live, else nothing
@@ -19,6 +20,6 @@ has_live live None = not live
 -- a disk of so many blocks where the place is live, else nothing
 abbrev pub has_disk : Bool → ℕ → Option Content → Bool
 has_disk live blocks (Some (Content.Device d)) = false
-has_disk live blocks (Some (Content.Disk s)) = live && (s.capacity == blocks)
+has_disk live blocks (Some (Content.Disk s)) = live && (size_of s == blocks)
 has_disk live blocks (Some (Content.Live d)) = false
 has_disk live blocks None = not live

@@ -1,12 +1,16 @@
 //! The calls on disks: each takes the disk out of where C keeps it, does one thing with it, and puts it back.
 
-ghost use Rattle.std.specs.Prelude.{◌≡◌, ◌≤◌, ◌<◌, ◌+◌, true, false};
+ghost use Rattle.std.specs.Prelude.{ℕ, ◌≡◌, ◌≤◌, ◌<◌, ◌+◌, true, false, IsTrue};
+ghost use Rattle.block_store.specs.Blocks.{is_within};
+ghost use Rattle.block_store.specs.Inner.Pages.{is_beside};
+ghost use Rattle.backed_store.specs.Disks.{size_of, blocks_of, holds, has_room};
 ghost use Rattle.vscsi_c.specs.Kept.{disk_at};
-ghost use Rattle.vscsi_c.specs.Disks.{CreatesDisk, DestroysDisk, OnDisk, HasBlocks, LoadsBlocks, SavesBlocks, Saves};
+ghost use Rattle.vscsi_c.specs.Disks.{CreatesDisk, DestroysDisk, OnDisk, HasBlocks, IsUnchanged, LoadsBlocks, SavesBlocks, Saves};
 
 use crate::answer::Answer;
 use crate::disk::Disk;
-use block_store::{PagedStore, Store};
+use backed_store::Disk as UnitDisk;
+use block_store::{PagedStore, Readiness, Store};
 use std::alloc::Global;
 use unit_history::is_capacity;
 
@@ -20,7 +24,7 @@ pub(crate) fn create_disk(disk: &mut Disk, alloc: Global, blocks: u64) -> Answer
     if !is_capacity(blocks) {
         return Answer::BadCapacity;
     }
-    match Box::new(alloc, PagedStore::new(alloc, blocks)) {
+    match Box::new(alloc, UnitDisk::Whole(PagedStore::new(alloc, blocks))) {
         Ok(store) => {
             disk.put(store);
             Answer::Done
@@ -56,16 +60,37 @@ pub(crate) fn disk_blocks(disk: &Disk, blocks: &mut u64) -> Answer
 }
 
 /// Returns true if blocks don't all lie on a disk.
-fn is_outside(store: &PagedStore, first: u64, count: u32) -> bool
-    ensures inside { result ≡ false → first + count ≤ store.now.capacity }
-    ensures outside { result ≡ true → store.now.capacity < first + count }
+fn is_outside(store: &UnitDisk, first: u64, count: u32) -> bool
+    ensures inside { result ≡ false → first + count ≤ size_of store.now }
+    ensures outside { result ≡ true → size_of store.now < first + count }
 {
     let capacity = store.capacity();
     first > capacity || u64::from(count) > capacity - first
 }
 
-/// Puts bytes over blocks.
-fn load_blocks(store: &mut PagedStore, first: u64, count: u32, bytes: &[u8]) -> Answer
+/// Returns true if blocks can be read at once: so always of a disk whose blocks are all in memory.
+fn may_read(store: &mut UnitDisk, first: u64, count: u32) -> bool
+    requires { first + count ≤ size_of store.old }
+    ensures held { IsTrue result → (b : ℕ) → IsTrue (is_within first count b) → IsTrue (holds store.new b) }
+    ensures blocks { blocks_of store.new ≡ blocks_of store.old }
+    ensures size { size_of store.new ≡ size_of store.old }
+{
+    store.ask_to_read(first, count) == Readiness::Ready
+}
+
+/// Returns true if blocks can be written over at once, as [`may_read`] does.
+fn may_write(store: &mut UnitDisk, first: u64, count: u32) -> bool
+    requires { first + count ≤ size_of store.old }
+    ensures room { IsTrue result → (b : ℕ) → IsTrue (is_within first count b) → IsTrue (has_room store.new b) }
+    ensures beside { IsTrue result → (b : ℕ) → IsTrue (is_beside first count b) → IsTrue (holds store.new b) }
+    ensures blocks { blocks_of store.new ≡ blocks_of store.old }
+    ensures size { size_of store.new ≡ size_of store.old }
+{
+    store.ask_to_write(first, count) == Readiness::Ready
+}
+
+/// Puts bytes over blocks. Of a disk whose pages come and go, only where these are in memory.
+fn load_blocks(store: &mut UnitDisk, first: u64, count: u32, bytes: &[u8]) -> Answer
     ensures { LoadsBlocks first count bytes.now store.old result store.new }
 {
     if bytes.len() as u64 != u64::from(count) * 512 {
@@ -74,21 +99,37 @@ fn load_blocks(store: &mut PagedStore, first: u64, count: u32, bytes: &[u8]) -> 
     if is_outside(store, first, count) {
         return Answer::Outside;
     }
+    if !may_write(store, first, count) {
+        return Answer::NoMemory;
+    }
     match store.write_blocks(first, bytes) {
         Ok(()) => Answer::Done,
         Err(_) => Answer::NoMemory,
     }
 }
 
-/// Copies blocks out.
-fn save_blocks(store: &PagedStore, alloc: Global, first: u64, count: u32, into: &mut [u8]) -> Answer
-    ensures { SavesBlocks first count into.old into.new store.now result }
+/// Copies blocks out. Of a disk whose pages come and go, only where these are in memory.
+fn save_blocks(
+    store: &mut UnitDisk,
+    alloc: Global,
+    first: u64,
+    count: u32,
+    into: &mut [u8],
+) -> Answer
+    ensures saves { SavesBlocks first count into.old into.new store.old result }
+    ensures same { IsUnchanged store.old store.new }
 {
     if into.len() as u64 != u64::from(count) * 512 {
         return Answer::BadLength;
     }
     if is_outside(store, first, count) {
         return Answer::Outside;
+    }
+    if count == 0 {
+        return Answer::Done;
+    }
+    if !may_read(store, first, count) {
+        return Answer::NoMemory;
     }
     let Ok(mut bytes) = Vec::with_capacity(alloc, into.len()) else {
         return Answer::NoMemory;
@@ -123,10 +164,10 @@ pub(crate) fn save(
     ensures { OnDisk (Saves first count into.old into.new) (into.new ≡ into.old) (disk_at disk.old) result
         (disk_at disk.new) }
 {
-    let Some(store) = disk.take(alloc) else {
+    let Some(mut store) = disk.take(alloc) else {
         return Answer::NoDisk;
     };
-    let answer = save_blocks(&store, alloc, first, count, into);
+    let answer = save_blocks(&mut store, alloc, first, count, into);
     disk.put(store);
     answer
 }

@@ -15,6 +15,7 @@ use crate::device::Device;
 use crate::disk::Disk;
 use crate::served::Served;
 use crate::wanted::{Fault, WantedQueue, WantedUnit, config_of, fault_of};
+use backed_store::Disk as UnitDisk;
 use block_store::PagedStore;
 use foundation::NoMemory;
 use request_intake::UnitSpec;
@@ -56,7 +57,7 @@ pub(crate) fn lacking(units: &[UnitSpec], disks: &[Disk]) -> Option<usize>
 }
 
 /// Takes all disks out, into an empty list that has room for them.
-pub(crate) fn take_out(disks: &mut [Disk], alloc: Global, empty: Vec<PagedStore>) -> Vec<PagedStore>
+pub(crate) fn take_out(disks: &mut [Disk], alloc: Global, empty: Vec<UnitDisk>) -> Vec<UnitDisk>
     requires there { list_all is_some (disks_at disks.old) ≡ true }
     requires empty { empty.items ≡ [] }
     requires room { length disks.old ≤ vec_capacity empty }
@@ -122,17 +123,17 @@ pub(crate) fn create_with(
 
 /// The room for a device's disks when it closes: an empty list with room for them, and a box for each.
 pub(crate) struct Room {
-    pub(crate) stores: Vec<PagedStore>,
-    pub(crate) boxes: Vec<Box<PagedStore, Global>>,
+    pub(crate) stores: Vec<UnitDisk>,
+    pub(crate) boxes: Vec<Box<UnitDisk, Global>>,
 }
 
 /// Makes so many boxes, each with a disk that is put out later.
-fn new_boxes(alloc: Global, count: usize) -> Result<Vec<Box<PagedStore, Global>>, NoMemory>
+fn new_boxes(alloc: Global, count: usize) -> Result<Vec<Box<UnitDisk, Global>>, NoMemory>
     ensures { IfOk result (λ boxes. length boxes.items ≡ count) }
 {
     let mut boxes = Vec::new(alloc);
     for _number in 0..count {
-        let Ok(one) = Box::new(alloc, PagedStore::new(alloc, 1)) else {
+        let Ok(one) = Box::new(alloc, UnitDisk::Whole(PagedStore::new(alloc, 1))) else {
             return Err(NoMemory);
         };
         if boxes.push(one).is_err() {
@@ -155,11 +156,7 @@ pub(crate) fn new_room(alloc: Global, count: usize) -> Result<Room, NoMemory>
 }
 
 /// Puts each disk into its place, by its box.
-pub(crate) fn put_back(
-    disks: &mut [Disk],
-    stores: Vec<PagedStore>,
-    boxes: Vec<Box<PagedStore, Global>>,
-)
+pub(crate) fn put_back(disks: &mut [Disk], stores: Vec<UnitDisk>, boxes: Vec<Box<UnitDisk, Global>>)
     requires none { list_any is_some (disks_at disks.old) ≡ false }
     requires places { length disks.old ≡ length stores.items }
     requires boxes { length boxes.items ≡ length stores.items }

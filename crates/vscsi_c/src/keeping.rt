@@ -2,6 +2,7 @@
 
 ghost use Rattle.std.specs.Prelude.{◌≡◌, None, Some, is_some};
 ghost use Rattle.std.specs.Option.{MatchOption, option_map};
+ghost use Rattle.backed_store.specs.Disks.{size_of};
 ghost use Rattle.vscsi_c.specs.Kept.{kept_in, live_at, disk_at};
 
 use crate::device::Device;
@@ -11,7 +12,8 @@ use crate::live_served::LiveServed;
 use crate::loose::Loose;
 use crate::owner::Owner;
 use crate::served::Served;
-use block_store::{PagedStore, Store};
+use backed_store::Disk as UnitDisk;
+use block_store::Store;
 use std::alloc::Global;
 use std::mem::replace;
 
@@ -97,14 +99,14 @@ impl Disk {
     /// Returns how many blocks the disk has, if there is one.
     #[tactic(auto, using(crate::proofs::Kept::disk_has, crate::proofs::Kept::no_blocks))]
     pub(crate) fn blocks(&self) -> Option<u64>
-        ensures { result ≡ option_map (λ s. s.capacity) (disk_at self.now) }
+        ensures { result ≡ option_map (λ s. size_of s) (disk_at self.now) }
     {
         if self.live { Some(self.blocks) } else { None }
     }
 
     /// Takes the disk out, if there is one.
     #[tactic(auto, using(crate::proofs::Kept::disk_is_live, crate::proofs::Kept::disk_there))]
-    pub(crate) fn take(&mut self, alloc: Global) -> Option<Box<PagedStore, Global>>
+    pub(crate) fn take(&mut self, alloc: Global) -> Option<Box<UnitDisk, Global>>
         ensures taken { MatchOption result (disk_at self.old ≡ None) (λ store. disk_at self.old ≡ Some store.value) }
         ensures after { disk_at self.new ≡ None }
     {
@@ -118,7 +120,7 @@ impl Disk {
 
     /// Puts a disk where there is none.
     #[tactic(auto, using(crate::proofs::Kept::no_disk))]
-    pub(crate) fn put(&mut self, store: Box<PagedStore, Global>)
+    pub(crate) fn put(&mut self, store: Box<UnitDisk, Global>)
         requires { disk_at self.old ≡ None }
         ensures { disk_at self.new ≡ Some store.value }
     {

@@ -8,7 +8,7 @@ ghost use Rattle.vscsi_c.specs.Inner.Held.{content_code};
 use crate::live_served::LiveServed;
 use crate::loose::Loose;
 use crate::served::Served;
-use block_store::PagedStore;
+use backed_store::Disk as UnitDisk;
 use std::alloc::Global;
 use std::marker::Model;
 use std::ptr::null_mut;
@@ -52,7 +52,7 @@ impl Owner {
     }
 
     /// Returns a pointer that owns the disk of a box.
-    pub(crate) fn of_disk(loose: Loose<PagedStore, Global>) -> Owner
+    pub(crate) fn of_disk(loose: Loose<UnitDisk, Global>) -> Owner
         ensures { result.content ≡ Some (Content.Disk loose.value) }
     {
         let Loose { at, alloc: _ } = loose;
@@ -84,13 +84,13 @@ impl Owner {
     }
 
     /// Returns the box of the disk that it owns.
-    pub(crate) fn into_disk(self, alloc: Global) -> Loose<PagedStore, Global>
+    pub(crate) fn into_disk(self, alloc: Global) -> Loose<UnitDisk, Global>
         requires { is_some (disk_in self.content) ≡ true }
         ensures { self.content ≡ Some (Content.Disk result.value) }
     {
         let Owner { at } = self;
         Loose {
-            at: at as *mut PagedStore,
+            at: at as *mut UnitDisk,
             alloc,
         }
     }

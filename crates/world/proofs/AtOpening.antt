@@ -18,7 +18,6 @@ use Rattle.unit_model.specs.Receipts.{unit_address}
 use Rattle.scsi_codec.specs.declared.lun.Address.{Address}
 use Rattle.device_model.specs.Addressed.{IsAddressed}
 use Rattle.device_model.specs.Parts.{Slot}
-use Rattle.device_model.specs.Standing.{NoneIsBacked}
 use Rattle.device_model.specs.World.{PlainQueue, PlainWorld, Everywhere, IsNewQueue, IsNewUnit, Opens}
 use Rattle.device_model.proofs.Lists.{nothing, same}
 use Rattle.virtqueue.specs.Queue.{opening_ring, opening_queue, placement_of}
@@ -26,8 +25,8 @@ use Rattle.phases.specs.Queue.{with_slot}
 use Rattle.config.specs.declared.config.Config.{Config}
 use Rattle.command_model.specs.Identity.{is_identity}
 use Rattle.config.specs.Config.{is_config, is_config_for, has_pages, is_queue, is_unit, has_lun_0, has_own_naa, are_queues, are_units, form_of, size_of}
-use Rattle.block_store.specs.declared.paged.PagedStore.{PagedStore}
-use Rattle.unit_history.specs.Disks.{opening_over}
+use Rattle.backed_store.specs.declared.disk.Disk.{Disk}
+use Rattle.unit_history.specs.Disks.{unit_over}
 use Rattle.device_steps.specs.Opening.{AreOpening, AreFresh, IsOpeningFor, over_disks, opening_unit}
 use Rattle.device_steps.specs.Sound.{AreFew, AreFitting, IsSteady, IsWhole}
 use Rattle.device_steps.proofs.Setting.{map_get, each_image}
@@ -124,16 +123,9 @@ addressed_open wanted inventory units fresh is k u at =
           ∙ ap (λ (z : PlainUnit). Some z.opening.profile) one,
     )
 
--- its disk is in memory
-pub none_backed : (wanted : List UnitSpec) (units : List PlainUnit) → AreFresh wanted units
-    → Everywhere (λ (i : ℕ) (u : PlainUnit). u.backed ≡ false) units
-none_backed wanted units fresh =
-    each_made (λ (k : ℕ) (u : UnitSpec). opening_unit (map address_of wanted) u) (λ (k : ℕ) (u : PlainUnit). u.backed ≡ false)
-    wanted units fresh.count fresh.each (λ k u. refl)
-
--- and so where they are over disks
-over_each : (P : ℕ → PlainUnit → Type 0) (units : List PlainUnit) (disks : List PagedStore)
-    → ((i : ℕ) (u : PlainUnit) (disk : PagedStore) → P i u → P i (record u { opening = opening_over disk u.opening }))
+-- what holds of each unit holds of it over a disk
+over_each : (P : ℕ → PlainUnit → Type 0) (units : List PlainUnit) (disks : List Disk)
+    → ((i : ℕ) (u : PlainUnit) (disk : Disk) → P i u → P i (unit_over disk u))
     → ((i : ℕ) (u : PlainUnit) → slice_get units i ≡ Some u → P i u)
     → (i : ℕ) (u : PlainUnit) → slice_get (over_disks units disks) i ≡ Some u → P i u
 over_each P [] disks stays is i u at = absurd (nothing at)
@@ -253,7 +245,6 @@ opens_whole size c w is o =
         old = w;
         trace = [];
         reached = record { opens = opens size c w is o; runs = refl };
-        disks = none_backed c.units.items w.units o.units;
       };
       few = record {
         several = omega (arith, some_queues (form_of c.features) size c.queues.items t.queues, o.queues.count);
@@ -281,7 +272,7 @@ pub long_own : (c : Config) (m : List ℕ) → m ≡ replicate (size_of c) 0 →
 long_own c m is = ap (λ (z : List ℕ). length z) is ∙ length-replicate (size_of c) 0
 
 -- units of which no step was taken have none over their disks
-new_over : (units : List PlainUnit) (disks : List PagedStore)
+new_over : (units : List PlainUnit) (disks : List Disk)
     → ((i : ℕ) (u : PlainUnit) → slice_get units i ≡ Some u → IsNewUnit u)
     → (i : ℕ) (u : PlainUnit) → slice_get (over_disks units disks) i ≡ Some u → IsNewUnit u
 new_over [] disks new i u at = absurd (nothing at)
@@ -292,14 +283,14 @@ new_over (v ∷ units) (disk ∷ disks) new zero u at =
 new_over (v ∷ units) (disk ∷ disks) new (suc i) u at = new_over units disks (λ j z e. new (suc j) z e) i u at
 
 -- units have the same LUNs over their disks
-over_luns : (units : List PlainUnit) (disks : List PagedStore)
+over_luns : (units : List PlainUnit) (disks : List Disk)
     → map seen.lun_of (over_disks units disks) ≡ map seen.lun_of units
 over_luns [] disks = refl
 over_luns (v ∷ units) [] = refl
 over_luns (v ∷ units) (disk ∷ disks) = ap (λ (ns : List ℕ). v.opening.lun ∷ ns) (over_luns units disks)
 
 -- A device that opens, with these units, opens over the disks:
-module _ (size : ℕ) (c : Config) (disks : List PagedStore) (bare w : PlainWorld) (is : is_config_for size c ≡ true)
+module _ (size : ℕ) (c : Config) (disks : List Disk) (bare w : PlainWorld) (is : is_config_for size c ≡ true)
     (o : IsOpeningFor size c bare) (over : w ≡ record bare { units = over_disks bare.units disks }) where
   -- nothing has happened yet
   pub opens_over : Opens w
@@ -332,10 +323,6 @@ module _ (size : ℕ) (c : Config) (disks : List PagedStore) (bare w : PlainWorl
           old = w;
           trace = [];
           reached = record { opens = opens_over; runs = refl };
-          disks =
-              subst NoneIsBacked (sym over)
-              (over_each (λ (i : ℕ) (u : PlainUnit). u.backed ≡ false) bare.units disks (λ i u disk h. h)
-              (none_backed c.units.items bare.units o.units));
         };
         few = subst AreFew (sym over) (record {
           several = few.several;

@@ -3,6 +3,7 @@ pub mod Reaching
 pub mod Asked
 pub mod AtOpening
 pub mod Promising
+pub mod Dealing
 pub mod Portions
 pub mod OwnTurn
 pub mod AnyChain

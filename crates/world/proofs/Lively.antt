@@ -56,7 +56,6 @@ any_steady any shared a b d long h =
           old = r.old;
           trace = occurrence_of (refill b) ∷ r.trace;
           reached = any r.old r.trace (standing shared a d) b long r.reached;
-          disks = r.disks;
         };
         few = few_in shared b d (has_few shared a d h.whole.few);
       };
@@ -130,7 +129,7 @@ step_seen stored n w e false w' t =
     }
 
 -- one turn more
-ran_next : (P Q R : List Write → Type 0) (both : (us ws : List Write) → P us → Q ws → R (us ++ ws)) (shared : Bool) (size : ℕ)
+pub ran_next : (P Q R : List Write → Type 0) (both : (us ws : List Write) → P us → Q ws → R (us ++ ws)) (shared : Bool) (size : ℕ)
     (d : PlainDevice) (es : List Event) (n : ℕ) (v : PlainDevice) (found left seen : List ℕ) (e : Event) (b : Bool)
     (u : PlainDevice) → RanLive P shared size d es n v → length found ≡ size → length left ≡ size
     → TurnsSeen Q seen (standing shared found v) e b (standing shared left u)

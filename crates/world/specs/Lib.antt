@@ -3,6 +3,7 @@ pub mod Settling
 pub mod Notifications
 pub mod Promise
 pub mod LiveWorld
+pub mod Paging
 pub mod Asking
 pub mod LiveServing
 pub mod ServingAsked

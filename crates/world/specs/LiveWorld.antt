@@ -2,7 +2,7 @@
 -- there at the next; so a trace of its events has a write of the guest before the first of them and behind each.
 use Rattle.std.specs.Prelude.{ℕ, ◌≡◌, ◌+◌, Bool, true, if◌then◌else◌, List, [], ◌∷◌, ◌++◌, length, map, false, take, Some, slice_get, Result, Ok, Err}
 use Rattle.foundation.specs.declared.NoMemory.{NoMemory}
-use Rattle.block_store.specs.declared.paged.PagedStore.{PagedStore}
+use Rattle.backed_store.specs.declared.disk.Disk.{Disk}
 use Rattle.config.specs.Config.{is_config_for}
 use Rattle.config.specs.declared.config.Config.{Config}
 use Rattle.config.specs.declared.config.StartFault.{StartFault}
@@ -46,26 +46,26 @@ InRefusedAs size c start.NoMemory = is_config_for size c ≡ true
 
 -- Disks
 
--- a device as it opens, but with the blocks of disks
-pub record IsOpeningOverApart (size : ℕ) (c : Config) (disks : List PagedStore) (d : PlainDevice) : Type 0 where
+-- a device as it opens, but with these disks
+pub record IsOpeningOverApart (size : ℕ) (c : Config) (disks : List Disk) (d : PlainDevice) : Type 0 where
   pub bare : PlainDevice
   pub opening : IsOpeningApart size c bare
   pub is : d ≡ record bare { units = over_disks bare.units disks }
 
 -- on a memory of this size, the device of some configuration, of which nothing has happened yet, whose disks these may be
-pub record OpensForIn (size : ℕ) (d : PlainDevice) (disks : List PagedStore) : Type 0 where
+pub record OpensForIn (size : ℕ) (d : PlainDevice) (disks : List Disk) : Type 0 where
   pub config : Config
   pub taken : is_config_for size config ≡ true
   pub opening : IsOpeningApart size config d
   pub are : AreDisksFor config.units.items disks
 
 -- of whichever configuration it was the device, now it is that over these disks
-abbrev pub OpensAnewIn : ℕ → PlainDevice → List PagedStore → PlainDevice → Type 0
+abbrev pub OpensAnewIn : ℕ → PlainDevice → List Disk → PlainDevice → Type 0
 OpensAnewIn size old disks new = (c : Config) → IsOpeningApart size c old → IsOpeningOverApart size c disks new
 
 -- a configuration with disks is refused as such exactly where the device doesn't take it on a memory of this size, or they
 -- aren't its disks
-abbrev pub OverRefusedIn : ℕ → Config → List PagedStore → StartFault → Type 0
+abbrev pub OverRefusedIn : ℕ → Config → List Disk → StartFault → Type 0
 OverRefusedIn size c disks start.BadConfig = is_config_for size c ≡ true → AreDisksFor c.units.items disks → ⊥
 OverRefusedIn size c disks start.NoMemory = (is_config_for size c ≡ true) × AreDisksFor c.units.items disks
 

@@ -6,11 +6,13 @@
 #![tactic(auto)]
 
 mod asking;
+mod live_paging;
 mod live_serving;
 mod live_serving_asked;
 mod live_views;
 mod live_world;
 mod notifications;
+mod paging;
 mod served;
 mod serving_asked;
 mod views;

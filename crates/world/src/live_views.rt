@@ -1,11 +1,12 @@
 //! The views that a device in a memory of the embedder's gives of itself. Of the memory nothing is known between two calls
 //! but its size; of the device each view tells what [`World`](crate::World)'s does.
 
-ghost use Rattle.std.specs.Prelude.{◌≡◌, ◌≤◌, ◌+◌, ◌*◌, [], true, length, IfOk, IfSome, slice_get};
+ghost use Rattle.std.specs.Prelude.{◌≡◌, ◌≤◌, ◌+◌, ◌*◌, [], true, false, length, IfOk, IfSome, slice_get};
 ghost use Rattle.std.specs.Option.{option_copied, option_map};
 ghost use Rattle.ring_core.specs.State.{IsLawful};
 ghost use Rattle.ring_core.specs.Position.{position};
 ghost use Rattle.unit_model.specs.Contents.{capacity_of, pending_of};
+ghost use Rattle.unit_model.specs.Unit.{is_backed};
 ghost use Rattle.device_model.specs.World.{Everywhere};
 ghost use Rattle.device_model.specs.Lawful.{IsNumbered};
 ghost use Rattle.device_steps.specs.Apart.{FitsIn};
@@ -31,10 +32,11 @@ impl<M: WritableMemory> LiveWorld<M> {
         let _ = &self.memory;
     }
 
-    /// Shows that no job waits for pages of its unit's disk, and none is to be tried again, since all disks are in memory.
+    /// Shows that where no unit's disk is one whose pages come and go, no job waits for pages, and none is to be tried
+    /// again.
     pub fn none_waits(&self)
-        ensures aside { self.now.device.aside ≡ [] }
-        ensures woken { self.now.device.woken ≡ [] }
+        ensures aside { Everywhere (λ i u. is_backed u ≡ false) self.now.device.units → self.now.device.aside ≡ [] }
+        ensures woken { Everywhere (λ i u. is_backed u ≡ false) self.now.device.units → self.now.device.woken ≡ [] }
     {
         a_device_in_memory_defers_nothing();
         let _ = &self.memory;

@@ -8,7 +8,7 @@ ghost use Rattle.device_steps.specs.Opening.{AreDisksFor, AreDisksOf};
 
 mod asking;
 
-use block_store::PagedStore;
+use backed_store::Disk;
 use config::{Config, StartFault};
 use device_model::Event;
 use device_model::laws::every_run_goes_on;
@@ -65,15 +65,15 @@ impl<M: WritableMemory + Drop> LiveWorld<M> {
     }
 
     /// Opens a device as `new` does, but over disks: each unit, in the order of the configuration, has the blocks of
-    /// its disk in place of zeros. Called for disks that outlive their devices, as [`LiveWorld::close`] gives them; the
-    /// device takes them all. `BadConfig` exactly where the device doesn't take the configuration on a memory of this
-    /// size, or the disks aren't as many as its units, each of its unit's capacity; else `NoMemory` where a growth was
-    /// refused. Then the disks are as they were.
+    /// its disk in place of zeros. Called for disks that outlive their devices, as [`LiveWorld::close`] gives them,
+    /// and for those whose pages come and go; the device takes them all. `BadConfig` exactly where the device doesn't
+    /// take the configuration on a memory of this size, or the disks aren't as many as its units, each of its unit's
+    /// capacity; else `NoMemory` where a growth was refused. Then the disks are as they were.
     pub fn new_with(
         alloc: Global,
         config: &Config,
         memory: M,
-        disks: &mut Vec<PagedStore>,
+        disks: &mut Vec<Disk>,
     ) -> Result<LiveWorld<M>, StartFault>
         ensures opening { MatchResult result
             (λ w. (is_config_for (M.extent memory) config.now ≡ true) × AreDisksFor config.now.units.items disks.old.items
@@ -114,7 +114,7 @@ impl<M: WritableMemory> LiveWorld<M> {
     /// units' capacities, on a device that [`LiveWorld::new`] opened and to which nothing has happened yet.
     /// [`LiveWorld::new_with`] does both. A caller that must keep the disks until nothing can be refused takes these two
     /// calls. The device takes the disks, and no memory.
-    pub fn hand_in(&mut self, disks: &mut Vec<PagedStore>)
+    pub fn hand_in(&mut self, disks: &mut Vec<Disk>)
         requires opening { OpensForIn (M.extent self.old.memory) self.old.device disks.old.items }
         ensures memory { self.new.memory ≡ self.old.memory }
         ensures over { OpensAnewIn (M.extent self.old.memory) self.old.device disks.old.items self.new.device }
@@ -125,10 +125,10 @@ impl<M: WritableMemory> LiveWorld<M> {
         self.device.hand_in(disks);
     }
 
-    /// Ends the device. Returns its memory, and the disks of its units, in their order, as its histories left them: blocks
-    /// and capacities. Queues, tasks and attentions are gone. Gives the device back as it was where memory for the list of
-    /// disks was refused.
-    pub fn close(self, alloc: Global) -> Result<(M, Vec<PagedStore>), LiveWorld<M>>
+    /// Ends the device. Returns its memory, and the disks of its units, in their order, as its histories left them:
+    /// blocks, capacities, and what the host's storage has. Queues, tasks and attentions are gone. Gives the device
+    /// back as it was where memory for the list of disks was refused.
+    pub fn close(self, alloc: Global) -> Result<(M, Vec<Disk>), LiveWorld<M>>
         ensures disks { MatchResult result
             (λ ended. (ended.0 ≡ self.memory) × AreDisksOf self.device.units ended.1.items) (λ left. left ≡ self) }
     {
@@ -140,7 +140,7 @@ impl<M: WritableMemory> LiveWorld<M> {
 
     /// Ends the device as [`LiveWorld::close`] does, and puts the disks into an empty list that has room for them. Takes
     /// no memory.
-    pub fn into_disks(self, empty: Vec<PagedStore>) -> (M, Vec<PagedStore>)
+    pub fn into_disks(self, empty: Vec<Disk>) -> (M, Vec<Disk>)
         requires empty { empty.items ≡ [] }
         requires room { length self.device.units ≤ vec_capacity empty }
         ensures memory { result.0 ≡ self.memory }
@@ -170,11 +170,11 @@ impl<M: WritableMemory> LiveWorld<M> {
     /// Takes one event, in a phase of its own. Returns true if it changed something; one that doesn't apply changes
     /// nothing. Only a Fetch, a Hard and a Resize can answer `NoMemory`, and have changed nothing then.
     ///
-    /// Whatever is seen in memory afterwards, there are bytes that may have been found there since the phase began, by
-    /// which the event did what it does. By what is seen a notice was decided. A chain is fetched by one reading: by all that
-    /// memory may be once it was read. Behind every trace that led here from an opening, with whatever bytes in memory, the
-    /// promise is kept, whatever bytes are there afterwards. What was stored are the writes of the event's action, in their
-    /// order, and nothing else.
+    /// Whatever is seen in memory afterwards, there are bytes that may have been found there since the phase began,
+    /// by which the event did what it does. By what is seen a notice was decided. A chain is fetched by one reading:
+    /// by all that memory may be once it was read. Behind every trace that led here from an opening, with whatever
+    /// bytes in memory, the promise is kept, whatever bytes are there afterwards. What was stored are the writes of
+    /// the event's action, in their order, and nothing else.
     pub fn step(&mut self, event: Event) -> Result<bool, NoMemory>
         ensures size { M.extent self.new.memory ≡ M.extent self.old.memory }
         ensures steps { StepsLive M.shared M.begins M.may_be (Stored M.stored M.storing) self.old (plain_event event) result

@@ -4,7 +4,7 @@ ghost use Rattle.std.specs.Prelude.{◌≡◌, ◌≤◌, [], length, IfOk};
 ghost use Rattle.std.specs.Vec.{vec_capacity};
 
 use crate::served::Served;
-use block_store::PagedStore;
+use backed_store::Disk;
 use config::{Config, StartFault};
 use device_model::Event;
 use device_model::laws::every_run_goes_on;
@@ -45,6 +45,7 @@ impl World {
     ghost use Rattle.device_steps.specs.Sound.{AreFew, AreFitting, IsReached};
     ghost use Rattle.device_steps.specs.Inner.Sound.{IsSound};
     ghost use Rattle.device_model.specs.Happens.{Reached};
+    ghost use Rattle.device_model.specs.Standing.{NoneIsBacked};
     ghost use Rattle.device_model.specs.Turns.{Turns};
     ghost use Rattle.world.specs.Steps.{Steps, RunsAll};
     ghost use Rattle.device_model.specs.Order.{IsQuietOf};
@@ -75,14 +76,14 @@ impl World {
     }
 
     /// Opens a device as `new` does, but over disks: each unit, in the order of the configuration, has the blocks of
-    /// its disk in place of zeros. Called for disks that outlive their devices, as [`World::close`] gives them; the
-    /// device takes them all. `BadConfig` exactly where the configuration isn't valid, or the disks aren't as many as
-    /// its units, each of its unit's capacity; else `NoMemory` where a growth was refused. Then the disks are as they
-    /// were.
+    /// its disk in place of zeros. Called for disks that outlive their devices, as [`World::close`] gives them, and
+    /// for those whose pages come and go; the device takes them all. `BadConfig` exactly where the configuration
+    /// isn't valid, or the disks aren't as many as its units, each of its unit's capacity; else `NoMemory` where a
+    /// growth was refused. Then the disks are as they were.
     pub fn new_with(
         alloc: Global,
         config: &Config,
-        disks: &mut Vec<PagedStore>,
+        disks: &mut Vec<Disk>,
     ) -> Result<World, StartFault>
         ensures opening { MatchResult result
             (λ w. (is_config config.now ≡ true) × AreDisksFor config.now.units.items disks.old.items
@@ -107,7 +108,7 @@ impl World {
     /// units' capacities, on a device that [`World::new`] opened and to which nothing has happened yet.
     /// [`World::new_with`] does both. A caller that must keep the disks until nothing can be refused takes these two
     /// calls. The device takes the disks, and no memory.
-    pub fn hand_in(&mut self, disks: &mut Vec<PagedStore>)
+    pub fn hand_in(&mut self, disks: &mut Vec<Disk>)
         requires opening { OpensFor self.old disks.old.items }
         ensures over { OpensAnew self.old disks.old.items self.new }
         ensures none { disks.new.items ≡ [] }
@@ -117,10 +118,10 @@ impl World {
         self.device.hand_in(disks);
     }
 
-    /// Ends the device, and returns the disks of its units, in their order, as its histories left them: blocks and
-    /// capacities. Guest memory, queues, tasks and attentions are gone. Gives the device back as it was where memory
-    /// for the list of disks was refused.
-    pub fn close(self, alloc: Global) -> Result<Vec<PagedStore>, World>
+    /// Ends the device, and returns the disks of its units, in their order, as its histories left them: blocks,
+    /// capacities, and what the host's storage has. Guest memory, queues, tasks and attentions are gone. Gives the
+    /// device back as it was where memory for the list of disks was refused.
+    pub fn close(self, alloc: Global) -> Result<Vec<Disk>, World>
         ensures disks { MatchResult result (λ disks. AreDisksOf self.units disks.items) (λ left. left ≡ self) }
     {
         match self.device.room_for_disks(alloc) {
@@ -131,7 +132,7 @@ impl World {
 
     /// Ends the device as [`World::close`] does, and puts the disks into an empty list that has room for them. Takes no
     /// memory.
-    pub fn into_disks(self, empty: Vec<PagedStore>) -> Vec<PagedStore>
+    pub fn into_disks(self, empty: Vec<Disk>) -> Vec<Disk>
         requires empty { empty.items ≡ [] }
         requires room { length self.units ≤ vec_capacity empty }
         ensures { AreDisksOf self.units result.items }
@@ -147,10 +148,11 @@ impl World {
         let _ = &self.memory;
     }
 
-    /// Shows that no job waits for pages of its unit's disk, and none is to be tried again, since all disks are in memory.
+    /// Shows that where no unit's disk is one whose pages come and go, no job waits for pages, and none is to be tried
+    /// again.
     pub fn none_waits(&self)
-        ensures aside { self.now.aside ≡ [] }
-        ensures woken { self.now.woken ≡ [] }
+        ensures aside { NoneIsBacked self.now → self.now.aside ≡ [] }
+        ensures woken { NoneIsBacked self.now → self.now.woken ≡ [] }
     {
         a_device_in_memory_defers_nothing();
         let _ = &self.memory;
@@ -236,13 +238,14 @@ impl World {
     }
 
     /// Serves what the guest made available on some queues. Takes the first event that applies, in the order of
-    /// `order_by` in `device_model/specs/Order.antt`, one after another, until none does or `most` steps were taken. It
-    /// takes new chains of those queues alone whose bit is set in `queues`, that of queue 0 the lowest. It goes on with
-    /// whatever was begun before, of each queue.
+    /// `order_by` in `device_model/specs/Order.antt`, one after another, until none does or `most` steps were taken.
+    /// It takes new chains of those queues alone whose bit is set in `queues`, that of queue 0 the lowest. It goes on
+    /// with whatever was begun before, of each queue.
     ///
     /// `more` is true exactly where an event is left that would change something: then it took `most` steps. If it is
-    /// false, every chain that was accepted was used, but for event buffers that are held. Nothing waits then, and none
-    /// of those queues has a chain, unless a fault broke it. Chains of the other queues are left as they are.
+    /// false, every chain that was accepted was used, but for event buffers that are held and for commands that wait
+    /// for pages of their disks, or behind one that does. Nothing else waits then, and none of those queues has a
+    /// chain, unless a fault broke it. Chains of the other queues are left as they are.
     ///
     /// It takes at most
     ///
@@ -285,7 +288,8 @@ impl World {
 
     /// Serves what the guest made available, on each queue and until nothing is left: `serve` with all queues and no
     /// bound. Answers how many steps it took. Then every chain that was accepted was used, but for event buffers that
-    /// are held. Nothing is left that waits, and no queue has a chain, unless a fault broke it.
+    /// are held and for commands that wait for pages of their disks, or behind one that does. Nothing else is left that
+    /// waits, and no queue has a chain, unless a fault broke it.
     ///
     /// A guest whose own requests make chains available, as a READ that writes descriptors into a ring, keeps it busy
     /// for as long as it likes. A host that must have its thread back calls `serve` with a bound.

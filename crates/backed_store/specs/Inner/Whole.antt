@@ -6,7 +6,8 @@ use Rattle.block_store.specs.Inner.Whole.{length-nth_block}
 use Rattle.block_store.specs.Inner.Padding.{length-blocks_in, length-zero_block}
 use Rattle.backed_store.specs.declared.dealing.Dealing.{Dealing}
 use Rattle.backed_store.specs.declared.dealing.Dealing.TheVariants.{Given, Kept, Cut}
-use Rattle.backed_store.specs.Backing.{Host, after, after_all, opening}
+use Rattle.block_store.specs.Storage.{Storage, opening}
+use Rattle.backed_store.specs.Backing.{after, after_all}
 use Rattle.backed_store.specs.Marks.{state_of}
 use Rattle.backed_store.specs.Slots.{slot_at, bytes_of}
 use Rattle.backed_store.specs.Caches.{bytes_at}
@@ -15,19 +16,19 @@ use Rattle.backed_store.specs.declared.slot.Slot.{Slot}
 use Rattle.backed_store.specs.declared.backed.BackedStore.{BackedStore}
 
 -- each block has 512 bytes
-abbrev pub AreWhole : Host → Type 0
+abbrev pub AreWhole : Storage → Type 0
 AreWhole h = ((b : ℕ) → length (h.given b) ≡ 512) × ((b : ℕ) → length (h.kept b) ≡ 512)
 
 either : (test : Bool) (x y : List ℕ) → length x ≡ 512 → length y ≡ 512 → length (if test then x else y) ≡ 512
 either true x y l r = l
 either false x y l r = r
 
-whole-after : (d : Dealing) (h : Host) → AreWhole h → AreWhole (after d h)
+whole-after : (d : Dealing) (h : Storage) → AreWhole h → AreWhole (after d h)
 whole-after (Given g) h whole = ((λ b. either (b / 8 == g.page) _ _ (length-blocks_in g.bytes.items (b % 8)) (whole.0 b)), whole.1)
 whole-after (Cut n) h whole = ((λ b. either (nat_lt b n) _ _ (whole.0 b) length-zero_block), (λ b. either (nat_lt b n) _ _ (whole.1 b) length-zero_block))
 whole-after (Kept p) h whole = (whole.0, (λ b. either (b / 8 == p) _ _ (whole.0 b) (whole.1 b)))
 
-pub whole-all : (ds : List Dealing) (h : Host) → AreWhole h → AreWhole (after_all ds h)
+pub whole-all : (ds : List Dealing) (h : Storage) → AreWhole h → AreWhole (after_all ds h)
 whole-all [] h whole = whole
 whole-all (d ∷ more) h whole = whole-all more (after d h) (whole-after d h whole)
 

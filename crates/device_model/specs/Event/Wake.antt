@@ -3,17 +3,18 @@ use Rattle.std.specs.Prelude.{ℕ, ◌≡◌, ◌<◌, ◌++◌, true, List, [],
 use Rattle.unit_model.specs.Tasks.{Entry}
 use Rattle.unit_model.specs.Lawful as history
 use Rattle.unit_model.specs.Jobs.{PlainJob}
+use Rattle.unit_model.specs.Unit.{may_wait}
 use Rattle.device_model.specs.Parts.{Hand}
 use Rattle.device_model.specs.World.{PlainWorld, change}
 use Rattle.device_model.specs.Found.{HandAtUnit, HasHand}
 use Rattle.device_model.specs.Changing.{with_hand}
 
--- the command of the job may run, on a disk whose pages come and go
+-- the command of the job may run, and may have to wait at its unit
 pub record Defers (w : PlainWorld) (k : ℕ) (x : PlainJob) : Type 0 where
   pub holds : HandAtUnit w k (Hand.Taken x) x.unit
   pub entry : Entry
   pub ready : history.IsReady x.entry.ticket entry holds.unit.steps
-  pub backed : holds.unit.backed ≡ true
+  pub waits : may_wait holds.unit entry.command ≡ true
 
 -- the hand is free, and the job waits behind those that do
 abbrev pub after_defer : ℕ → PlainJob → PlainWorld → PlainWorld

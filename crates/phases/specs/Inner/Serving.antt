@@ -1,7 +1,7 @@
 -- What is done of a request at once: it is taken from its queue, comes to its unit, runs, is answered and leaves.
 use Rattle.std.specs.Prelude.{ℕ, ◌≡◌, ◌⊎◌, Bool, true, List, [], ◌∷◌, Option, Some, None}
 use Rattle.unit_model.specs.Jobs.{PlainJob, Jobs}
-use Rattle.unit_model.specs.Unit.{PlainUnit}
+use Rattle.unit_model.specs.Unit.{PlainUnit, may_wait}
 use Rattle.device_model.specs.Parts.{Outcome, Slot, Hand}
 use Rattle.virtqueue.specs.Queue.{BareQueue}
 use Rattle.phases.specs.DoingUnit.{with_more}
@@ -19,9 +19,9 @@ pub record ServesAtOnce (x : PlainJob) (u : PlainUnit) (q : BareQueue) (m : List
   pub answers : Answers (Hand.Done x outcome) q m true q' m' (Hand.Answered x.unit x.chain.ticket)
   pub leaves : Leaves (Hand.Answered x.unit x.chain.ticket) committed out left u' Hand.Empty out'
 
--- what a request that isn't answered hands out: nothing; or its job, whose command waits for its unit's disk
+-- what a request that isn't answered hands out: nothing; or its job, whose command may have to wait at its unit
 abbrev pub HandsOn : PlainJob → PlainUnit → List PlainJob → Type 0
-HandsOn x u more = (more ≡ []) ⊎ ((more ≡ x ∷ []) × (u.backed ≡ true))
+HandsOn x u more = (more ≡ []) ⊎ ((more ≡ x ∷ []) × (may_wait u x.entry.command ≡ true))
 
 -- nothing but the unit, the slot and the list changed: it only entered, or was refused
 pub record OnlyEnters (x : PlainJob) (u : PlainUnit) (q : BareQueue) (m : List ℕ) (out : Jobs)

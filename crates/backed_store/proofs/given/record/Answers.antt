@@ -1,7 +1,10 @@
-use Rattle.std.proofs.Common.{ap, ◌∙◌}
-use Rattle.backed_store.specs.Backing.{after_all}
-use Rattle.backed_store.proofs.Dealt.{after-last}
+use Rattle.std.proofs.Common.{ap, map, ◌∙◌}
+use Rattle.backed_store.specs.Backing.{plain, after_all}
+use Rattle.backed_store.proofs.Dealt.{after-last, plain-last}
 use Rattle.backed_store.proofs.given.record.Goals as goal
 
-pub returns : goal.returns
-returns c = λ h. ap (λ ds. after_all ds h) c.push.ensures ∙ after-last c.args.dealings.now.items c.args.dealing.now h
+pub returns-clause-storage : goal.returns-clause-storage
+returns-clause-storage c = λ h. ap (λ ds. after_all ds h) c.push.ensures ∙ after-last c.args.dealings.now.items c.args.dealing.now h
+
+pub returns-clause-ledger : goal.returns-clause-ledger
+returns-clause-ledger c = ap (λ ds. map plain ds) c.push.ensures ∙ plain-last c.args.dealings.now.items c.args.dealing.now

@@ -1,4 +1,5 @@
-use Rattle.std.proofs.Common.{◌+◌, ◌∙◌, IsTrue}
+use Rattle.std.proofs.Common.{◌+◌, ◌∙◌, IsTrue, ap}
+use Rattle.std.specs.Prelude.{is_some}
 use Rattle.command_model.specs.UnmapList.{are_in_range}
 use Rattle.block_commands.proofs.Descriptors.{left, are_in_range-more, is_named-more, is_near-more}
 use Rattle.block_commands.proofs.Unmapping.{first, second, and-both, done_in_turn}
@@ -17,14 +18,14 @@ loop-i-preserved g c =
     let here = c.to_write-here.ensures in
     let so_far = c.loop-i.invariant in
     record {
-      kind = here.kind ∙ so_far.kind;
+      storage = here.storage ∙ so_far.storage;
       same_size = here.size ∙ so_far.same_size;
       range = rw here.size in_range;
       blocks = λ b. here.blocks b ∙ so_far.blocks b;
       held = λ b was. here.held b (so_far.held b was);
       coming = λ b was. here.coming b (so_far.coming b was);
       keeps_room = λ b was. here.keeps_room b (so_far.keeps_room b was);
-      whole = λ is. c.and-so_far.ensures.whole (so_far.whole is) (here.whole (so_far.kind ∙ is));
+      whole = λ is. c.and-so_far.ensures.whole (so_far.whole is) (here.whole (ap is_some so_far.storage ∙ is));
       room = λ some b yes.
           done_in_turn _ _ _ _ _ (named b) (λ one. here.room (c.and-so_far.ensures.asked some).1 b (and-both _ _ inside one)) (here.keeps_room b)
           (so_far.room (c.and-so_far.ensures.asked some).0 b yes);

@@ -14,6 +14,7 @@ loop-i-preserved g c =
     let rest = left c.args.count (c.loop-i.i + 1) c.args.taken.now in
     let in_range : IsTrue (are_in_range (g.S.Store.size c.loop-i.store) rest) = second _ _ (rw more at c.loop-i.invariant.range) in
     record {
+      storage = c.zero_blocks.ensures.storage ∙ c.loop-i.invariant.storage;
       same_size = c.zero_blocks.ensures.size ∙ c.loop-i.invariant.same_size;
       range = rw c.zero_blocks.ensures.size in_range;
       zeroed_by = λ b. rw (c.zero_blocks.ensures.blocks b) (zeroed_in_turn _ _ _ _ zero_block _ (named b) (c.loop-i.invariant.zeroed_by b));

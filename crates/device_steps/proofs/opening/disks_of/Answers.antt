@@ -1,18 +1,10 @@
-use Rattle.std.proofs.Common.{◌≡◌, ◌++◌, ◌∷◌, [], suc, length, sym, ap, ◌∙◌, subst, arith, length-append}
-use Rattle.std.specs.Prelude.{slice_get}
+use Rattle.std.proofs.Common.{◌≡◌, ◌++◌, ◌∷◌, [], length, sym, ap, ◌∙◌, subst, arith, length-append}
 use Rattle.std.specs.Option.{option_to_list}
 use Rattle.std.specs.Vec.Iter.{into_iter_items}
 use Rattle.std.proofs.lemmas.List.{append_assoc}
 use Rattle.device_steps.specs.Opening.{AreDisksOf}
 use Rattle.device_steps.proofs.Making.{disks_more}
 use Rattle.device_steps.proofs.opening.disks_of.Goals as goal
-
-pub into_store-requires : goal.into_store-requires
-into_store-requires c =
-    let u = c.in-Some.unit in
-    let gone : into_iter_items c.loop-unit.units ≡ u ∷ into_iter_items c.next.new.self =
-    c.next.ensures.items ∙ ap (λ r. option_to_list r ++ into_iter_items c.next.new.self) c.in-Some.is in
-    c.loop-unit.invariant.whole 0 u (ap (λ us. slice_get us 0) gone)
 
 pub loop-unit-preserved : goal.loop-unit-preserved
 loop-unit-preserved c =
@@ -23,9 +15,8 @@ loop-unit-preserved c =
     record {
       seen = seen ++ u ∷ [];
       split = c.loop-unit.invariant.split ∙ ap (λ us. seen ++ us) gone ∙ sym (append_assoc seen (u ∷ []) (into_iter_items c.next.new.self));
-      whole = λ k v at. c.loop-unit.invariant.whole (suc k) v (ap (λ us. slice_get us (suc k)) gone ∙ at);
       kept = subst (λ ds. AreDisksOf (seen ++ u ∷ []) ds) (sym c.push_reserved.ensures.items)
-          (disks_more seen c.loop-unit.disks.items u c.into_store.result c.loop-unit.invariant.kept c.into_store.ensures);
+          (disks_more seen c.loop-unit.disks.items u c.into_disk.result c.loop-unit.invariant.kept c.into_disk.ensures);
       room =
           omega (
             arith,
@@ -33,6 +24,6 @@ loop-unit-preserved c =
             c.in-Some.ensures.cases.1,
             c.push_reserved.ensures.capacity,
             ap (λ ds. length ds) c.push_reserved.ensures.items,
-            length-append c.loop-unit.disks.items (c.into_store.result ∷ []),
+            length-append c.loop-unit.disks.items (c.into_disk.result ∷ []),
           );
     }

@@ -1,4 +1,4 @@
-use Rattle.std.proofs.Common.{◌≡◌, ◌<◌, ◌++◌, ◌∷◌, [], false, length, Some, refl, sym, ap, ◌∙◌, arith, length-append}
+use Rattle.std.proofs.Common.{◌≡◌, ◌<◌, ◌++◌, ◌∷◌, [], length, Some, refl, sym, ap, ◌∙◌, arith, length-append}
 use Rattle.std.specs.Prelude.{slice_get, slice_set}
 use Rattle.std.specs.Option.{option_to_list}
 use Rattle.std.proofs.lemmas.Option.{slice_get_read}
@@ -21,11 +21,8 @@ loop-disk-preserved c =
     slice_get_read units (length units) c.len.result c.index_mut.result.now refl (omega (arith, is, fewer)) c.index_mut.ensures.value in
     let fresh : c.hand_in.new.self.steps ≡ [] =
     ap (λ (u : PlainUnit). u.steps) c.hand_in.ensures ∙ c.loop-disk.invariant.fresh c.len.result c.index_mut.result.now at in
-    let kept : c.hand_in.new.self.backed ≡ false =
-    ap (λ (u : PlainUnit). u.backed) c.hand_in.ensures ∙ c.loop-disk.invariant.whole c.len.result c.index_mut.result.now at in
     record {
       fresh = everywhere_set (λ (u : PlainUnit). u.steps ≡ []) c.len.result units c.hand_in.new.self c.loop-disk.invariant.fresh fresh;
-      whole = everywhere_set (λ (u : PlainUnit). u.backed ≡ false) c.len.result units c.hand_in.new.self c.loop-disk.invariant.whole kept;
       enough = omega (arith, fewer, set_length c.len.result units c.hand_in.new.self);
       same =
           ap (λ k. over_disks (slice_set units k c.hand_in.new.self) rest) is

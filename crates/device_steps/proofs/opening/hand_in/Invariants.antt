@@ -1,4 +1,4 @@
-use Rattle.std.proofs.Common.{◌≡◌, ◌≤◌, ℕ, false, [], length}
+use Rattle.std.proofs.Common.{◌≡◌, ◌≤◌, ℕ, [], length}
 use Rattle.unit_model.specs.Unit.{PlainUnit}
 use Rattle.device_model.specs.World.{Everywhere}
 use Rattle.device_steps.specs.Opening.{over_disks}
@@ -8,7 +8,6 @@ abbrev pub invariant-loop-disk : goal.invariant-loop-disk
 invariant-loop-disk l =
     record {
       fresh : Everywhere (λ (k : ℕ) (u : PlainUnit). u.steps ≡ []) l.units.items;
-      whole : Everywhere (λ (k : ℕ) (u : PlainUnit). u.backed ≡ false) l.units.items;
       enough : length l.disks.items ≤ length l.units.items;
       same : over_disks l.units.items l.disks.items ≡ over_disks l.initial.units.items l.initial.disks.items;
     }

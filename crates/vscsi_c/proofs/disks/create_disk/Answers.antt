@@ -1,4 +1,4 @@
-use Rattle.std.proofs.Common.{sym, ap, ◌∙◌, subst}
+use Rattle.std.proofs.Common.{refl, sym, ap, ◌∙◌, subst}
 use Rattle.vscsi_c.specs.Disks.{IsBlank}
 use Rattle.vscsi_c.proofs.Serve.{created}
 use Rattle.vscsi_c.proofs.disks.create_disk.Goals as goal
@@ -8,4 +8,4 @@ returns-in-Ok c =
     created c.args.blocks _ _ c.in-Ok.store.value (sym c.is_there.ensures ∙ c.if-is_there.false)
     (sym c.is_capacity.ensures ∙ c.if-not-is_capacity.false)
     (subst (λ s. IsBlank c.args.blocks s) (sym c.in-Ok.ensures.ok)
-    (record { size = c.new.ensures.capacity; zeros = c.new.ensures.zeros })) c.put.ensures
+    (record { size = c.new.ensures.capacity; zeros = c.new.ensures.zeros; resident = refl })) c.put.ensures

@@ -1,6 +1,6 @@
 use Rattle.std.proofs.Common.{◌≡◌, ◌<◌, ℕ, length, Some}
 use Rattle.std.specs.Prelude.{slice_get, Option}
-use Rattle.block_store.specs.declared.paged.PagedStore.{PagedStore}
+use Rattle.backed_store.specs.declared.disk.Disk.{Disk as UnitDisk}
 use Rattle.request_intake.specs.declared.inventory.UnitSpec.{UnitSpec}
 use Rattle.vscsi_c.specs.Disks.{Fits}
 use Rattle.vscsi_c.specs.Kept.{disks_at}
@@ -9,7 +9,7 @@ use Rattle.vscsi_c.proofs.handing.lacking.Given as goal
 abbrev pub invariant-loop-place : goal.invariant-loop-place
 invariant-loop-place l =
     record {
-      fit : (k : ℕ) (u : UnitSpec) (disk : Option PagedStore) → k < l.place → slice_get l.units k ≡ Some u
+      fit : (k : ℕ) (u : UnitSpec) (disk : Option UnitDisk) → k < l.place → slice_get l.units k ≡ Some u
           → slice_get (disks_at l.disks) k ≡ Some disk → Fits u disk;
       all : l.place-end ≡ length l.disks;
     }

@@ -1,6 +1,6 @@
 use Rattle.std.proofs.Common.{◌≡◌, ◌++◌, length, Some, None, List}
 use Rattle.std.specs.Prelude.{map, Option}
-use Rattle.block_store.specs.declared.paged.PagedStore.{PagedStore}
+use Rattle.backed_store.specs.declared.disk.Disk.{Disk as UnitDisk}
 use Rattle.vscsi_c.specs.Kept.{disks_at}
 use Rattle.vscsi_c.proofs.handing.put_back.Given as goal
 
@@ -10,7 +10,7 @@ decreases-loop-store l = length l.stores.items
 abbrev pub invariant-loop-store : goal.invariant-loop-store
 invariant-loop-store l =
     record {
-      done : List PagedStore;
+      done : List UnitDisk;
       split : l.fn.stores.items ≡ l.stores.items ++ done;
       are : disks_at l.disks ≡ map (λ s. None) l.stores.items ++ map (λ s. Some s) done;
       boxes : length l.boxes.items ≡ length l.stores.items;

@@ -1,9 +1,9 @@
 use Rattle.std.proofs.Common.{◌≡◌, ℕ, ◌+◌, ◌*◌, IsTrue, List, length, sym, ◌∙◌, ap}
 use Rattle.block_store.specs.Blocks.{nth_block}
-use Rattle.backed_store.specs.Backing.{Host, with_page, opening}
+use Rattle.block_store.specs.Storage.{Storage, with_page, opening}
 use Rattle.backed_store.specs.Caches.{state_at, bytes_at}
 use Rattle.backed_store.specs.Slots.{slot_at}
-use Rattle.backed_store.specs.Stores.{contents, backing_of, host_of}
+use Rattle.backed_store.specs.Stores.{contents, backing_of, storage_of}
 use Rattle.backed_store.proofs.Over.{and-left, held-same, given-clean, given-steady, given-page, given-bytes, all-bytes, copy-page, copy-given}
 use Rattle.backed_store.proofs.backed.BackedStore.give.Goals as goal
 
@@ -13,7 +13,7 @@ invariant_of-self-3 c =
     let new = c.next_unwritten.new.self in
     let page = c.in-Some.page in
     let e = c.in-Some.ensures in
-    let host = c.record.ensures (opening old.content.items) in
+    let host = c.record.ensures.storage (opening old.content.items) in
     let there : IsTrue (state_at new page).held =
     held-same (state_at old.cache) (state_at new) (bytes_at old.cache) (bytes_at new) page e.states e.bytes page ∙ and-left _ _ e.dirty.0 in
     let copy = c.copied-bytes.ensures there in
@@ -21,11 +21,11 @@ invariant_of-self-3 c =
     record {
       counted = old.counted;
       clean = λ b is.
-          ap (λ (h : Host). h.kept b) host
+          ap (λ (h : Storage). h.kept b) host
           ∙ given-clean (state_at old.cache) (state_at new) (bytes_at old.cache) (bytes_at new) page e.states e.bytes (backing_of old) old.clean b is;
       steady = λ b is.
-          ap (λ (h : Host). h.given b) host
-          ∙ given-steady (state_at old.cache) (state_at new) (bytes_at old.cache) (bytes_at new) page e.states e.bytes (host_of old).given c.copied-bytes.result.items
+          ap (λ (h : Storage). h.given b) host
+          ∙ given-steady (state_at old.cache) (state_at new) (bytes_at old.cache) (bytes_at new) page e.states e.bytes (storage_of old).given c.copied-bytes.result.items
           copy size old.steady b is;
     }
 
@@ -51,13 +51,13 @@ returns-in-Given-clause-given c = λ b.
     let new = c.next_unwritten.new.self in
     let page = c.in-Some.page in
     let e = c.in-Some.ensures in
-    let host = c.record.ensures (opening old.content.items) in
+    let host = c.record.ensures.storage (opening old.content.items) in
     let was : IsTrue (state_at old.cache page).held = and-left _ _ e.dirty.0 in
     let there : IsTrue (state_at new page).held =
     held-same (state_at old.cache) (state_at new) (bytes_at old.cache) (bytes_at new) page e.states e.bytes page ∙ was in
     let copy = c.copied-bytes.ensures there in
     let size = ap length copy ∙ all-bytes (slot_at new.slots page) there in
     let number : page ≡ c.in-Given.given.page = ap given-page c.in-Given.is in
-    ap (λ (h : Host). h.given b) host
-    ∙ copy-given (state_at old.cache) (bytes_at old.cache) (backing_of old) (host_of old).given c.copied-bytes.result.items page (copy ∙ e.bytes page was) size was b
-    ∙ ap (λ (p : ℕ). with_page p (contents old) (host_of old).given b) number
+    ap (λ (h : Storage). h.given b) host
+    ∙ copy-given (state_at old.cache) (bytes_at old.cache) (backing_of old) (storage_of old).given c.copied-bytes.result.items page (copy ∙ e.bytes page was) size was b
+    ∙ ap (λ (p : ℕ). with_page p (contents old) (storage_of old).given b) number

@@ -23,4 +23,4 @@ returns-clause-blocks c =
 pub returns-clause-host : goal.returns-clause-host
 returns-clause-host c =
     let e = c.put.ensures in
-    changed-host c.args.self.now _ _ e.states e.numbers e.again (λ b. refl) (λ b. refl) e.owing
+    changed-host c.args.self.now _ _ e.states e.numbers e.again refl refl e.owing

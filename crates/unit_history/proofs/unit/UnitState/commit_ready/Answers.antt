@@ -1,11 +1,11 @@
-use Rattle.std.proofs.Common.{◌≡◌, true, not, ap, sym, subst, ◌∙◌, refl}
+use Rattle.std.proofs.Common.{◌≡◌, true, ap, sym, subst, ◌∙◌, refl}
 use Rattle.unit_model.specs.Seen.{finished}
 use Rattle.unit_history.specs.Inner.Parts.{AreBehind}
 use Rattle.unit_history.proofs.Basing.{based_on, behind_moved, ran_folds, ran_sized}
 use Rattle.std.specs.Option.{option_copied, option_map}
 use Rattle.backed_store.specs.Disks as disks
 use Rattle.block_commands.specs.Inner.Told.{facts_of}
-use Rattle.block_commands.specs.Needs.{needs}
+use Rattle.command_model.specs.Waiting.{needs}
 use Rattle.unit_history.specs.Fields.{opening_of}
 use Rattle.unit_history.specs.Inner.Performing.{performed_of, told, step_for}
 use Rattle.task_set.specs.Inner.Tasks.{task_at, seen_of}
@@ -90,7 +90,7 @@ returns-in-Ok-clause-step c =
     )
     (commits_run c.self.invariant.kept c.args.job.now c.in-Some.task.now.seen.entry c.self.inside.log.keeps _ _
     (facts_of (told c.self.inside.facts c.self.inside.attentions) (disks.size_of c.self.inside.store)) (option_map performed_of c.in-Ok.performed)
-    (disks.blocks_of c.perform_if_ready.new.store) c.perform_if_ready.new.attentions (ap not c.perform_if_ready.ensures.kind)
+    (disks.blocks_of c.perform_if_ready.new.store) c.perform_if_ready.new.attentions c.perform_if_ready.ensures.storage
     (is_of c.self.invariant.kept c.args.job.now c.in-Some.task.now at turns.0)
     (is_ready c.self.invariant.kept c.args.job.now.entry.ticket c.in-Some.task.now at turns.1 turns.2 turns.3)
     (told_is c.self.invariant.kept c.self.inside.facts (disks.size_of c.self.inside.store) refl refl refl refl refl c.self.invariant.sized)
@@ -103,8 +103,8 @@ returns-in_default-perform_if_ready-clause-waits c =
     rw c.command-command.ensures at c.in_default-perform_if_ready.ensures.needed in
     rw (← c.self.view_is, c.perform_if_ready.ensures.facts)
     (waits_for c.self.invariant.kept c.args.job.now c.in-Some.task.now _ _ _ at c.in-Ready.ensures
-    (ap not c.in_default-perform_if_ready.ensures.backed) (or-left _ _ (rw c.self.invariant.sized at needed))
-    (ap not c.perform_if_ready.ensures.kind))
+    c.in_default-perform_if_ready.ensures.backed (or-left _ _ (rw c.self.invariant.sized at needed))
+    c.perform_if_ready.ensures.storage)
 
 pub returns-then-has_to_wait-clause-waits : goal.returns-then-has_to_wait-clause-waits
 returns-then-has_to_wait-clause-waits c =
@@ -112,4 +112,4 @@ returns-then-has_to_wait-clause-waits c =
     let flush = rw c.command-command.ensures at c.has_to_wait.ensures.flush c.if-has_to_wait.true in
     rw (← c.self.view_is)
     (waits_for c.self.invariant.kept c.args.job.now c.in-Some.task.now _ _ _ at c.in-Ready.ensures
-    (ap not (c.has_to_wait.ensures.backed c.if-has_to_wait.true)) (or-right _ _ flush) refl)
+    (c.has_to_wait.ensures.backed c.if-has_to_wait.true) (or-right _ _ flush) refl)

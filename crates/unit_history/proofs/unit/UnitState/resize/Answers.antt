@@ -1,5 +1,7 @@
-use Rattle.std.proofs.Common.{◌≡◌, ◌≤◌, ◌∷◌, true, not, refl, sym, ap, ◌∙◌, arith, cond, nat_lt, min}
+use Rattle.std.proofs.Common.{◌≡◌, ◌≤◌, ◌∷◌, true, refl, sym, ap, ◌∙◌, arith, cond, nat_lt, min}
+use Rattle.std.specs.Option.{option_map}
 use Rattle.block_store.specs.Blocks.{zero_block}
+use Rattle.block_store.specs.Storage.{Dealing, and_then}
 use Rattle.backed_store.specs.Disks as disks
 use Rattle.unit_model.specs.Contents.{is_capacity}
 use Rattle.unit_model.specs.Steps.{Step}
@@ -43,4 +45,6 @@ returns-clause-step c =
     rw (← c.self.view_is)
     (steps_is _ (Step.Resize c.args.blocks) _ _ _ _ _ _ _ _ (may_resize c.self.invariant.kept c.args.blocks is)
     (c.push.ensures.steps ∙ ap (λ w. Step.Resize c.args.blocks ∷ w) c.make_way.ensures.steps)
-    (parked_resize c.self.inside.log.steps c.self.inside.tasks c.args.blocks) (c.push.ensures.keeps ∙ c.make_way.ensures.keeps) (ap not c.resize.ensures.kind))
+    (parked_resize c.self.inside.log.steps c.self.inside.tasks c.args.blocks) (c.push.ensures.keeps ∙ c.make_way.ensures.keeps)
+    (c.resize.ensures.storage
+    ∙ ap (λ n. option_map (and_then (Dealing.Cut (min n c.args.blocks))) (disks.storage_of c.self.inside.store)) c.self.invariant.sized))

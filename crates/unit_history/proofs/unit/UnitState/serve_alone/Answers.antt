@@ -1,4 +1,4 @@
-use Rattle.std.proofs.Common.{◌≡◌, ◌≤◌, ◌+◌, ◌∷◌, false, not, ap, sym, ◌∙◌, arith, subst, refl}
+use Rattle.std.proofs.Common.{◌≡◌, ◌≤◌, ◌+◌, ◌∷◌, false, ap, sym, ◌∙◌, arith, subst, refl}
 use Rattle.block_commands.specs.Inner.Told.{facts_of}
 use Rattle.backed_store.specs.Disks as disks
 use Rattle.ring_core.specs.declared.log.Ticket.{Ticket}
@@ -102,7 +102,7 @@ returns-clause-serves g c =
     c.run_and_answer-ran.new.attentions (told_is c.self.invariant.kept u.facts (disks.size_of u.store) refl refl refl refl refl c.self.invariant.sized)
     performed c.push_three.new.self.steps steps
     answers c.self.inside.log.keeps c.push_three.new.self.keeps _ _
-    (ap not (c.run_and_answer-ran.ensures.kind ∙ c.may_run.ensures.kind)) (c.if-not-is_named.ensures.yes refl) keeps
+    (c.run_and_answer-ran.ensures.storage ∙ c.may_run.ensures.storage) (c.if-not-is_named.ensures.yes refl) keeps
     (c.push_three.ensures.keeps ∙ c.in-Ok-make_way.ensures.keeps ∙ keeps)
     (subst answers (ends_as _ _ _ c.run_and_answer-ran.result) c.run_and_answer-ran.ensures.answered)
     (sym c.ticket-ticket.ensures.chain ∙ own))

@@ -24,7 +24,7 @@ use Rattle.std.specs.contracts.impls.GlobalAllocator.TheImpl.{ghosts}
 use Rattle.std.specs.Box.Ownership.{box_owns}
 use Rattle.std.proofs.alloc.Calls.{handle_tells}
 use Rattle.std.proofs.raw_atomic.Walks.{proved_at, leaves}
-use Rattle.block_store.specs.contracts.paged.PagedStore as paged
+use Rattle.backed_store.specs.contracts.disk.Disk as unit_disk
 use Rattle.vscsi_c.specs.Held.{Content, held, disk_in, the_heap}
 use Rattle.vscsi_c.proofs.Values.{both, Z, LZ, Owner, al, found_disk, loose_good, loose_in, owner_out}
 use Rattle.vscsi_c.specs.contracts.owner.Owner.into_disk.{ended, clauses}
@@ -34,7 +34,7 @@ use Rattle.vscsi_c.proofs.owner.Owner.into_disk.Code as code
 
 pub into_disk_spec : {M : Type 1} → statement M
 into_disk_spec 𝓤 𝓛 𝓜 𝓡 wired =
-    let H = 𝓛.H in let 𝓣 = tables 𝓤 H 𝓜 𝓡 𝓡.env in let R : RattleType = paged.the_row in let En = ended in let c = clauses 𝓛 𝓜.mem 𝓡.returns in let fn = code.function in
+    let H = 𝓛.H in let 𝓣 = tables 𝓤 H 𝓜 𝓡 𝓡.env in let R : RattleType = unit_disk.the_row in let En = ended in let c = clauses 𝓛 𝓜.mem 𝓡.returns in let fn = code.function in
     let hs : Stays En.signature.params En.kept = (stay_dropped (plain (λ _. Owner)) yes, (stay_dropped (plain (λ _. Z)) yes, tt)) in
     proved_at 𝓛 En hs c 𝓜 𝓡 (Goes-dropped 𝓛 0 (plain (λ _. Owner)) yes (λ κs x f. refl), (Goes-dropped 𝓛 0 (plain (λ _. Z)) yes (λ κs x f. refl), tt)) #self fn (code.unfolded 𝓤 H 𝓜 𝓡 wired) (λ z are.
     let κs = z.0.0 in let v = z.0.3.0 in let a = z.0.3.1.0 in let Post : Val → SProp 𝓤 = (walk_of 𝓛 En hs c).post z in let Run : List Val → SProp 𝓤 = λ ws. WpFn 𝓤 H 𝓣.C 𝓣.Λ fn ws Post in

@@ -1,7 +1,7 @@
 use Rattle.std.proofs.Common.{false, [], refl, sym, ap, subst, arith}
 use Rattle.device_steps.specs.Apart.{PlainDevice, standing}
 use Rattle.world.specs.LiveWorld.{OpensForIn}
-use Rattle.world.proofs.AtOpening.{opens, opens_over, opens_over_steady, no_steps, none_backed}
+use Rattle.world.proofs.AtOpening.{opens, opens_over, opens_over_steady, no_steps}
 use Rattle.world.proofs.live_world.LiveWorld.hand_in.Goals as goal
 
 pub hand_in-requires-clause-fresh : goal.hand_in-requires-clause-fresh
@@ -9,11 +9,6 @@ hand_in-requires-clause-fresh g c =
     let size = g.M.Memory.extent c.self.inside.memory in
     let o = subst (λ w. OpensForIn (g.M.Memory.extent w.memory) w.device c.args.disks.now.items) (sym c.self.view_is) c.requires.opening in
     no_steps _ (opens size o.config (standing false [] c.self.inside.device) o.taken (o.opening false [])).units
-
-pub hand_in-requires-clause-whole : goal.hand_in-requires-clause-whole
-hand_in-requires-clause-whole g c =
-    let o = subst (λ w. OpensForIn (g.M.Memory.extent w.memory) w.device c.args.disks.now.items) (sym c.self.view_is) c.requires.opening in
-    none_backed o.config.units.items c.self.inside.device.units (o.opening false []).units
 
 pub hand_in-requires-clause-enough : goal.hand_in-requires-clause-enough
 hand_in-requires-clause-enough g c =

@@ -2,7 +2,7 @@ use Rattle.std.proofs.Common.{false, refl, sym, ap, subst}
 use Rattle.config.specs.Config.{size_of}
 use Rattle.device_steps.specs.Apart.{PlainDevice, standing}
 use Rattle.device_steps.specs.Opening.{OpensFor}
-use Rattle.world.proofs.AtOpening.{opens, opens_over, opens_over_steady, no_steps, none_backed, taken_own, long_own}
+use Rattle.world.proofs.AtOpening.{opens, opens_over, opens_over_steady, no_steps, taken_own, long_own}
 use Rattle.world.proofs.world.World.hand_in.Goals as goal
 
 pub hand_in-requires-clause-fresh : goal.hand_in-requires-clause-fresh
@@ -11,11 +11,6 @@ hand_in-requires-clause-fresh c =
     no_steps _
     (opens (size_of o.config) o.config (standing false c.self.inside.memory c.self.inside.device) (taken_own o.config o.taken)
     o.opening.parts).units
-
-pub hand_in-requires-clause-whole : goal.hand_in-requires-clause-whole
-hand_in-requires-clause-whole c =
-    let o = subst (λ w. OpensFor w c.args.disks.now.items) (sym c.self.view_is) c.requires.opening in
-    none_backed o.config.units.items c.self.inside.device.units o.opening.parts.units
 
 pub invariant_of-self : goal.invariant_of-self
 invariant_of-self c =

@@ -1,7 +1,7 @@
--- Which commands need blocks.
-use Rattle.std.specs.Prelude.{ℕ, Bool, true, false}
+-- Which commands may have to wait, where the pages of a disk come and go.
+use Rattle.std.specs.Prelude.{ℕ, Bool, true, false, ◌||◌}
 use Rattle.cdb.specs.declared.commands.Command.{Command}
-use Rattle.cdb.specs.declared.commands.Command.TheVariants.{Read, Write, WriteSame, Unmap, CompareAndWrite, Wide}
+use Rattle.cdb.specs.declared.commands.Command.TheVariants.{Read, Write, WriteSame, Unmap, CompareAndWrite, SynchronizeCache, Wide}
 use Rattle.cdb.specs.declared.wide_commands.WideCommand.{WideCommand}
 use Rattle.cdb.specs.declared.wide_commands.WideCommand.TheVariants.{GetLbaStatus, Verify, WriteZeros, OrWrite}
 use Rattle.command_model.specs.Capacity.{is_in_range}
@@ -24,3 +24,13 @@ needs blocks (Unmap list_length) = true
 needs blocks (CompareAndWrite lba count) = is_in_range blocks lba count
 needs blocks (Wide command) = needs_wide blocks command
 needs blocks _ = false
+
+-- whether a command ends only once the medium has what was written before it: SYNCHRONIZE CACHE (SBC-3 §5.26, §5.27), as
+-- which PRE-FETCH is decoded too
+abbrev pub is_flush : Command → Bool
+is_flush (SynchronizeCache lba blocks) = true
+is_flush _ = false
+
+-- own: whether a command waits for blocks of a disk of so many, or for what was changed before it
+abbrev pub waits_at : ℕ → Command → Bool
+waits_at blocks command = needs blocks command || is_flush command

@@ -1,0 +1,91 @@
+//! The pages of a disk that come and go.
+
+ghost use Rattle.std.specs.Prelude.{◌≡◌, ℕ, true, length, IsTrue, IsFalse, IfOk, OnErr, IfSome, IfNone};
+ghost use Rattle.std.specs.Option.{option_map};
+ghost use Rattle.block_store.specs.Storage.{IsPageOf, Dealing, and_then, storage_by};
+ghost use Rattle.backed_store.specs.Disks.{size_of, blocks_of, storage_of, is_backed};
+
+use crate::dealing::GivenPage;
+use crate::disk::Disk;
+use crate::numbers::PAGE_BYTES;
+use foundation::NoMemory;
+
+impl Disk {
+    /// Returns the next page that the host is to read, and counts it as asked for. `None` where none is wanted; so always of a
+    /// disk that isn't backed.
+    pub fn next_wanted(&mut self) -> Option<u64>
+        ensures blocks { (b : ℕ) → blocks_of self.new b ≡ blocks_of self.old b }
+        ensures size { size_of self.new ≡ size_of self.old }
+        ensures storage { storage_of self.new ≡ storage_of self.old }
+        ensures backed { IfSome result (λ page. is_backed self.old ≡ true) }
+    {
+        match self {
+            Disk::Whole(_) => None,
+            Disk::Backed(store) => store.next_wanted(),
+        }
+    }
+
+    /// Takes the bytes of a page that the host was asked for, as its storage has them. Returns true if they now stand in
+    /// memory. `NoMemory` where memory was refused.
+    pub fn load(&mut self, page: u64, bytes: &[u8]) -> Result<bool, NoMemory>
+        requires len { length bytes.now ≡ PAGE_BYTES }
+        requires kept { IfSome (storage_of self.old) (λ s. IsPageOf (storage_by s).kept page bytes.now) }
+        ensures blocks { (b : ℕ) → blocks_of self.new b ≡ blocks_of self.old b }
+        ensures size { size_of self.new ≡ size_of self.old }
+        ensures storage { storage_of self.new ≡ storage_of self.old }
+    {
+        match self {
+            Disk::Whole(_) => Ok(false),
+            Disk::Backed(store) => store.load(page, bytes),
+        }
+    }
+
+    /// Notes that the host can't read a page that it was asked for. Returns true if a command may wait for it.
+    pub fn load_failed(&mut self, page: u64) -> bool
+        ensures blocks { (b : ℕ) → blocks_of self.new b ≡ blocks_of self.old b }
+        ensures size { size_of self.new ≡ size_of self.old }
+        ensures storage { storage_of self.new ≡ storage_of self.old }
+    {
+        match self {
+            Disk::Whole(_) => false,
+            Disk::Backed(store) => store.load_failed(page),
+        }
+    }
+
+    /// Gives the host the next page that it is to write, as it is; `None` where it has each dirty page already. `NoMemory`
+    /// where memory was refused.
+    pub fn give(&mut self) -> Result<Option<GivenPage>, NoMemory>
+        ensures blocks { (b : ℕ) → blocks_of self.new b ≡ blocks_of self.old b }
+        ensures size { size_of self.new ≡ size_of self.old }
+        ensures backed { IfOk result (λ given. IfSome given (λ g. is_backed self.old ≡ true)) }
+        ensures bytes { IfOk result (λ given. IfSome given (λ g. IsPageOf (blocks_of self.old) g.page g.bytes.items)) }
+        ensures given { IfOk result (λ given. IfSome given (λ g.
+            storage_of self.new ≡ option_map (and_then (Dealing.Give g.page g.bytes.items)) (storage_of self.old))) }
+        ensures none { IfOk result (λ given. IfNone given (storage_of self.new ≡ storage_of self.old)) }
+        ensures err { OnErr result (storage_of self.new ≡ storage_of self.old) }
+    {
+        match self {
+            Disk::Whole(_) => Ok(None),
+            Disk::Backed(store) => store.give(),
+        }
+    }
+
+    /// Notes that the host's write of a page is over: its storage gives the page back as it was given, after a crash too, or
+    /// the write failed. Returns true if its storage has the page so now: not where no write of it was under way. `NoMemory`
+    /// where memory was refused: the host says it again later.
+    pub fn written(&mut self, page: u64, kept: bool) -> Result<bool, NoMemory>
+        ensures blocks { (b : ℕ) → blocks_of self.new b ≡ blocks_of self.old b }
+        ensures size { size_of self.new ≡ size_of self.old }
+        ensures backed { IfOk result (λ done. IsTrue done → is_backed self.old ≡ true) }
+        ensures told { IfOk result (λ done. IsTrue done → IsTrue kept) }
+        ensures kept { IfOk result (λ done. IsTrue done →
+            storage_of self.new ≡ option_map (and_then (Dealing.Keep page)) (storage_of self.old)) }
+        ensures otherwise { IfOk result (λ done. IsFalse done → storage_of self.new ≡ storage_of self.old) }
+        ensures err { OnErr result (storage_of self.new ≡ storage_of self.old) }
+    {
+        match self {
+            Disk::Whole(_) => Ok(false),
+            Disk::Backed(store) => store.written(page, kept),
+        }
+    }
+}

@@ -1,0 +1,55 @@
+-- What the host's storage has of a disk whose pages come and go.
+use Rattle.std.specs.Prelude.{ℕ, ◌≡◌, ◌<◌, ◌+◌, ◌*◌, ◌/◌, ◌%◌, ◌==◌, ◌++◌, List, [], ◌∷◌, nat_lt, if◌then◌else◌}
+use Rattle.block_store.specs.Blocks.{Blocks, nth_block, zero_block}
+use Rattle.block_store.specs.Pages.{blocks_in}
+
+-- the blocks as the host was last given them, and those that its storage has, as far as the host said
+pub record Storage : Type 0 where
+  pub given : Blocks
+  pub kept : Blocks
+
+-- own: the host takes the bytes of a page to write them; it says that it wrote the page as it was last given it, so that a
+-- crash leaves it; it cuts its storage off at a block
+pub data Dealing : Type 0 where
+  Give : ℕ → List ℕ → Dealing
+  Keep : ℕ → Dealing
+  Cut : ℕ → Dealing
+
+-- with the blocks of page p that `from` has
+abbrev pub with_page : ℕ → Blocks → Blocks → Blocks
+with_page p from blocks b = if b / 8 == p then from b else blocks b
+
+-- with zeros from block n on
+abbrev pub cut : ℕ → Blocks → Blocks
+cut n blocks b = if nat_lt b n then blocks b else zero_block
+
+abbrev pub dealt : Dealing → Storage → Storage
+dealt (Dealing.Give p bytes) s = record s { given = with_page p (λ b. blocks_in bytes (b % 8)) s.given }
+dealt (Dealing.Keep p) s = record s { kept = with_page p s.given s.kept }
+dealt (Dealing.Cut n) s = record { given = cut n s.given; kept = cut n s.kept }
+
+-- once all of this was done, the first of it first
+abbrev pub all_dealt : List Dealing → Storage → Storage
+all_dealt [] s = s
+all_dealt (d ∷ more) s = all_dealt more (dealt d s)
+
+-- a storage that has these bytes, end to end; what they lack is zeros
+abbrev pub opening : List ℕ → Storage
+opening bytes = record { given = λ b. blocks_in bytes b; kept = λ b. blocks_in bytes b }
+
+-- own: the bytes that a storage had at the opening, and what was done with it since, the first of it first
+pub record Ledger : Type 0 where
+  pub content : List ℕ
+  pub dealings : List Dealing
+
+-- own: what the storage has by that
+abbrev pub storage_by : Ledger → Storage
+storage_by l = all_dealt l.dealings (opening l.content)
+
+-- own: with one more
+abbrev pub and_then : Dealing → Ledger → Ledger
+and_then d l = record l { dealings = l.dealings ++ d ∷ [] }
+
+-- the bytes are the 8 blocks of page p
+abbrev pub IsPageOf : Blocks → ℕ → List ℕ → Type 0
+IsPageOf blocks p bytes = (k : ℕ) → k < 8 → nth_block bytes k ≡ blocks (8 * p + k)

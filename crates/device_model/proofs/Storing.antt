@@ -1,0 +1,110 @@
+-- Transitions but for a few leave what the host's storage has of a unit's disk.
+use Rattle.std.proofs.Common.{◌≡◌, ℕ, false, eqb, List, [], ◌∷◌, ◌++◌, Option, Some, None, refl, sym, ◌∙◌, ap}
+use Rattle.std.specs.Prelude.{slice_get, option_map}
+use Rattle.block_store.specs.Storage.{Storage, Dealing, Ledger, dealt, all_dealt, opening, storage_by, and_then}
+use Rattle.unit_model.specs.Steps.{Step}
+use Rattle.unit_model.specs.Unit.{PlainUnit, after as stepped, parking, dealing}
+use Rattle.task_mgmt.specs.Functions.{step_by}
+use Rattle.task_mgmt.specs.declared.kind.MarkBy.TheVariants.{Abort, Reset}
+use Rattle.device_model.specs.World.{PlainWorld, change}
+use Rattle.device_model.specs.Transitions.{Transition}
+use Rattle.device_model.specs.Event.Hard.{hard_code}
+use Rattle.device_model.specs.After.{after}
+use Rattle.device_model.specs.Found.{UnitIs}
+use Rattle.device_model.specs.Storing.{given_of, kept_of, gives, keeps}
+use Rattle.device_model.proofs.Lists.{same, stays, get_other, get_change}
+
+-- what a change leaves of a unit
+unchanged : {X : Type 0} (f : PlainUnit → X) (g : PlainUnit → PlainUnit) (k : ℕ) (us : List PlainUnit)
+    → ((u : PlainUnit) → f (g u) ≡ f u) → (i : ℕ) (u v : PlainUnit) → slice_get us i ≡ Some u
+    → slice_get (change g k us) i ≡ Some v → f v ≡ f u
+unchanged f g k us e i u v at now =
+    let s = stays f g k us e i u at in
+    ap f (same (sym now ∙ s.1)) ∙ s.2
+
+-- another unit
+elsewhere : (g : PlainUnit → PlainUnit) (k : ℕ) (us : List PlainUnit) (i : ℕ) (u v : PlainUnit) → eqb k i ≡ false
+    → slice_get us i ≡ Some u → slice_get (change g k us) i ≡ Some v → v ≡ u
+elsewhere g k us i u v off at now = same (sym now ∙ get_other g k us i off ∙ at)
+
+last_dealt : (ds : List Dealing) (d : Dealing) (s : Storage) → all_dealt (ds ++ d ∷ []) s ≡ dealt d (all_dealt ds s)
+last_dealt [] d s = refl
+last_dealt (e ∷ more) d s = last_dealt more d (dealt e s)
+
+kept_given : (page : ℕ) (bytes : List ℕ) (o : Option Ledger)
+    → option_map (λ (l : Ledger). (storage_by l).kept) (option_map (and_then (Dealing.Give page bytes)) o)
+    ≡ option_map (λ (l : Ledger). (storage_by l).kept) o
+kept_given page bytes None = refl
+kept_given page bytes (Some l) =
+    ap (λ (s : Storage). Some s.kept) (last_dealt l.dealings (Dealing.Give page bytes) (opening l.content))
+
+given_kept : (page : ℕ) (o : Option Ledger)
+    → option_map (λ (l : Ledger). (storage_by l).given) (option_map (and_then (Dealing.Keep page)) o)
+    ≡ option_map (λ (l : Ledger). (storage_by l).given) o
+given_kept page None = refl
+given_kept page (Some l) = ap (λ (s : Storage). Some s.given) (last_dealt l.dealings (Dealing.Keep page) (opening l.content))
+
+pub given_stays : (d : Transition) (w : PlainWorld) (place : ℕ) (u v : PlainUnit) → UnitIs w place u → UnitIs (after d w) place v
+    → gives place d ≡ false → given_of v ≡ given_of u
+given_stays (Transition.Run x) w place u v at now off =
+    unchanged given_of (stepped (Step.Enter x.entry)) x.unit w.units (λ z. refl) place u v at now
+given_stays (Transition.Park x) w place u v at now off =
+    unchanged given_of (parking x) x.unit w.units (λ z. refl) place u v at now
+given_stays (Transition.EnterFull x) w place u v at now off =
+    unchanged given_of (stepped (Step.Full x.entry.ticket)) x.unit w.units (λ z. refl) place u v at now
+given_stays (Transition.Commit k x r) w place u v at now off =
+    unchanged given_of (stepped (Step.Commit x.entry.ticket r)) x.unit w.units (λ z. refl) place u v at now
+given_stays (Transition.CommitBusy k x) w place u v at now off =
+    unchanged given_of (stepped (Step.Busy x.entry.ticket)) x.unit w.units (λ z. refl) place u v at now
+given_stays (Transition.Leave k i t jobs) w place u v at now off =
+    unchanged given_of (stepped (Step.Leave t)) i w.units (λ z. refl) place u v at now
+given_stays (Transition.Mark t p (Abort rule) jobs) w place u v at now off =
+    unchanged given_of (stepped (step_by (Abort rule))) p.unit w.units (λ z. refl) place u v at now
+given_stays (Transition.Mark t p (Reset c) jobs) w place u v at now off =
+    unchanged given_of (stepped (step_by (Reset c))) p.unit w.units (λ z. refl) place u v at now
+given_stays (Transition.Hard p jobs) w place u v at now off =
+    unchanged given_of (stepped (Step.Reset hard_code)) p.unit w.units (λ z. refl) place u v at now
+given_stays (Transition.Resize k blocks) w place u v at now off =
+    ap (λ z. given_of z) (elsewhere (stepped (Step.Resize blocks)) k w.units place u v off at now)
+given_stays (Transition.Deal k (Dealing.Keep page)) w place u v at now off =
+    unchanged given_of (dealing (Dealing.Keep page)) k w.units (λ z. given_kept page z.storage) place u v at now
+given_stays (Transition.Deal k (Dealing.Give page bytes)) w place u v at now off =
+    ap (λ z. given_of z) (elsewhere (dealing (Dealing.Give page bytes)) k w.units place u v off at now)
+given_stays (Transition.Deal k (Dealing.Cut blocks)) w place u v at now off =
+    ap (λ z. given_of z) (elsewhere (dealing (Dealing.Cut blocks)) k w.units place u v off at now)
+given_stays d w place u v at now off = ap (λ z. given_of z) (same (sym now ∙ at))
+
+pub kept_stays : (d : Transition) (w : PlainWorld) (place : ℕ) (u v : PlainUnit) → UnitIs w place u → UnitIs (after d w) place v
+    → keeps place d ≡ false → kept_of v ≡ kept_of u
+kept_stays (Transition.Run x) w place u v at now off =
+    unchanged kept_of (stepped (Step.Enter x.entry)) x.unit w.units (λ z. refl) place u v at now
+kept_stays (Transition.Park x) w place u v at now off =
+    unchanged kept_of (parking x) x.unit w.units (λ z. refl) place u v at now
+kept_stays (Transition.EnterFull x) w place u v at now off =
+    unchanged kept_of (stepped (Step.Full x.entry.ticket)) x.unit w.units (λ z. refl) place u v at now
+kept_stays (Transition.Commit k x r) w place u v at now off =
+    unchanged kept_of (stepped (Step.Commit x.entry.ticket r)) x.unit w.units (λ z. refl) place u v at now
+kept_stays (Transition.CommitBusy k x) w place u v at now off =
+    unchanged kept_of (stepped (Step.Busy x.entry.ticket)) x.unit w.units (λ z. refl) place u v at now
+kept_stays (Transition.Leave k i t jobs) w place u v at now off =
+    unchanged kept_of (stepped (Step.Leave t)) i w.units (λ z. refl) place u v at now
+kept_stays (Transition.Mark t p (Abort rule) jobs) w place u v at now off =
+    unchanged kept_of (stepped (step_by (Abort rule))) p.unit w.units (λ z. refl) place u v at now
+kept_stays (Transition.Mark t p (Reset c) jobs) w place u v at now off =
+    unchanged kept_of (stepped (step_by (Reset c))) p.unit w.units (λ z. refl) place u v at now
+kept_stays (Transition.Hard p jobs) w place u v at now off =
+    unchanged kept_of (stepped (Step.Reset hard_code)) p.unit w.units (λ z. refl) place u v at now
+kept_stays (Transition.Resize k blocks) w place u v at now off =
+    ap (λ z. kept_of z) (elsewhere (stepped (Step.Resize blocks)) k w.units place u v off at now)
+kept_stays (Transition.Deal k (Dealing.Give page bytes)) w place u v at now off =
+    unchanged kept_of (dealing (Dealing.Give page bytes)) k w.units (λ z. kept_given page bytes z.storage) place u v at now
+kept_stays (Transition.Deal k (Dealing.Keep page)) w place u v at now off =
+    ap (λ z. kept_of z) (elsewhere (dealing (Dealing.Keep page)) k w.units place u v off at now)
+kept_stays (Transition.Deal k (Dealing.Cut blocks)) w place u v at now off =
+    ap (λ z. kept_of z) (elsewhere (dealing (Dealing.Cut blocks)) k w.units place u v off at now)
+kept_stays d w place u v at now off = ap (λ z. kept_of z) (same (sym now ∙ at))
+
+-- a deal is one of the unit's storage alone
+pub deals_alone : (w : PlainWorld) (place : ℕ) (x : Dealing) (u : PlainUnit) → UnitIs w place u
+    → UnitIs (after (Transition.Deal place x) w) place (dealing x u)
+deals_alone w place x u at = get_change (dealing x) place w.units u at

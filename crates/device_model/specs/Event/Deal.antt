@@ -1,0 +1,15 @@
+-- The host takes a page of a unit's disk to write it, or says that it wrote it.
+use Rattle.std.specs.Prelude.{ℕ}
+use Rattle.block_store.specs.Storage.{Dealing}
+use Rattle.unit_model.specs.Unit.{PlainUnit, MayDeal, dealing}
+use Rattle.device_model.specs.World.{PlainWorld, change}
+use Rattle.device_model.specs.Found.{UnitIs}
+
+pub record Deals (w : PlainWorld) (place : ℕ) (d : Dealing) : Type 0 where
+  pub unit : PlainUnit
+  pub there : UnitIs w place unit
+  pub may : MayDeal unit d
+
+-- of the unit at a place
+abbrev pub after_deal : ℕ → Dealing → PlainWorld → PlainWorld
+after_deal place d w = record w { units = change (dealing d) place w.units }

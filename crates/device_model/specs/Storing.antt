@@ -1,0 +1,28 @@
+-- Which transitions change what the host's storage has of a unit's disk.
+use Rattle.std.specs.Prelude.{ℕ, Bool, false, ◌==◌, Option, option_map}
+use Rattle.block_store.specs.Blocks.{Blocks}
+use Rattle.block_store.specs.Storage.{Ledger, Dealing, storage_by}
+use Rattle.unit_model.specs.Unit.{PlainUnit}
+use Rattle.device_model.specs.Transitions.{Transition}
+
+-- the blocks of a unit's disk as its host was last given them, if their pages come and go
+abbrev pub given_of : PlainUnit → Option Blocks
+given_of u = option_map (λ (l : Ledger). (storage_by l).given) u.storage
+
+-- and those that its storage has, as far as the host said
+abbrev pub kept_of : PlainUnit → Option Blocks
+kept_of u = option_map (λ (l : Ledger). (storage_by l).kept) u.storage
+
+-- the transition gives the host a page of the unit at a place, or resizes it
+abbrev pub gives : ℕ → Transition → Bool
+gives place (Transition.Deal k (Dealing.Give page bytes)) = k == place
+gives place (Transition.Deal k (Dealing.Cut blocks)) = k == place
+gives place (Transition.Resize k blocks) = k == place
+gives place d = false
+
+-- the transition says that the host wrote a page of the unit at a place, or resizes it
+abbrev pub keeps : ℕ → Transition → Bool
+keeps place (Transition.Deal k (Dealing.Keep page)) = k == place
+keeps place (Transition.Deal k (Dealing.Cut blocks)) = k == place
+keeps place (Transition.Resize k blocks) = k == place
+keeps place d = false

@@ -1,0 +1,16 @@
+use Rattle.std.proofs.Common.{◌≡◌, Some, sym, subst, ◌∙◌}
+use Rattle.std.specs.Prelude.{slice_get}
+use Rattle.std.proofs.lemmas.Option.{slice_get_read}
+use Rattle.device_steps.specs.contracts.device.Device as seen
+use Rattle.device_steps.specs.Apart.{PlainDevice}
+use Rattle.device_steps.specs.Paging.{IsKeptPage}
+use Rattle.device_steps.proofs.device.Device.load.Goals as goal
+
+pub load-requires-clause-kept : goal.load-requires-clause-kept
+load-requires-clause-kept c =
+    let d = c.self.inside in
+    let u = c.index_mut.result.now in
+    let at : slice_get d.units.items c.args.place ≡ Some u =
+    slice_get_read d.units.items c.len.result c.args.place u (c.len.ensures ∙ d.units.ok.0) c.if-at-len.false
+    c.index_mut.ensures.value in
+    subst (λ (z : PlainDevice). IsKeptPage z.units c.args.place c.args.page c.args.bytes.now) (sym c.self.view_is) c.requires.kept u at

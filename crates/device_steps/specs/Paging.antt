@@ -1,0 +1,24 @@
+-- What a host does with the disks whose pages come and go.
+use Rattle.std.specs.Prelude.{ℕ, ◌≡◌, true, List, Some, slice_get, IfSome}
+use Rattle.block_store.specs.Storage.{Dealing, IsPageOf, storage_by}
+use Rattle.unit_model.specs.Unit.{PlainUnit, MayDeal, is_backed, dealing}
+use Rattle.device_model.specs.World.{change}
+use Rattle.device_steps.specs.Apart.{PlainDevice}
+
+-- the disk of the unit at a place is such a one
+pub record IsBackedAt (units : List PlainUnit) (place : ℕ) : Type 0 where
+  pub unit : PlainUnit
+  pub there : slice_get units place ≡ Some unit
+  pub backed : is_backed unit ≡ true
+
+-- the bytes are those of a page of the disk of the unit at a place, as the host's storage has them by what it said
+abbrev pub IsKeptPage : List PlainUnit → ℕ → ℕ → List ℕ → Type 0
+IsKeptPage units place page bytes =
+    (u : PlainUnit) → slice_get units place ≡ Some u → IfSome u.storage (λ s. IsPageOf (storage_by s).kept page bytes)
+
+-- own: the host dealt so with the storage of the unit at a place, which it may, and nothing else of the device changed
+pub record IsDealt (old : PlainDevice) (place : ℕ) (d : Dealing) (new : PlainDevice) : Type 0 where
+  pub unit : PlainUnit
+  pub there : slice_get old.units place ≡ Some unit
+  pub may : MayDeal unit d
+  pub is : new ≡ record old { units = change (dealing d) place old.units }

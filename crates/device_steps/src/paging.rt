@@ -1,0 +1,85 @@
+//! The pages of units' disks that come and go, and the host that has their storages.
+
+use crate::device::Device;
+use backed_store::{GivenPage, PAGE_BYTES};
+use foundation::NoMemory;
+
+impl Device {
+    ghost use Rattle.std.specs.Prelude.{◌≡◌, length, IsTrue, IsFalse, IfOk, OnErr, IfSome, IfNone};
+    ghost use Rattle.block_store.specs.Storage.{Dealing};
+    ghost use Rattle.device_steps.specs.Paging.{IsBackedAt, IsKeptPage, IsDealt};
+
+    /// Returns the next page of the disk of the unit at a place that the host is to read, 8 blocks each, and counts it as
+    /// asked for. The host hands it in by [`Device::load`], or says that it can't by [`Device::load_failed`]. `None` where no
+    /// command waits for a page that the host wasn't asked for, where the disk isn't backed, or where there is no such unit.
+    pub fn next_wanted(&mut self, place: u16) -> Option<u64>
+        ensures same { self.new ≡ self.old }
+        ensures backed { IfSome result (λ page. IsBackedAt self.old.units place) }
+    {
+        let at = place as usize;
+        if at >= self.units.len() {
+            return None;
+        }
+        self.units[at].next_wanted()
+    }
+
+    /// Takes the bytes of a page that the host was asked for, as its storage has them. Returns true if they now stand in
+    /// memory; then a Wake has the commands that wait tried again. A host that is given the page meanwhile says
+    /// [`Device::load_failed`] in place of this. `NoMemory` where memory was refused; the page may be handed in again.
+    pub fn load(&mut self, place: u16, page: u64, bytes: &[u8]) -> Result<bool, NoMemory>
+        requires len { length bytes.now ≡ PAGE_BYTES }
+        // The premise: the storage gives back what it kept, or had at the opening.
+        requires kept { IsKeptPage self.old.units place page bytes.now }
+        ensures same { self.new ≡ self.old }
+    {
+        let at = place as usize;
+        if at >= self.units.len() {
+            return Ok(false);
+        }
+        self.units[at].load(page, bytes)
+    }
+
+    /// Notes that the host won't hand in a page that it was asked for. Returns true if a command may wait for it.
+    pub fn load_failed(&mut self, place: u16, page: u64) -> bool
+        ensures same { self.new ≡ self.old }
+    {
+        let at = place as usize;
+        if at >= self.units.len() {
+            return false;
+        }
+        self.units[at].load_failed(page)
+    }
+
+    /// Gives the host the next page that it is to write to the storage of the unit at a place, as the unit's blocks are now.
+    /// The host says by [`Device::written`] what became of it. `None` where it has each such page already. `NoMemory` where
+    /// memory was refused.
+    pub fn give(&mut self, place: u16) -> Result<Option<GivenPage>, NoMemory>
+        ensures given { IfOk result (λ given. IfSome given (λ g.
+            IsDealt self.old place (Dealing.Give g.page g.bytes.items) self.new)) }
+        ensures none { IfOk result (λ given. IfNone given (self.new ≡ self.old)) }
+        ensures err { OnErr result (self.new ≡ self.old) }
+    {
+        let at = place as usize;
+        if at >= self.units.len() {
+            return Ok(None);
+        }
+        self.units[at].give()
+    }
+
+    /// Notes that the host's write of a page is over: its storage gives the page back as it was given, after a crash too, or
+    /// the write failed, and the page is given again. Returns true if its storage has the page so now: not where no write of
+    /// it was under way. Then a Wake has the commands that wait tried again. `NoMemory` where memory was refused:
+    /// the host says it again later.
+    pub fn written(&mut self, place: u16, page: u64, kept: bool) -> Result<bool, NoMemory>
+        ensures told { IfOk result (λ done. IsTrue done → IsTrue kept) }
+        ensures kept { IfOk result (λ done. IsTrue done → IsDealt self.old place (Dealing.Keep page) self.new) }
+        ensures otherwise { IfOk result (λ done. IsFalse done → self.new ≡ self.old) }
+        ensures err { OnErr result (self.new ≡ self.old) }
+    {
+        let at = place as usize;
+        if at >= self.units.len() {
+            return Ok(false);
+        }
+        self.units[at].written(page, kept)
+    }
+}

@@ -1,0 +1,163 @@
+//! Pages that go from memory, so that those of a command find room there.
+
+ghost use Rattle.std.specs.Prelude.{◌≡◌, ◌≢◌, ◌≤◌, ℕ, false, None, IsTrue, length};
+ghost use Rattle.cdb.specs.Need.{need_of};
+ghost use Rattle.command_model.specs.Attention.{met};
+ghost use Rattle.command_model.specs.Waiting.{needs};
+ghost use Rattle.backed_store.specs.Disks.{size_of, blocks_of, holds, has_room, is_coming, storage_of, is_backed};
+ghost use Rattle.block_store.specs.declared.readiness.Readiness.TheVariants.{Ready, Full};
+ghost use Rattle.block_commands.specs.Inner.Ready.{IsReady};
+ghost use Rattle.command_model.specs.Data.{data_of};
+
+use backed_store::{Disk, PAGE_BLOCKS, PageRange};
+use block_commands::{UnitFacts, make_ready};
+use block_store::Readiness;
+use cdb::{Command, WideCommand};
+use ring_core::Ticket;
+
+/// The number of pages that go at first where a command finds no room. Each time that they weren't enough, twice as many go.
+const FIRST_PAGES: u32 = 64;
+
+/// The number of times that pages go for one command: 32,704 pages in all, more than any command needs.
+const MOST_TIMES: u32 = 9;
+
+/// The command that has waited for the longest of those of its unit that wait for pages. Its pages stay in memory once they
+/// are there, so that it runs once all are, whatever the others ask for.
+#[derive(Clone, Copy)]
+pub(crate) struct OldestWaiting {
+    /// The ticket of its task.
+    pub(crate) ticket: Ticket,
+    /// Its pages.
+    pub(crate) pages: PageRange,
+}
+
+/// Returns the pages of a command's range of blocks; none of a command that has no range, or several.
+fn pages_of(command: &Command) -> PageRange {
+    let (lba, blocks) = match *command {
+        Command::Read { lba, blocks } | Command::Write { lba, blocks } => (lba, u64::from(blocks)),
+        Command::WriteSame { lba, blocks } => (lba, u64::from(blocks)),
+        Command::CompareAndWrite { lba, blocks } => (lba, u64::from(blocks)),
+        Command::Wide(WideCommand::Verify { blocks, lba, .. }) => (lba, u64::from(blocks)),
+        Command::Wide(WideCommand::OrWrite { blocks, lba }) => (lba, u64::from(blocks)),
+        Command::Wide(WideCommand::WriteZeros { blocks, lba }) => (lba, u64::from(blocks)),
+        _ => (0, 0),
+    };
+    PageRange {
+        first: lba / PAGE_BLOCKS,
+        count: (lba % PAGE_BLOCKS + blocks).div_ceil(PAGE_BLOCKS),
+    }
+}
+
+/// Has a page of a disk go from memory that may go and is none of some ranges. Returns true if there was one.
+fn drop_page(store: &mut Disk, spared: &[PageRange]) -> bool
+    ensures blocks { (b : ℕ) → blocks_of store.new b ≡ blocks_of store.old b }
+    ensures size { size_of store.new ≡ size_of store.old }
+    ensures storage { storage_of store.new ≡ storage_of store.old }
+{
+    match store {
+        Disk::Whole(_) => false,
+        Disk::Backed(store) => store.evict(spared).is_some(),
+    }
+}
+
+/// Has at most so many pages go as [`drop_page`] does. Returns true if one went.
+fn drop_pages(store: &mut Disk, spared: &[PageRange], most: u32) -> bool
+    ensures blocks { (b : ℕ) → blocks_of store.new b ≡ blocks_of store.old b }
+    ensures size { size_of store.new ≡ size_of store.old }
+    ensures storage { storage_of store.new ≡ storage_of store.old }
+{
+    let mut dropped = false;
+    for _number in 0..most {
+        if !drop_page(store, spared) {
+            return dropped;
+        }
+        dropped = true;
+    }
+    dropped
+}
+
+/// Makes a disk ready for a command as [`make_ready`] does. Where there is no room for its pages, so many others go but
+/// those of some ranges, and it is tried again: at most so many times, each time twice as many.
+fn make_ready_in_turns(
+    facts: &UnitFacts,
+    store: &mut Disk,
+    command: &Command,
+    bytes: &[u8],
+    spared: &[PageRange],
+    times: u32,
+    pages: u32,
+) -> Readiness
+    requires data { (need_of command.now).out ≤ length bytes.now }
+    ensures ready { result ≡ Ready → met command.now facts.now.pending ≡ None →
+        IsReady (holds store.new) (has_room store.new) (size_of store.new) command.now (data_of command.now bytes.now) }
+    ensures asked { result ≢ Full → met command.now facts.now.pending ≡ None →
+        IsReady (is_coming store.new) (has_room store.new) (size_of store.new) command.now (data_of command.now bytes.now) }
+    ensures idle { needs (size_of store.old) command.now ≡ false → result ≡ Ready }
+    ensures blocks { (b : ℕ) → blocks_of store.new b ≡ blocks_of store.old b }
+    ensures size { size_of store.new ≡ size_of store.old }
+    ensures storage { storage_of store.new ≡ storage_of store.old }
+{
+    let readiness = make_ready(store, command, bytes, facts);
+    if readiness != Readiness::Full || times == 0 {
+        return readiness;
+    }
+    if !drop_pages(store, spared, pages) {
+        return readiness;
+    }
+    let twice = pages.saturating_mul(2);
+    make_ready_in_turns(facts, store, command, bytes, spared, times - 1, twice)
+}
+
+/// Makes a disk ready for the command of a ticket as [`make_ready`] does. Where there is no room for its pages, others go: not
+/// those of the command that has waited for the longest. The first that waits is that one, until it runs or its task leaves.
+#[inline(never)]
+pub(crate) fn make_ready_for(
+    facts: &UnitFacts,
+    store: &mut Disk,
+    command: &Command,
+    bytes: &[u8],
+    oldest: &mut Option<OldestWaiting>,
+    ticket: Ticket,
+) -> Readiness
+    requires data { (need_of command.now).out ≤ length bytes.now }
+    ensures ready { result ≡ Ready → met command.now facts.now.pending ≡ None →
+        IsReady (holds store.new) (has_room store.new) (size_of store.new) command.now (data_of command.now bytes.now) }
+    ensures asked { result ≢ Full → met command.now facts.now.pending ≡ None →
+        IsReady (is_coming store.new) (has_room store.new) (size_of store.new) command.now (data_of command.now bytes.now) }
+    ensures idle { needs (size_of store.old) command.now ≡ false → result ≡ Ready }
+    ensures blocks { (b : ℕ) → blocks_of store.new b ≡ blocks_of store.old b }
+    ensures size { size_of store.new ≡ size_of store.old }
+    ensures storage { storage_of store.new ≡ storage_of store.old }
+{
+    let own = pages_of(command);
+    let first = match *oldest {
+        Some(other) => other.pages,
+        None => own,
+    };
+    let spared = [own, first];
+    let readiness = make_ready_in_turns(
+        facts,
+        store,
+        command,
+        bytes,
+        &spared,
+        MOST_TIMES,
+        FIRST_PAGES,
+    );
+    if readiness == Readiness::Ready {
+        forget(oldest, ticket);
+    } else if oldest.is_none() {
+        *oldest = Some(OldestWaiting { ticket, pages: own });
+    }
+    readiness
+}
+
+/// Forgets that the command of a ticket waits for pages, since it runs or its task leaves.
+#[inline(always)]
+pub(crate) fn forget(oldest: &mut Option<OldestWaiting>, ticket: Ticket) {
+    if let Some(own) = *oldest {
+        if own.ticket == ticket {
+            *oldest = None;
+        }
+    }
+}
