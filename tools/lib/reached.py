@@ -12,7 +12,7 @@ from clauses import NAME, Source
 from definitions import CRATES, Definition, Specs
 
 # The crates whose clauses are promises: the device, its hosts and their threads, the library for C, memory that a guest writes.
-SURFACE = ("world", "workers", "close_audit", "lock_scopes", "worker_steps", "vscsi_c", "live_mem", "host_bus")
+SURFACE = ("world", "workers", "close_audit", "lock_scopes", "worker_steps", "c_calls", "vscsi_c", "live_mem", "host_bus")
 
 # The crates of which no device has all yet: no unit's disk is backed. Nothing is said of the sides of their definitions.
 AHEAD = ("backed_store", "shared_trace", "host_trace")

@@ -2,21 +2,15 @@
 //! `Device` that C made of zeros or that a call left, and room where a call writes.
 
 ghost use Rattle.std.specs.Prelude.{◌≡◌};
-ghost use Rattle.vscsi_c.specs.Answers.{Tells};
-ghost use Rattle.vscsi_c.specs.Kept.{kept_in, disk_at, disks_at};
-ghost use Rattle.vscsi_c.specs.Calls.{Serving, Settles, ServesPortion, Pokes, Peeks, Owes, IsStatus, Breaks, Counts, Resets, Resizes, Holds, Gives, Creates, Destroys};
-ghost use Rattle.vscsi_c.specs.Changes.{TellsChanges};
-ghost use Rattle.vscsi_c.specs.Counts.{TellsCounts};
-ghost use Rattle.vscsi_c.specs.Position.{TellsPosition};
-ghost use Rattle.vscsi_c.specs.Disks.{CreatesDisk, DestroysDisk, OnDisk, HasBlocks, LoadsBlocks, Saves, CreatesOver, Closes};
+ghost use Rattle.c_calls.specs.Answers.{Tells};
+ghost use Rattle.c_calls.specs.Kept.{kept_in, disk_at, disks_at};
+ghost use Rattle.c_calls.specs.Calls.{Serving, Settles, ServesPortion, Pokes, Peeks, Owes, IsStatus, Breaks, Counts, Resets, Resizes, Holds, Gives, Creates, Destroys};
+ghost use Rattle.c_calls.specs.Changes.{TellsChanges};
+ghost use Rattle.c_calls.specs.Counts.{TellsCounts};
+ghost use Rattle.c_calls.specs.Position.{TellsPosition};
+ghost use Rattle.c_calls.specs.Disks.{CreatesDisk, DestroysDisk, OnDisk, HasBlocks, LoadsBlocks, Saves, CreatesOver, Closes};
 
-use crate::counts::UnitCounts;
-use crate::device::Device;
-use crate::disk::Disk;
-use crate::live_wanted::RingPosition;
-use crate::ranges::{BlockRange, Told};
-use crate::wanted::{Fault, WantedQueue, WantedUnit};
-use crate::{calls, disks, handing};
+use c_calls::{BlockRange, Device, Disk, Fault, RingPosition, Told, UnitCounts, WantedQueue, WantedUnit, calls, disks, handing};
 use std::alloc::Global;
 
 /// Makes a device where there is none.

@@ -1,20 +1,13 @@
 //! The exports for a device on live memory, which C calls: each is one call, and its answer's number.
 
 ghost use Rattle.std.specs.Prelude.{◌≡◌, is_some};
-ghost use Rattle.vscsi_c.specs.Answers.{Tells};
-ghost use Rattle.vscsi_c.specs.Kept.{live_at, disks_at};
-ghost use Rattle.vscsi_c.specs.LiveAsked.{ServesAskedPortion};
-ghost use Rattle.vscsi_c.specs.Live.{ServingLive, Maps, AsksDriver, ServesPortion, Owes, IsStatus, Breaks, Resets, Resizes, Holds, Gives, TellsCounts, TellsPosition, TellsChanges, CreatesLive, DestroysLive};
-ghost use Rattle.vscsi_c.specs.LiveDisks.{CreatesLiveOver, ClosesLive};
+ghost use Rattle.c_calls.specs.Answers.{Tells};
+ghost use Rattle.c_calls.specs.Kept.{live_at, disks_at};
+ghost use Rattle.c_calls.specs.LiveAsked.{ServesAskedPortion};
+ghost use Rattle.c_calls.specs.Live.{ServingLive, Maps, AsksDriver, ServesPortion, Owes, IsStatus, Breaks, Resets, Resizes, Holds, Gives, TellsCounts, TellsPosition, TellsChanges, CreatesLive, DestroysLive};
+ghost use Rattle.c_calls.specs.LiveDisks.{CreatesLiveOver, ClosesLive};
 
-use crate::counts::UnitCounts;
-use crate::disk::Disk;
-use crate::live_device::LiveDevice;
-use crate::live_wanted::{RingPosition, WantedRing};
-use crate::ranges::{BlockRange, Told};
-use crate::region::Region;
-use crate::wanted::{Fault, WantedUnit};
-use crate::{live_calls, live_handing};
+use c_calls::{BlockRange, Disk, Fault, LiveDevice, Region, RingPosition, Told, UnitCounts, WantedRing, WantedUnit, live_calls, live_handing};
 use std::alloc::Global;
 
 /// Returns true if there is a device.

@@ -1,0 +1,15 @@
+use Rattle.std.proofs.Common.{◌≡◌, ◌<◌, ℕ, length, Some}
+use Rattle.std.specs.Prelude.{slice_get, Option}
+use Rattle.backed_store.specs.declared.disk.Disk.{Disk as UnitDisk}
+use Rattle.request_intake.specs.declared.inventory.UnitSpec.{UnitSpec}
+use Rattle.c_calls.specs.Disks.{Fits}
+use Rattle.c_calls.specs.Kept.{disks_at}
+use Rattle.c_calls.proofs.handing.lacking.Given as goal
+
+abbrev pub invariant-loop-place : goal.invariant-loop-place
+invariant-loop-place l =
+    record {
+      fit : (k : ℕ) (u : UnitSpec) (disk : Option UnitDisk) → k < l.place → slice_get l.units k ≡ Some u
+          → slice_get (disks_at l.disks) k ≡ Some disk → Fits u disk;
+      all : l.place-end ≡ length l.disks;
+    }
