@@ -222,13 +222,7 @@ pub fn reset(device: &mut Device, alloc: Global, target: u8, lun: u16) -> Answer
 
 /// Resizes a unit for the operator.
 #[tactic(auto, using(crate::proofs::Serve::serving, crate::proofs::Serve::without))]
-pub fn resize(
-    device: &mut Device,
-    alloc: Global,
-    target: u8,
-    lun: u16,
-    blocks: u64,
-) -> Answer
+pub fn resize(device: &mut Device, alloc: Global, target: u8, lun: u16, blocks: u64) -> Answer
     ensures { Serving (Resizes target lun blocks) (Unit {0}) (kept_in device.old) result (kept_in device.new) }
 {
     let Some(mut served) = device.take(alloc) else {

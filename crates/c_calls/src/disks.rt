@@ -156,13 +156,7 @@ pub fn load(disk: &mut Disk, alloc: Global, first: u64, count: u32, bytes: &[u8]
 
 /// Copies blocks of a disk out.
 #[tactic(auto, using(crate::proofs::Serve::handling, crate::proofs::Serve::without_disk))]
-pub fn save(
-    disk: &mut Disk,
-    alloc: Global,
-    first: u64,
-    count: u32,
-    into: &mut [u8],
-) -> Answer
+pub fn save(disk: &mut Disk, alloc: Global, first: u64, count: u32, into: &mut [u8]) -> Answer
     ensures { OnDisk (Saves first count into.old into.new) (into.new ≡ into.old) (disk_at disk.old) result
         (disk_at disk.new) }
 {

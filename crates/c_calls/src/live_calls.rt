@@ -200,13 +200,7 @@ pub fn reset(device: &mut LiveDevice, alloc: Global, target: u8, lun: u16) -> An
 
 /// Resizes a unit for the operator.
 #[tactic(auto, using(crate::proofs::LiveServe::serving, crate::proofs::LiveServe::without))]
-pub fn resize(
-    device: &mut LiveDevice,
-    alloc: Global,
-    target: u8,
-    lun: u16,
-    blocks: u64,
-) -> Answer
+pub fn resize(device: &mut LiveDevice, alloc: Global, target: u8, lun: u16, blocks: u64) -> Answer
     ensures { ServingLive (Resizes target lun blocks) (Unit {0}) (live_at device.old) result (live_at device.new) }
 {
     let Some(mut served) = device.take(alloc) else {

@@ -10,7 +10,10 @@ ghost use Rattle.c_calls.specs.Counts.{TellsCounts};
 ghost use Rattle.c_calls.specs.Position.{TellsPosition};
 ghost use Rattle.c_calls.specs.Disks.{CreatesDisk, DestroysDisk, OnDisk, HasBlocks, LoadsBlocks, Saves, CreatesOver, Closes};
 
-use c_calls::{BlockRange, Device, Disk, Fault, RingPosition, Told, UnitCounts, WantedQueue, WantedUnit, calls, disks, handing};
+use c_calls::{
+    BlockRange, Device, Disk, Fault, RingPosition, Told, UnitCounts, WantedQueue, WantedUnit,
+    calls, disks, handing,
+};
 use std::alloc::Global;
 
 /// Makes a device where there is none.

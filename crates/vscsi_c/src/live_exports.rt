@@ -7,7 +7,10 @@ ghost use Rattle.c_calls.specs.LiveAsked.{ServesAskedPortion};
 ghost use Rattle.c_calls.specs.Live.{ServingLive, Maps, AsksDriver, ServesPortion, Owes, IsStatus, Breaks, Resets, Resizes, Holds, Gives, TellsCounts, TellsPosition, TellsChanges, CreatesLive, DestroysLive};
 ghost use Rattle.c_calls.specs.LiveDisks.{CreatesLiveOver, ClosesLive};
 
-use c_calls::{BlockRange, Disk, Fault, LiveDevice, Region, RingPosition, Told, UnitCounts, WantedRing, WantedUnit, live_calls, live_handing};
+use c_calls::{
+    BlockRange, Disk, Fault, LiveDevice, Region, RingPosition, Told, UnitCounts, WantedRing,
+    WantedUnit, live_calls, live_handing,
+};
 use std::alloc::Global;
 
 /// Returns true if there is a device.
