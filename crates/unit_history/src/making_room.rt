@@ -21,6 +21,9 @@ const FIRST_PAGES: u32 = 64;
 /// The number of times that pages go for one command: 32,704 pages in all, more than any command needs.
 const MOST_TIMES: u32 = 9;
 
+/// The most blocks that a GET LBA STATUS looks at.
+const MOST_LOOKED_AT: u64 = 2_048;
+
 /// The command that has waited for the longest of those of its unit that wait for pages. Its pages stay in memory once they
 /// are there, so that it runs once all are, whatever the others ask for.
 #[derive(Clone, Copy)]
@@ -29,9 +32,12 @@ pub(crate) struct OldestWaiting {
     pub(crate) ticket: Ticket,
     /// Its pages.
     pub(crate) pages: PageRange,
+    /// True if no room was found for all of them. Then no page goes for another command, since each that came in its place
+    /// would be one that can't go.
+    pub(crate) is_short: bool,
 }
 
-/// Returns the pages of a command's range of blocks; none of a command that has no range, or several.
+/// Returns the pages of a command's range of blocks, or of more; none of a command that has no range, or several.
 fn pages_of(command: &Command) -> PageRange {
     let (lba, blocks) = match *command {
         Command::Read { lba, blocks } | Command::Write { lba, blocks } => (lba, u64::from(blocks)),
@@ -40,6 +46,7 @@ fn pages_of(command: &Command) -> PageRange {
         Command::Wide(WideCommand::Verify { blocks, lba, .. }) => (lba, u64::from(blocks)),
         Command::Wide(WideCommand::OrWrite { blocks, lba }) => (lba, u64::from(blocks)),
         Command::Wide(WideCommand::WriteZeros { blocks, lba }) => (lba, u64::from(blocks)),
+        Command::Wide(WideCommand::GetLbaStatus { lba, .. }) => (lba, MOST_LOOKED_AT),
         _ => (0, 0),
     };
     PageRange {
@@ -108,6 +115,15 @@ fn make_ready_in_turns(
     make_ready_in_turns(facts, store, command, bytes, spared, times - 1, twice)
 }
 
+/// Returns how many times pages may go for the command of a ticket. None does while another has waited for longer that found
+/// no room for all of its pages, or whose pages aren't known.
+fn times_of(oldest: &Option<OldestWaiting>, ticket: Ticket) -> u32 {
+    match oldest {
+        Some(other) if other.ticket != ticket && (other.is_short || other.pages.count == 0) => 0,
+        _ => MOST_TIMES,
+    }
+}
+
 /// Makes a disk ready for the command of a ticket as [`make_ready`] does. Where there is no room for its pages, others go: not
 /// those of the command that has waited for the longest. The first that waits is that one, until it runs or its task leaves.
 #[inline(never)]
@@ -135,21 +151,31 @@ pub(crate) fn make_ready_for(
         None => own,
     };
     let spared = [own, first];
-    let readiness = make_ready_in_turns(
-        facts,
-        store,
-        command,
-        bytes,
-        &spared,
-        MOST_TIMES,
-        FIRST_PAGES,
-    );
+    let times = times_of(oldest, ticket);
+    let readiness = make_ready_in_turns(facts, store, command, bytes, &spared, times, FIRST_PAGES);
     if readiness == Readiness::Ready {
         forget(oldest, ticket);
-    } else if oldest.is_none() {
-        *oldest = Some(OldestWaiting { ticket, pages: own });
+    } else {
+        note_waiting(
+            oldest,
+            OldestWaiting {
+                ticket,
+                pages: own,
+                is_short: readiness == Readiness::Full,
+            },
+        );
     }
     readiness
+}
+
+/// Notes that a command waits, if it has waited for the longest, or none has.
+fn note_waiting(oldest: &mut Option<OldestWaiting>, own: OldestWaiting) {
+    if let Some(other) = *oldest {
+        if other.ticket != own.ticket {
+            return;
+        }
+    }
+    *oldest = Some(own);
 }
 
 /// Forgets that the command of a ticket waits for pages, since it runs or its task leaves.
