@@ -1,6 +1,7 @@
 //! Pages that go from memory, so that those of a command find room there.
 
-ghost use Rattle.std.specs.Prelude.{◌≡◌, ◌≢◌, ◌≤◌, ℕ, false, None, IsTrue, length};
+ghost use Rattle.std.specs.Prelude.{◌≡◌, ◌≢◌, ◌≤◌, ℕ, true, false, None, IsTrue, length};
+ghost use Rattle.command_model.specs.Capacity.{is_in_range};
 ghost use Rattle.cdb.specs.Need.{need_of};
 ghost use Rattle.command_model.specs.Attention.{met};
 ghost use Rattle.command_model.specs.Waiting.{needs};
@@ -11,7 +12,7 @@ ghost use Rattle.command_model.specs.Data.{data_of};
 
 use backed_store::{Disk, PAGE_BLOCKS, PageRange};
 use block_commands::{UnitFacts, make_ready};
-use block_store::Readiness;
+use block_store::{Readiness, Store};
 use cdb::{Command, WideCommand};
 use ring_core::Ticket;
 
@@ -24,6 +25,9 @@ const MOST_TIMES: u32 = 9;
 /// The most blocks that a GET LBA STATUS looks at.
 const MOST_LOOKED_AT: u64 = 2_048;
 
+/// The bytes of the parameter list of an UNMAP of one extent.
+const ONE_EXTENT_BYTES: usize = 24;
+
 /// The command that has waited for the longest of those of its unit that wait for pages. Its pages stay in memory once they
 /// are there, so that it runs once all are, whatever the others ask for.
 #[derive(Clone, Copy)]
@@ -32,17 +36,33 @@ pub(crate) struct OldestWaiting {
     pub(crate) ticket: Ticket,
     /// Its pages.
     pub(crate) pages: PageRange,
-    /// True if no room was found for all of them. Then no page goes for another command, since each that came in its place
-    /// would be one that can't go.
+    /// True if no room was found for all of them. Then no other command asks for pages: those that came in place of what
+    /// went couldn't go again at once, and the next command would ask before this one.
     pub(crate) is_short: bool,
 }
 
-/// Returns the pages of a command's range of blocks, or of more; none of a command that has no range, or several.
-fn pages_of(command: &Command) -> PageRange {
+/// Returns a range of blocks that has those of an UNMAP of one extent; none of one that has several.
+fn extent_of(list: &[u8]) -> (u64, u64) {
+    if list.len() != ONE_EXTENT_BYTES {
+        return (0, 0);
+    }
+    let mut lba = [0; 8];
+    let mut blocks = [0; 4];
+    lba.copy_from_slice(&list[8..16]);
+    blocks.copy_from_slice(&list[16..20]);
+    (
+        u64::from_be_bytes(lba),
+        u64::from(u32::from_be_bytes(blocks)),
+    )
+}
+
+/// Returns the pages of a command's range of blocks, or more; none of a command that has no range, or several.
+fn pages_of(command: &Command, bytes: &[u8]) -> PageRange {
     let (lba, blocks) = match *command {
         Command::Read { lba, blocks } | Command::Write { lba, blocks } => (lba, u64::from(blocks)),
         Command::WriteSame { lba, blocks } => (lba, u64::from(blocks)),
         Command::CompareAndWrite { lba, blocks } => (lba, u64::from(blocks)),
+        Command::Unmap { .. } => extent_of(bytes),
         Command::Wide(WideCommand::Verify { blocks, lba, .. }) => (lba, u64::from(blocks)),
         Command::Wide(WideCommand::OrWrite { blocks, lba }) => (lba, u64::from(blocks)),
         Command::Wide(WideCommand::WriteZeros { blocks, lba }) => (lba, u64::from(blocks)),
@@ -51,7 +71,39 @@ fn pages_of(command: &Command) -> PageRange {
     };
     PageRange {
         first: lba / PAGE_BLOCKS,
-        count: (lba % PAGE_BLOCKS + blocks).div_ceil(PAGE_BLOCKS),
+        count: (lba % PAGE_BLOCKS)
+            .saturating_add(blocks)
+            .div_ceil(PAGE_BLOCKS),
+    }
+}
+
+/// Returns true if a range of blocks lies below a capacity.
+fn is_inside(capacity: u64, lba: u64, blocks: u64) -> bool
+    ensures { result ≡ is_in_range capacity lba blocks }
+{
+    lba <= capacity && blocks <= capacity - lba
+}
+
+/// Returns true of commands that need blocks of a disk of so many: of most that do.
+fn needs_blocks(capacity: u64, command: &Command) -> bool
+    ensures { IsTrue result → needs capacity command.now ≡ true }
+{
+    match *command {
+        Command::Read { lba, blocks } => is_inside(capacity, lba, u64::from(blocks)),
+        Command::Write { lba, blocks } => is_inside(capacity, lba, u64::from(blocks)),
+        Command::WriteSame { lba, blocks } => is_inside(capacity, lba, u64::from(blocks)),
+        Command::CompareAndWrite { lba, blocks } => is_inside(capacity, lba, u64::from(blocks)),
+        Command::Unmap { .. } => true,
+        Command::Wide(WideCommand::Verify { blocks, lba, .. }) => {
+            is_inside(capacity, lba, u64::from(blocks))
+        }
+        Command::Wide(WideCommand::OrWrite { blocks, lba }) => {
+            is_inside(capacity, lba, u64::from(blocks))
+        }
+        Command::Wide(WideCommand::WriteZeros { blocks, lba }) => {
+            is_inside(capacity, lba, u64::from(blocks))
+        }
+        _ => false,
     }
 }
 
@@ -115,12 +167,12 @@ fn make_ready_in_turns(
     make_ready_in_turns(facts, store, command, bytes, spared, times - 1, twice)
 }
 
-/// Returns how many times pages may go for the command of a ticket. None does while another has waited for longer that found
-/// no room for all of its pages, or whose pages aren't known.
-fn times_of(oldest: &Option<OldestWaiting>, ticket: Ticket) -> u32 {
+/// Returns true if the command of a ticket asks for no pages yet: another has waited for longer, and found no room for all of
+/// its pages, or these aren't known.
+fn is_behind(oldest: &Option<OldestWaiting>, ticket: Ticket) -> bool {
     match oldest {
-        Some(other) if other.ticket != ticket && (other.is_short || other.pages.count == 0) => 0,
-        _ => MOST_TIMES,
+        Some(other) => other.ticket != ticket && (other.is_short || other.pages.count == 0),
+        None => false,
     }
 }
 
@@ -145,14 +197,24 @@ pub(crate) fn make_ready_for(
     ensures size { size_of store.new ≡ size_of store.old }
     ensures storage { storage_of store.new ≡ storage_of store.old }
 {
-    let own = pages_of(command);
+    if is_behind(oldest, ticket) && needs_blocks(store.capacity(), command) {
+        return Readiness::Full;
+    }
+    let own = pages_of(command, bytes);
     let first = match *oldest {
         Some(other) => other.pages,
         None => own,
     };
     let spared = [own, first];
-    let times = times_of(oldest, ticket);
-    let readiness = make_ready_in_turns(facts, store, command, bytes, &spared, times, FIRST_PAGES);
+    let readiness = make_ready_in_turns(
+        facts,
+        store,
+        command,
+        bytes,
+        &spared,
+        MOST_TIMES,
+        FIRST_PAGES,
+    );
     if readiness == Readiness::Ready {
         forget(oldest, ticket);
     } else {

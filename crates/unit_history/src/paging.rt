@@ -39,8 +39,8 @@ impl UnitState {
     }
 
     /// Gives the host the next page that it is to write to its storage, as the unit's blocks are now. The host says by
-    /// [`UnitState::written`] what became of it. `None` where it has each such page already. `NoMemory` where memory was
-    /// refused.
+    /// [`UnitState::written`] what became of it. `None` where it has each such page already. Then commands that wait may be
+    /// tried again, since room that was made for a change and isn't used is free. `NoMemory` where memory was refused.
     pub fn give(&mut self) -> Result<Option<GivenPage>, NoMemory>
         ensures may { IfOk result (λ given. IfSome given (λ g. MayDeal self.old (Dealing.Give g.page g.bytes.items))) }
         ensures given { IfOk result (λ given. IfSome given (λ g. self.new ≡ dealing (Dealing.Give g.page g.bytes.items) self.old)) }

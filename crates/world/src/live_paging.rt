@@ -45,7 +45,8 @@ impl<M: WritableMemory> LiveWorld<M> {
     }
 
     /// Gives the host the next page that it is to write to the storage of the unit at a place, as the unit's blocks are now.
-    /// The host says by [`LiveWorld::written`] what became of it. `None` where it has each such page already. `NoMemory` where
+    /// The host says by [`LiveWorld::written`] what became of it. `None` where it has each such page already. Then a Wake has
+    /// the commands that wait tried again, since room that was made for a change and isn't used is free. `NoMemory` where
     /// memory was refused.
     pub fn give(&mut self, place: u16) -> Result<Option<GivenPage>, NoMemory>
         ensures memory { self.new.memory ≡ self.old.memory }
