@@ -122,6 +122,14 @@ def check(crate, texts, paths):
     """Checks a copy of a crate with these texts, these functions alone or the whole: the status, and the lines. A check of the
     whole goes on from what an `rt check` of the crate left in its out/incremental, if it did.
     """
+    kept = ROOT / "crates" / crate / "out/incremental"
+    if paths or not kept.is_dir():
+        return checked(crate, texts, [word for path in paths for word in ("--only", path)])
+    return checked(crate, texts, ["--incremental", "incremental"], kept)
+
+
+def checked(crate, texts, flags, kept=None):
+    """Checks a copy of a crate with these texts and flags, and with this folder beside it, if one is named."""
     sys.path.insert(0, str(kit() / "bin"))
     import rtlib
 
@@ -133,12 +141,9 @@ def check(crate, texts, paths):
                 shutil.copytree(ROOT / "crates" / crate / part, Path(room) / part)
         for path, (_, text) in texts.items():
             (Path(room) / path).write_text(text)
-        only = [word for path in paths for word in ("--only", path)]
-        kept = ROOT / "crates" / crate / "out/incremental"
-        if not paths and kept.is_dir():
-            shutil.copytree(kept, Path(room) / "incremental")
-            only = ["--incremental", "incremental"]
-        run = subprocess.run([rtlib.RATTLE, "check", *words, *only], cwd=room, stdin=subprocess.DEVNULL, stdout=subprocess.PIPE, stderr=subprocess.STDOUT, text=True, errors="replace")
+        if kept:
+            shutil.copytree(kept, Path(room) / kept.name)
+        run = subprocess.run([rtlib.RATTLE, "check", *words, *flags], cwd=room, stdin=subprocess.DEVNULL, stdout=subprocess.PIPE, stderr=subprocess.STDOUT, text=True, errors="replace")
     return run.returncode, run.stdout.splitlines()
 
 
@@ -237,6 +242,18 @@ def tried_together(group):
         return {**tried_together(group[:half]), **tried_together(group[half:])}
     own = {edit: [line for path in paths[edit] for line in said.get(path, [])] for edit in group}
     return {edit: refused_by(own[edit]) if own[edit] else tried(edit) for edit in group}
+
+
+def unread(group):
+    """The edits of a group that the compiler refuses, each with its first error. Nothing is proved."""
+    crate, texts = group[0].parent.parent, [applied(edit)[0] for edit in group]
+    # No function has this name, so the check ends behind the compiler's front end.
+    _, lines = checked(crate.name, merged(texts), ["--start", "no function"])
+    errors = [line for line in lines if re.match(r"src/\S+: error\[", line)]
+    if not errors or len(group) == 1:
+        return {group[0]: errors[0]} if errors else {}
+    half = len(group) // 2
+    return {**unread(group[:half]), **unread(group[half:])}
 
 
 SELF_TEST = """\
