@@ -129,14 +129,14 @@ static void note_disk(struct device *device, struct disk *disk, struct noted *no
   struct vscsi_counts counts = noted->counts, before = counts;
   size_t count = 0;
   bool all = true, counted = device_counts(device, disk->target, disk->lun, &counts);
-  // Of a command that neither took data nor was refused nothing is told.
-  bool is_same = counted && counts.data_out == before.data_out;
+  // A command that ends with GOOD may have changed blocks, also where it took no data, as FORMAT UNIT does.
+  bool is_same = counted && counts.good == before.good;
   if (is_same && counts.check_conditions == before.check_conditions && counts.busy == before.busy) return;
   bool told = device_changed(device, disk->target, disk->lun, &noted->place, ranges, &count, &all);
   noted->counts = counts;
-  // A command that doesn't end with GOOD takes none, and changes no block, whichever blocks it names.
+  // A command that doesn't end with GOOD changes no block, whichever blocks it names.
   if (told && is_same) return;
-  // Of the commands that change blocks UNMAP alone takes bytes that aren't whole blocks: 8, and 16 for each range.
+  // Of the commands that change blocks two alone take bytes that aren't whole blocks: UNMAP, and FORMAT UNIT with a list.
   bool unmaps = (counts.data_out - before.data_out) % DEVICE_BLOCK;
   if (!told || all) note(&disk->backlog, (struct vscsi_range){0, disk->blocks});
   for (size_t r = 0; told && !all && r < count; r++) {

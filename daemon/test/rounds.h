@@ -23,6 +23,9 @@ void test_abandoned(void);
 // Zeros that are written, and blocks that are unmapped, on files that have the word detect-zeroes=unmap or not.
 void test_zeros(void);
 
+// FORMAT UNIT and WRITE SAME that take no data: the file has their zeros before they are answered.
+void test_formatted(void);
+
 // A queue that is refilled whenever it is served, beside one with a request.
 void test_turns(void);
 

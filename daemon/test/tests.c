@@ -333,7 +333,7 @@ int main(int count, char **words) {
                {"shared", test_shared}, {"cuts", test_cuts}, {"fields", test_fields}, {"rings", test_rings},
                {"scattered", test_scattered}, {"slow", test_slow}, {"full", test_full}, {"crowded", test_crowded},
                {"forgetful", test_forgetful},
-               {"abandoned", test_abandoned}, {"zeros", test_zeros}, {"turns", test_turns}, {"order of control", test_order_of_control},
+               {"abandoned", test_abandoned}, {"zeros", test_zeros}, {"formatted", test_formatted}, {"turns", test_turns}, {"order of control", test_order_of_control},
                {"costs", test_costs},
                {"stops", test_stops}, {"enabled", test_enabled}, {"held", test_held}, {"stopped", test_stopped}, {"unasked", test_unasked}, {"killed", test_killed}, {"waiting", test_waiting},
                {"moved", test_moved}, {"slots", test_slots}, {"regions", test_regions}, {"short", test_short},
