@@ -230,6 +230,8 @@ bool queue_set_call(struct session *session, struct message *message) {
   if (!with_descriptor(session, message, &q, &fd)) return false;
   forget(&session->queues[q].call);
   session->queues[q].call = fd;
+  // Answers that were shown before told the descriptor before it, or none. With event indices those behind them may tell nobody.
+  if (session->queues[q].started) signal_fd(fd);
   return true;
 }
 

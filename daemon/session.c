@@ -326,9 +326,9 @@ static bool is_whole(bool stands) {
 
 bool session_read(struct session *session) { return is_whole(read_on(session)); }
 
-// Adds to an event's count. A front end may have made its descriptor one that waits, so a count that is full is left alone: it
-// hasn't looked yet. Between the two calls none but that front end could fill it.
-static void signal_fd(int fd) {
+// A front end may have made its descriptor one that waits, so a count that is full is left alone: it hasn't looked yet. Between the two
+// calls none but that front end could fill it.
+void signal_fd(int fd) {
   const uint64_t one = 1;
   struct pollfd asked = {.fd = fd, .events = POLLOUT};
   if (fd < 0 || poll(&asked, 1, 0) < 1 || !(asked.revents & POLLOUT)) return;

@@ -317,6 +317,35 @@ void test_pipes(void) {
   }
 }
 
+void test_called(void) {
+  static const struct part parts[] = {{0x200000, 51, false}, {0x201000, 108, true}};
+  for (unsigned number = 0; number < WAYS; number++) {
+    struct disks disks;
+    struct front front;
+    struct sent sent;
+    uint32_t length;
+    int other = eventfd(0, EFD_NONBLOCK | EFD_CLOEXEC);
+    begin(&front, &disks, number);
+    front_agree(&front);
+    MUST(is_ready(&front, 3));
+    // A request is answered while there is nobody to be told.
+    front_descriptor(&sent, SET_VRING_CALL, 3, -1);
+    MUST(front_ask(&front, &sent));
+    put_request(&front, 0x200000, ready, sizeof ready);
+    driver_put(&front, 3, parts, 2);
+    driver_kick(&front, 3);
+    pump(&front);
+    front_descriptor(&sent, SET_VRING_CALL, 3, other);
+    MUST(front_ask(&front, &sent) && has_more(other) && driver_next(&front, 3, 2, &length));
+    // A queue that isn't started has no answers.
+    MUST(eventfd_read(other, &(eventfd_t){0}) == 0);
+    front_stop(&front, 3);
+    MUST(front_ask(&front, &sent) && !has_more(other));
+    close(other);
+    end(&front, &disks);
+  }
+}
+
 // Makes a descriptor that the daemon has too one that waits.
 static void make_wait(int fd) { MUST(!fcntl(fd, F_SETFL, fcntl(fd, F_GETFL) & ~O_NONBLOCK)); }
 

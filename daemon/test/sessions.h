@@ -26,6 +26,9 @@ void test_kicks(void);
 // Eventfds that are read as a queue stops, and pipes that are read as they kick.
 void test_pipes(void);
 
+// A call's descriptor that comes behind answers: it is told of them.
+void test_called(void);
+
 // Descriptors of which the front end has the daemon's reads and writes wait.
 void test_waits(void);
 

@@ -337,7 +337,7 @@ int main(int count, char **words) {
                {"costs", test_costs},
                {"stops", test_stops}, {"enabled", test_enabled}, {"held", test_held}, {"stopped", test_stopped}, {"unasked", test_unasked}, {"killed", test_killed}, {"waiting", test_waiting},
                {"moved", test_moved}, {"slots", test_slots}, {"regions", test_regions}, {"short", test_short},
-               {"forms", test_forms}, {"stale", test_stale}, {"kicks", test_kicks}, {"pipes", test_pipes}, {"waits", test_waits}, {"reset", test_reset},
+               {"forms", test_forms}, {"stale", test_stale}, {"kicks", test_kicks}, {"pipes", test_pipes}, {"called", test_called}, {"waits", test_waits}, {"reset", test_reset},
                {"refused", test_refused}, {"endless", test_endless}, {"polls", test_polls}, {"windows", test_windows}, {"disabled", test_disabled}, {"replaced", test_replaced}, {"late", test_late}, {"interrupted", test_interrupted},
                {"status", test_status}, {"logged", test_logged}, {"logged elsewhere", test_logged_elsewhere},
                {"logs change", test_logs_change}, {"logged behind", test_logged_behind}, {"wrong logs", test_wrong_logs}};
