@@ -8,6 +8,9 @@ void test_moved(void);
 // Regions that are added and removed one by one, up to the most there may be.
 void test_slots(void);
 
+// A ring whose region goes and doesn't come again: the others go on once it is stopped, or all are reset.
+void test_torn(void);
+
 // Regions that aren't aligned, and one at the end of all addresses.
 void test_regions(void);
 

@@ -336,7 +336,7 @@ int main(int count, char **words) {
                {"abandoned", test_abandoned}, {"zeros", test_zeros}, {"formatted", test_formatted}, {"turns", test_turns}, {"order of control", test_order_of_control},
                {"costs", test_costs},
                {"stops", test_stops}, {"enabled", test_enabled}, {"held", test_held}, {"stopped", test_stopped}, {"unasked", test_unasked}, {"killed", test_killed}, {"waiting", test_waiting},
-               {"moved", test_moved}, {"slots", test_slots}, {"regions", test_regions}, {"short", test_short},
+               {"moved", test_moved}, {"slots", test_slots}, {"torn", test_torn}, {"regions", test_regions}, {"short", test_short},
                {"forms", test_forms}, {"stale", test_stale}, {"kicks", test_kicks}, {"pipes", test_pipes}, {"called", test_called}, {"waits", test_waits}, {"reset", test_reset},
                {"refused", test_refused}, {"endless", test_endless}, {"polls", test_polls}, {"windows", test_windows}, {"disabled", test_disabled}, {"replaced", test_replaced}, {"late", test_late}, {"interrupted", test_interrupted},
                {"status", test_status}, {"logged", test_logged}, {"logged elsewhere", test_logged_elsewhere},
