@@ -43,6 +43,12 @@ bool blocks_load(struct disks *disks, char *why, size_t room) {
   return true;
 }
 
+bool blocks_are_lost(const struct disks *disks) {
+  for (size_t i = 0; disks->lost && i < disks->count; i++)
+    if (disks->disks[i].file < 0 && !store_stands(&disks->stores[i])) return true;
+  return false;
+}
+
 static bool is_kept(const struct disk *disk) { return disk->file >= 0 && !disk->read_only; }
 
 bool blocks_are_kept(const struct disks *disks) {

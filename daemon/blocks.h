@@ -12,6 +12,9 @@
 // Makes the blocks of each disk that has none in memory, from its file. Returns false, and says why, where it couldn't.
 bool blocks_load(struct disks *disks, char *why, size_t room);
 
+// Returns whether a disk in memory was lost for want of memory, so that it can't be made by a later call either.
+bool blocks_are_lost(const struct disks *disks);
+
 // Returns whether a disk has a file that is written.
 bool blocks_are_kept(const struct disks *disks);
 

@@ -158,6 +158,30 @@ void test_abandoned(void) {
   }
 }
 
+void test_unloaded(void) {
+  for (unsigned number = 0; number < WAYS; number++) {
+    struct disks disks;
+    struct front front;
+    load_make(&disks, "64G", "");
+    load_begin(&front, &disks, number);
+    put_writes(&front, 1);
+    MUST(await(&front, Q, 1, PATIENCE) == 1 && has(0, 0, false));
+    front_end(&front);
+    // As where the operator gave it another size meanwhile.
+    store_drop(&disks.stores[0]);
+    load_begin(&front, &disks, number);
+    faults.loads = 2;
+    put_write(&front, Q, 1, APART);
+    driver_kick(&front, Q);
+    for (unsigned i = 0; i < 3; i++) {
+      pump(&front);
+      pass(&front, 5);
+    }
+    MUST(await(&front, Q, 1, PATIENCE) == 1 && !faults.loads && is_good(&front, 1) && has(1, APART, false) && has(0, 0, false));
+    load_end(&front, &disks);
+  }
+}
+
 // Has the session run one request, and returns how many blocks the file system has for the file then.
 static blkcnt_t room_behind(struct front *front) {
   struct stat stat;
