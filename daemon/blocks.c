@@ -6,10 +6,12 @@
 #include <string.h>
 
 #include "clock.h"
+#include "log.h"
+#include "rare.h"
 
 // How many blocks are moved at once; the ranges that a backlog has room for at the most; and milliseconds, of blocks_keep, of
-// blocks_finish, and between two tries of a file that can't be written.
-enum { CHUNK = 128, MOST_RANGES = 1 << 16, PORTION = 20, LAST_PORTIONS = 1000, LEAST_PAUSE = 50, MOST_PAUSE = 5000 };
+// blocks_finish, between two tries of a file that can't be written, and between two lines that say so.
+enum { CHUNK = 128, MOST_RANGES = 1 << 16, PORTION = 20, LAST_PORTIONS = 1000, LEAST_PAUSE = 50, MOST_PAUSE = 5000, COMPLAINT = 60000 };
 
 static bool load_chunk(struct vscsi_disk *store, const struct disk *disk, uint64_t first, uint32_t count) {
   uint8_t bytes[CHUNK * DEVICE_BLOCK];
@@ -240,6 +242,29 @@ bool blocks_are_stuck(const struct disks *disks) {
   for (size_t i = 0; i < disks->count; i++)
     if (disks->disks[i].error) return true;
   return false;
+}
+
+bool blocks_are_left(const struct disks *disks) {
+  for (size_t i = 0; i < disks->count; i++)
+    if (disks->disks[i].backlog.count) return true;
+  return false;
+}
+
+static RARE void tell(struct disk *disk) {
+  uint64_t now = clock_now();
+  bool is_due = !disk->told || now - disk->told >= COMPLAINT;
+  if (disk->error && is_due) {
+    log_say(LOG_ERROR, disk, "can't be written, and is tried again: %s", strerror(disk->error));
+    disk->told = now;
+  } else if (disk->told && !disk->backlog.count) {
+    log_say(LOG_ERROR, disk, "can be written again");
+    disk->told = 0;
+  }
+}
+
+void blocks_tell(struct disks *disks) {
+  for (size_t i = 0; i < disks->count; i++)
+    if (disks->disks[i].error || disks->disks[i].told) tell(&disks->disks[i]);
 }
 
 uint64_t blocks_due(const struct disks *disks) {

@@ -10,6 +10,7 @@
 #include <sys/stat.h>
 #include <unistd.h>
 
+#include "blocks.h"
 #include "folders.h"
 
 // Where QEMU's locks are (block/file-posix.c): who uses a permission has a byte of the first run locked for reading, and who doesn't
@@ -130,9 +131,7 @@ bool image_resize(struct disk *disk, uint64_t blocks, char *why, size_t room) {
 }
 
 void images_release(struct disks *disks) {
-  bool kept = true;
-  for (size_t i = 0; i < disks->count; i++) kept = kept && !disks->disks[i].backlog.count;
-  if (!disks->moves || !disks->held || !kept) return;
+  if (!disks->moves || !disks->held || blocks_are_left(disks)) return;
   for (size_t i = 0; i < disks->count; i++) {
     store_drop(&disks->stores[i]);
     unlock(&disks->disks[i]);

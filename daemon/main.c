@@ -112,6 +112,25 @@ static void serve_client(struct daemon *daemon) {
   if (!control_serve(&daemon->control, &controlled)) watch(daemon->epoll, daemon->operators.fd, EVENT_CONTROL);
 }
 
+// Writes what devices that ended left to the files, while there is no device, and lets go of the files then. Returns in how many
+// milliseconds it is to be called again, or -1 where nothing is left.
+static int write_rest(struct daemon *daemon) {
+  struct device none = {0};
+  struct disks *disks = &daemon->disks;
+  bool has_device = daemon->connected && daemon->session.backend.device.live;
+  if (has_device || !blocks_are_left(disks)) return -1;
+  enum kept kept = blocks_keep(&none, disks, false);
+  blocks_tell(disks);
+  if (kept == KEEPING) return 0;
+  if (kept == STUCK) {
+    int64_t left = (int64_t)blocks_due(disks) - now();
+    return left > 0 ? (int)left : 1;
+  }
+  if (daemon->connected) session_release(&daemon->session);
+  else images_release(disks);
+  return -1;
+}
+
 // Returns how many milliseconds the front end has left for a message that it owes, or -1 where there is no such limit.
 static int patience(struct daemon *daemon) {
   struct session *session = &daemon->session;
@@ -159,6 +178,8 @@ static bool serve(struct daemon *daemon) {
       end_session(daemon, "it sent half a message, and no more");
       continue;
     }
+    int rest = write_rest(daemon);
+    if (rest >= 0 && (wait < 0 || rest < wait)) wait = rest;
     int count = epoll_wait(daemon->epoll, events, EVENTS, daemon->connected && daemon->session.more ? 0 : wait);
     if (count < 0 && errno != EINTR) return log_say(LOG_ERROR, NULL, "no event can be waited for: %s", strerror(errno)), false;
     if (!take_events(daemon, events, count)) return true;

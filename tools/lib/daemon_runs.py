@@ -752,6 +752,56 @@ def test_killed(room):
         assert (first, second)[i % 2].read_bytes()[4096 * i :][:4096] == bytes([i + 1]) * 4096
 
 
+def has(image, at, data):
+    """Whether a file has these data there."""
+    with image.open("rb") as file:
+        file.seek(at)
+        return file.read(len(data)) == data
+
+
+def test_left(room):
+    """What a front end that went left unwritten reaches the file once that can be written, with no other front end."""
+    image, log = room.folder / "image", room.folder / "log"
+    with room.runs("--log", log, "--disk", f"0:0=16M,file={image}") as run:
+        with FrontEnd(connected(room.socket)) as front:
+            front.write(0, b"a" * 4096)
+            wait_for(lambda: front.answered() == 1, "the first WRITE")
+            limit_files(run, MIB)
+            front.write(8192, b"b" * 4096)
+            wait_for(lambda: "can't be written" in log.read_text(), "a file that can't be written")
+        wait_for(lambda: "the session is over" in log.read_text(), "the end of the session")
+        assert has(image, 4 * MIB, bytes(4096))
+        limit_files(run, resource.RLIM_INFINITY)
+        wait_for(lambda: has(image, 4 * MIB, b"b" * 4096), "the second WRITE")
+        wait_for(lambda: log.read_text().count("can be written again") == 1, "a line that says so")
+
+
+def test_left_by_guest_that_moves(room):
+    """Files that have what a guest left there are let go of, whether its front end is still there or not."""
+    for stays in (True, False):
+        image, log = room.folder / f"image{stays}", room.folder / "log"
+        with room.runs("--log", log, "--disk", f"0:0=16M,file={image}", "--migratable") as run, contextlib.ExitStack() as those:
+            front = those.enter_context(FrontEnd(connected(room.socket)))
+            file = those.enter_context(image.open("rb"))
+            limit_files(run, MIB)
+            front.write(8192, b"b" * 4096)
+            wait_for(lambda: "can't be written" in log.read_text(), "a file that can't be written")  # noqa: B023
+            if stays:
+                assert front.stop() == 0
+            else:
+                front.connection.close()
+                wait_for(lambda: "the session is over" in log.read_text(), "the end of the session")  # noqa: B023
+            assert is_locked(file, 100 + WRITES) and has(image, 4 * MIB, bytes(4096))
+            limit_files(run, resource.RLIM_INFINITY)
+            wait_for(lambda: not is_locked(file, 100 + WRITES), "the file to be let go of")  # noqa: B023
+            assert has(image, 4 * MIB, b"b" * 4096)
+            if stays:
+                # What wasn't answered runs once more.
+                front.start(0)
+                wait_for(lambda: front.answered() == 1, "the WRITE")  # noqa: B023
+        log.unlink()
+
+
 def test_refused_unmap(room):
     """An UNMAP that names more blocks than it may changes nothing, and writes nothing, however large the disk is."""
     image = room.folder / "image"
