@@ -1407,6 +1407,64 @@ def test_migratable(room):
         wait_for(lambda: not is_locked(file, 100 + WRITES), "the end of the session")
 
 
+def test_migratable_grow(room):
+    """A file that another daemon has locked isn't made longer, and one that a start which fails had made longer is as it was."""
+    disk, free, others = room.file("disk.img"), room.file("free.img"), room.folder / "others"
+    words = ["--migratable", "--disk", f"0:0=2M,file={free},grow", "--disk", f"0:1=2M,file={disk},grow"]
+    with room.runs("--disk", f"0:0=1M,file={disk}", "--migratable"), FrontEnd(connected(room.socket)) as front:
+        front.write(0, b"a" * 512)
+        wait_for(lambda: front.answered() == 1, "a WRITE")
+        room.ends("--socket", others, *words, status=1, says="disk.img: in use")
+        assert disk.stat().st_size == MIB and free.stat().st_size == MIB
+        # The guest that has it goes on, as it is as long as it was.
+        assert front.stop() == 1
+        front.start(1)
+        front.read(0, 512)
+        wait_for(lambda: front.answered() == 2, "a READ")
+        assert front.stop() == 2
+        with room.runs(*words, path=others), disk.open("rb") as file:
+            assert disk.stat().st_size == 2 * MIB and free.stat().st_size == 2 * MIB and not is_locked(file, 100 + WRITES)
+
+
+def test_control_migratable(room):
+    """With --migratable only disks that are kept on files are attached, and each is locked where the others are."""
+    if not room.client:
+        return "no libjansson-dev"
+    path, log = room.folder / "control", room.folder / "log"
+    one, two, three = room.file("one.img", 2 * MIB, b"\0"), room.file("two.img"), room.file("three.img")
+
+    def asks(*words, status=0):
+        run = subprocess.run([room.client, path, *words], capture_output=True, text=True)
+        assert run.returncode == status, (words, run.stdout, run.stderr)
+        return run.stdout
+
+    with room.runs("--disk", f"0:0=2M,file={one}", "--migratable", "--control", path, "--log", log) as run, contextlib.ExitStack() as those:
+        files = [those.enter_context(it.open("r+b")) for it in (one, two, three)]
+        for words in ("0:1=1M", f"0:1=file={three},snapshot"):
+            assert "--migratable: each disk" in asks("attach", words, status=1), words
+        fcntl.flock(files[2], fcntl.LOCK_EX)
+        assert "three.img: in use" in asks("attach", f"0:1=2M,file={three},grow", status=1) and three.stat().st_size == MIB
+        fcntl.flock(files[2], fcntl.LOCK_UN)
+        asks("attach", f"0:1=2M,file={three},grow")
+        assert three.stat().st_size == 2 * MIB and not any(is_locked(file, 100 + WRITES) for file in files)
+        with FrontEnd(connected(room.socket)) as front:
+            limit_files(run, MIB)
+            front.write(3000, b"a" * 512)
+            wait_for(lambda: "can't be written" in log.read_text(), "a file that can't be written")
+        wait_for(lambda: "the session is over" in log.read_text(), "the end of the session")
+        # While its files are held so is one that comes, and all are let go of together.
+        asks("attach", f"0:2=1M,file={two}")
+        assert all(is_locked(file, 100 + WRITES) for file in files)
+        limit_files(run, resource.RLIM_INFINITY)
+        wait_for(lambda: not any(is_locked(file, 100 + WRITES) for file in files), "the files to be let go of")
+        assert has(one, 3000 * 512, b"a" * 512)
+        with FrontEnd(connected(room.socket)) as front:
+            front.write(0, b"b" * 512, lun=2)
+            wait_for(lambda: front.answered() == 1, "a WRITE")
+    assert has(two, 0, b"b" * 512)
+    return None
+
+
 SHIM = r"""
 #define _GNU_SOURCE
 #include <errno.h>
