@@ -80,8 +80,11 @@ static bool is_gone(int fd) {
 // Takes a connection, or refuses it: one front end is served at a time.
 static void take_front_end(struct daemon *daemon) {
   struct session *session = &daemon->session;
-  // What a front end sent before it went is read first; the next one waits that long.
-  if (daemon->connected && is_gone(session->socket)) return;
+  if (daemon->connected && is_gone(session->socket)) {
+    // What a front end sent before it went is read first; the next one waits that long. But nobody takes the reply to a message that waits.
+    if (!session->is_waiting) return;
+    end_session(daemon, "the session is over");
+  }
   int fd = accept4(daemon->listener.fd, NULL, NULL, SOCK_CLOEXEC | SOCK_NONBLOCK);
   // Where the system has no descriptor left the connection waits, and so does the daemon.
   if (fd < 0 && errno != EAGAIN && errno != EINTR) poll(NULL, 0, 10);
@@ -107,9 +110,14 @@ static void take_client(struct daemon *daemon) {
   if (daemon->control.client < 0) watch(daemon->epoll, daemon->operators.fd, EVENT_CONTROL);
 }
 
+// Serves the client, or its request that waits. What it sends behind such a request isn't looked at meanwhile.
 static void serve_client(struct daemon *daemon) {
+  struct control *control = &daemon->control;
   const struct controlled controlled = {&daemon->disks, daemon->connected ? &daemon->session : NULL, daemon->sessions};
-  if (!control_serve(&daemon->control, &controlled)) watch(daemon->epoll, daemon->operators.fd, EVENT_CONTROL);
+  bool waited = control->waits, stands = control_serve(control, &controlled);
+  if (stands && control->waits && !waited) epoll_ctl(daemon->epoll, EPOLL_CTL_DEL, control->client, NULL);
+  if (stands && waited && !control->waits && !watch(daemon->epoll, control->client, EVENT_CLIENT)) control_end(control);
+  if (control->client < 0) watch(daemon->epoll, daemon->operators.fd, EVENT_CONTROL);
 }
 
 // Writes what devices that ended left to the files, while there is no device, and lets go of the files then. Returns in how many

@@ -21,7 +21,7 @@ import subprocess
 import time
 from pathlib import Path
 
-from front_end import QUEUE, FrontEnd
+from front_end import GET_VRING_BASE, QUEUE, FrontEnd
 
 DOCS = Path(__file__).resolve().parent.parent.parent / "docs"
 DESCRIPTION = DOCS.parent / "daemon/vhost-user/50-vscsi.json"
@@ -654,6 +654,11 @@ def test_calls_that_nobody_reads(room):
         assert front.asks() and run.poll() is None
 
 
+def taken(run):
+    """How many nanoseconds of a processor a process has taken."""
+    return int(Path(f"/proc/{run.pid}/schedstat").read_text().split()[0])
+
+
 def test_idle(room):
     """However it looks at rings, it takes no processor once a guest has been idle for a while."""
     for words in ([], ["--poll"], ["--poll-max-ns", "0"], ["--poll-max-ns", "10000000"]):
@@ -662,10 +667,9 @@ def test_idle(room):
                 front.write(8 * i, b"a" * 4096)
                 wait_for(lambda: front.answered() == 1 + i, "a WRITE")  # noqa: B023
             time.sleep(0.3)
-            took = Path(f"/proc/{run.pid}/schedstat")
-            before = int(took.read_text().split()[0])
+            before = taken(run)
             time.sleep(1)
-            assert int(took.read_text().split()[0]) - before < 5_000_000, words
+            assert taken(run) - before < 5_000_000, words
             assert front.asks() and run.poll() is None
 
 
@@ -800,6 +804,20 @@ def test_left_by_guest_that_moves(room):
                 front.start(0)
                 wait_for(lambda: front.answered() == 1, "the WRITE")  # noqa: B023
         log.unlink()
+
+
+def test_gone_while_it_waits(room):
+    """A front end that goes while its message waits leaves its place to the next one at once, and the daemon takes no processor for it."""
+    with driven(room, "--disk", f"0:0=16M,file={room.folder / 'image'}", ends=0) as (run, front, log):
+        limit_files(run, MIB)
+        front.write(8192, b"b" * 4096)
+        wait_for(lambda: "can't be written" in log.read_text(), "a file that can't be written")
+        before = taken(run)
+        front.say(GET_VRING_BASE, struct.pack("<II", QUEUE, 0))
+        front.connection.close()
+        assert serves(room.socket)
+        assert taken(run) - before < 100_000_000 and "another front end came" not in log.read_text()
+        limit_files(run, resource.RLIM_INFINITY)
 
 
 def test_refused_unmap(room):
@@ -1379,6 +1397,38 @@ def test_control_live(room):
         assert not told["device"] and told["disks"][0]["requests"] == 9 and told["disks"][1]["requests"] == 3
     kept = disk.read_bytes()
     assert len(kept) == MIB // 2 and kept[1023 * 512 :] == b"a" * 512
+
+
+def test_control_waits(room):
+    """A request that waits takes no processor, whether its client sends more meanwhile or goes, and others are served behind it."""
+    if not room.client:
+        return "no libjansson-dev"
+    path, image = room.folder / "control", room.folder / "image"
+    words = ["--disk", f"0:0=16M,file={image}", "--disk", "0:1=1M", "--control", path]
+    with driven(room, *words, ends=0) as (run, front, log):
+        for turn, goes in enumerate((False, True)):
+            limit_files(run, MIB)
+            front.write(8192 + turn, b"b" * 512)
+            wait_for(lambda: log.read_text().count("can't be written") == turn + 1, "a file that can't be written")  # noqa: B023
+            with Asking(path) as asking:
+                asking.connection.sendall(b'{"execute":"resize","arguments":{"disk":"0:1","size":%d}}\n' % ((2 + turn) * MIB))
+                time.sleep(0.1)
+                if goes:
+                    asking.lines.close()
+                    asking.connection.close()
+                else:
+                    asking.connection.sendall(b'{"execute":"stats"}\n')
+                before = taken(run)
+                time.sleep(0.4)
+                assert taken(run) - before < 40_000_000, goes
+                limit_files(run, resource.RLIM_INFINITY)
+                wait_for(lambda: front.answered() == turn + 1, "a WRITE")  # noqa: B023
+                # On a machine that stood still it waited too long.
+                answers = "" if goes else asking.lines.readline() + asking.lines.readline()
+                assert goes or (answers.startswith(('{"return":{}}\n', '{"error":{"name":"Busy"')) and '"version"' in answers), answers
+            with Asking(path) as asking:
+                assert len(asking.ask("stats")["disks"]) == 2
+    return None
 
 
 def test_migratable(room):
