@@ -212,6 +212,7 @@ static bool open_all(struct daemon *daemon, char *why, size_t room) {
   bool has_path = options->path;
   if (!sandbox_find(&owner, options->user, options->group, why, room)) return false;
   if (has_path ? !listener_can_bind(options->path, why, room) : !listener_take(&daemon->listener, options->fd, why, room)) return false;
+  if (options->control && !listener_can_bind(options->control, why, room)) return false;
   if (!images_open(&daemon->disks, why, room) || !names_read(&daemon->disks, why, room)) return false;
   bool stands = images_make(&daemon->disks, owner.user, owner.group, why, room) &&
                 (daemon->disks.moves || blocks_load(&daemon->disks, why, room)) &&

@@ -1254,6 +1254,25 @@ def test_control_words(room):
     return None
 
 
+def test_control_path(room):
+    """The path of the control socket is looked at before anything is made, loaded or taken away."""
+    if not room.client:
+        return "no libjansson-dev"
+    disk, new = room.file("disk.img"), room.folder / "new.img"
+    with socket.socket(socket.AF_UNIX) as stale:
+        stale.bind(str(room.socket))
+    words = ["--disk", f"0:0=2M,file={disk},grow", "--disk", f"0:1=1M,file={new}"]
+
+    def state():
+        return disk.stat().st_size, disk.stat().st_mtime_ns, room.folder.stat().st_mtime_ns
+
+    before = state()
+    for path, says in ((room.folder / "no/control", "no/control: No such file"), (disk, "disk.img: there already, and no socket")):
+        room.refuses(*words, "--control", path, says=says)
+    assert state() == before
+    return None
+
+
 def test_control_disks(room):
     """Disks come, go and get other sizes while there is no front end, also within the daemon's limits."""
     if not room.client:
