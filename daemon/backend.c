@@ -93,10 +93,10 @@ static bool make(struct backend *backend, char *why, size_t room) {
                                            .identities = identities};
   memset(backend->noted, 0, sizeof backend->noted);
   memset(backend->idle, 0, sizeof backend->idle);
-  // Another daemon may have the files still.
-  backend->starved = !images_hold(backend->disks, why, room);
-  return !backend->starved && blocks_load(backend->disks, why, room) &&
-         device_create(&backend->device, config, rings, backend->disks->stores, &backend->starved, why, room);
+  // Another daemon may have the files still, or memory is refused, or the system can't read one now.
+  bool has_blocks = images_hold(backend->disks, why, room) && blocks_load(backend->disks, why, room);
+  backend->starved = !has_blocks && !blocks_are_lost(backend->disks);
+  return has_blocks && device_create(&backend->device, config, rings, backend->disks->stores, &backend->starved, why, room);
 }
 
 enum served backend_begin(struct backend *backend, char *why, size_t room) {

@@ -75,7 +75,7 @@ struct backend {
   unsigned turn, quiet;                   // which is next then, and how many in a row had nothing left
   unsigned pause;                         // milliseconds until what is refused memory is tried again, and the time of that
   uint64_t due;                           // of that, or of the next try of a file that can't be written
-  bool starved;                           // the device wasn't made for want of memory, or of its files
+  bool starved;                           // the device wasn't made for want of memory, or of its files or their blocks
   _Alignas(16) uint8_t idle[VSCSI_PAGE];  // where queues lie that the driver didn't set up
 };
 

@@ -6,10 +6,12 @@
 #include <string.h>
 
 #include "clock.h"
+#include "log.h"
+#include "rare.h"
 
 // How many blocks are moved at once; the ranges that a backlog has room for at the most; and milliseconds, of blocks_keep, of
-// blocks_finish, and between two tries of a file that can't be written.
-enum { CHUNK = 128, MOST_RANGES = 1 << 16, PORTION = 20, LAST_PORTIONS = 1000, LEAST_PAUSE = 50, MOST_PAUSE = 5000 };
+// blocks_finish, between two tries of a file that can't be written, and between two lines that say so.
+enum { CHUNK = 128, MOST_RANGES = 1 << 16, PORTION = 20, LAST_PORTIONS = 1000, LEAST_PAUSE = 50, MOST_PAUSE = 5000, COMPLAINT = 60000 };
 
 static bool load_chunk(struct vscsi_disk *store, const struct disk *disk, uint64_t first, uint32_t count) {
   uint8_t bytes[CHUNK * DEVICE_BLOCK];
@@ -41,6 +43,12 @@ bool blocks_load(struct disks *disks, char *why, size_t room) {
     return snprintf(why, room, "a disk couldn't be loaded"), false;
   }
   return true;
+}
+
+bool blocks_are_lost(const struct disks *disks) {
+  for (size_t i = 0; disks->lost && i < disks->count; i++)
+    if (disks->disks[i].file < 0 && !store_stands(&disks->stores[i])) return true;
+  return false;
 }
 
 static bool is_kept(const struct disk *disk) { return disk->file >= 0 && !disk->read_only; }
@@ -129,14 +137,14 @@ static void note_disk(struct device *device, struct disk *disk, struct noted *no
   struct vscsi_counts counts = noted->counts, before = counts;
   size_t count = 0;
   bool all = true, counted = device_counts(device, disk->target, disk->lun, &counts);
-  // Of a command that neither took data nor was refused nothing is told.
-  bool is_same = counted && counts.data_out == before.data_out;
+  // A command that ends with GOOD may have changed blocks, also where it took no data, as FORMAT UNIT does.
+  bool is_same = counted && counts.good == before.good;
   if (is_same && counts.check_conditions == before.check_conditions && counts.busy == before.busy) return;
   bool told = device_changed(device, disk->target, disk->lun, &noted->place, ranges, &count, &all);
   noted->counts = counts;
-  // A command that doesn't end with GOOD takes none, and changes no block, whichever blocks it names.
+  // A command that doesn't end with GOOD changes no block, whichever blocks it names.
   if (told && is_same) return;
-  // Of the commands that change blocks UNMAP alone takes bytes that aren't whole blocks: 8, and 16 for each range.
+  // Of the commands that change blocks two alone take bytes that aren't whole blocks: UNMAP, and FORMAT UNIT with a list.
   bool unmaps = (counts.data_out - before.data_out) % DEVICE_BLOCK;
   if (!told || all) note(&disk->backlog, (struct vscsi_range){0, disk->blocks});
   for (size_t r = 0; told && !all && r < count; r++) {
@@ -234,6 +242,29 @@ bool blocks_are_stuck(const struct disks *disks) {
   for (size_t i = 0; i < disks->count; i++)
     if (disks->disks[i].error) return true;
   return false;
+}
+
+bool blocks_are_left(const struct disks *disks) {
+  for (size_t i = 0; i < disks->count; i++)
+    if (disks->disks[i].backlog.count) return true;
+  return false;
+}
+
+static RARE void tell(struct disk *disk) {
+  uint64_t now = clock_now();
+  bool is_due = !disk->told || now - disk->told >= COMPLAINT;
+  if (disk->error && is_due) {
+    log_say(LOG_ERROR, disk, "can't be written, and is tried again: %s", strerror(disk->error));
+    disk->told = now;
+  } else if (disk->told && !disk->backlog.count) {
+    log_say(LOG_ERROR, disk, "can be written again");
+    disk->told = 0;
+  }
+}
+
+void blocks_tell(struct disks *disks) {
+  for (size_t i = 0; i < disks->count; i++)
+    if (disks->disks[i].error || disks->disks[i].told) tell(&disks->disks[i]);
 }
 
 uint64_t blocks_due(const struct disks *disks) {

@@ -12,6 +12,9 @@
 // Makes the blocks of each disk that has none in memory, from its file. Returns false, and says why, where it couldn't.
 bool blocks_load(struct disks *disks, char *why, size_t room);
 
+// Returns whether a disk in memory was lost for want of memory, so that it can't be made by a later call either.
+bool blocks_are_lost(const struct disks *disks);
+
 // Returns whether a disk has a file that is written.
 bool blocks_are_kept(const struct disks *disks);
 
@@ -37,7 +40,13 @@ enum kept blocks_keep(struct device *device, struct disks *disks, bool at_once);
 // Returns whether a file couldn't be written when that was last tried.
 bool blocks_are_stuck(const struct disks *disks);
 
-// Returns when the next of these is to be tried again.
+// Returns whether a file lacks something that was noted.
+bool blocks_are_left(const struct disks *disks);
+
+// Says once a minute of each file that can't be written why, and once that it has all again.
+void blocks_tell(struct disks *disks);
+
+// Returns when the next file that couldn't be written is to be tried again.
 uint64_t blocks_due(const struct disks *disks);
 
 // Writes what was noted, for a second at most, as the daemon ends. Returns false, and names a disk and why, where a file lacks

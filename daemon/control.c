@@ -143,6 +143,8 @@ static json_t *attach(const struct controlled *controlled, json_t *arguments, in
   disks_find(disks, words, &which);
   struct disk *disk = &disks->disks[which];
   bool taken = disks_are_whole(disks) || (snprintf(why, sizeof why, "its target has no LUN 0"), false);
+  if (taken && disks->moves && (!disk->path || disk->read_only))
+    taken = (snprintf(why, sizeof why, "--migratable: each disk has to be kept on a file"), false);
   if (taken && !disk->path != (*file < 0)) taken = (snprintf(why, sizeof why, "a file, and only that, comes with its descriptor"), false);
   if (taken && disk->path) {
     disk->file = *file;

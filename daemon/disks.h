@@ -32,6 +32,7 @@ struct disk {
   bool read_only;   // never written to that image
   bool grows;       // a shorter image is made as long as the disk
   bool made;        // there was no image
+  bool grown;       // there was a shorter one
   bool punches;     // a WRITE of zeros may make a hole of the image
   bool has_profile; // its words say its profile
   bool wide;        // it knows the commands of the wide profile, as it does without such a word

@@ -10,6 +10,7 @@
 #include <sys/stat.h>
 #include <unistd.h>
 
+#include "blocks.h"
 #include "folders.h"
 
 // Where QEMU's locks are (block/file-posix.c): who uses a permission has a byte of the first run locked for reading, and who doesn't
@@ -108,13 +109,25 @@ bool images_hold(struct disks *disks, char *why, size_t room) {
   return disks->held = held;
 }
 
+// Returns whether images aren't locked, so that another daemon may have them.
+static bool is_loose(const struct disks *disks) { return disks->moves && !disks->held; }
+
+// Makes an image that is there as long as its disk. One that isn't locked is so meanwhile, and measured once more.
+static bool grow(const struct disks *disks, struct disk *disk, char *why, size_t room) {
+  bool locks = is_loose(disks), stands = !locks || (lock(disk, why, room) && measure(disk, why, room) && fits(disk, why, room));
+  disk->grown = stands && disk->length != disk->blocks * DEVICE_BLOCK;
+  if (disk->grown) stands = image_resize(disk, disk->blocks, why, room);
+  if (locks) unlock(disk);
+  return stands;
+}
+
 bool image_take(const struct disks *disks, struct disk *disk, char *why, size_t room) {
   int flags = fcntl(disk->file, F_GETFL), wanted = disk->read_only ? O_RDONLY : O_RDWR;
   if ((flags & O_ACCMODE) != wanted && (flags & O_ACCMODE) != O_RDWR) return refuse(disk, "its descriptor isn't for writing", why, room);
   // What is written goes to the end of the file by the one, and has to be aligned by the other.
   if (flags & (O_APPEND | O_DIRECT)) return refuse(disk, "its descriptor has O_APPEND or O_DIRECT", why, room);
-  if (!measure(disk, why, room) || (!disks->moves && !lock(disk, why, room)) || !fits(disk, why, room)) return false;
-  return disk->length == disk->blocks * DEVICE_BLOCK || image_resize(disk, disk->blocks, why, room);
+  if (!measure(disk, why, room) || (!is_loose(disks) && !lock(disk, why, room)) || !fits(disk, why, room)) return false;
+  return disk->length == disk->blocks * DEVICE_BLOCK || grow(disks, disk, why, room);
 }
 
 bool image_resize(struct disk *disk, uint64_t blocks, char *why, size_t room) {
@@ -130,9 +143,7 @@ bool image_resize(struct disk *disk, uint64_t blocks, char *why, size_t room) {
 }
 
 void images_release(struct disks *disks) {
-  bool kept = true;
-  for (size_t i = 0; i < disks->count; i++) kept = kept && !disks->disks[i].backlog.count;
-  if (!disks->moves || !disks->held || !kept) return;
+  if (!disks->moves || !disks->held || blocks_are_left(disks)) return;
   for (size_t i = 0; i < disks->count; i++) {
     store_drop(&disks->stores[i]);
     unlock(&disks->disks[i]);
@@ -154,17 +165,17 @@ static bool make(struct disk *disk, bool is_locked_now, uid_t user, gid_t group,
   if (disk->file < 0) return refuse(disk, NULL, why, room);
   disk->made = true;
   if (fchown(disk->file, user, group)) return refuse(disk, NULL, why, room);
-  return !is_locked_now || lock(disk, why, room);
+  if (is_locked_now && !lock(disk, why, room)) return false;
+  bool stands = !ftruncate(disk->file, (off_t)(disk->blocks * DEVICE_BLOCK)) && !fsync(disk->file) && sync_folder(disk->path);
+  return stands || refuse(disk, NULL, why, room);
 }
 
 bool images_make(struct disks *disks, uid_t user, gid_t group, char *why, size_t room) {
   for (size_t i = 0; i < disks->count; i++) {
     struct disk *disk = &disks->disks[i];
-    off_t wanted = (off_t)(disk->blocks * DEVICE_BLOCK);
-    if (!disk->path || (disk->file >= 0 && disk->length == (uint64_t)wanted)) continue;
-    if (disk->file < 0 && !make(disk, !disks->moves, user, group, why, room)) return false;
-    bool stands = !ftruncate(disk->file, wanted) && !fsync(disk->file) && (!disk->made || sync_folder(disk->path));
-    if (!stands) return refuse(disk, NULL, why, room);
+    bool is_there = disk->file >= 0;
+    if (!disk->path || (is_there && disk->length == disk->blocks * DEVICE_BLOCK)) continue;
+    if (is_there ? !grow(disks, disk, why, room) : !make(disk, !disks->moves, user, group, why, room)) return false;
   }
   return true;
 }
@@ -179,9 +190,11 @@ static void take_away(const struct disk *disk) {
 void images_undo(struct disks *disks) {
   for (size_t i = 0; i < disks->count; i++) {
     struct disk *disk = &disks->disks[i];
-    if (disk->file < 0) continue;
+    if (!disk->made && !disk->grown) continue;
+    // One that isn't locked may be another daemon's by now.
+    if (is_loose(disks) && !lock(disk, NULL, 0)) continue;
     if (disk->made) take_away(disk);
-    else if (disk->grows && ftruncate(disk->file, (off_t)disk->length)) continue;  // it stays longer: zeros that nobody wrote
-    disk->made = disk->grows = false;
+    else if (ftruncate(disk->file, (off_t)disk->length)) continue;  // it stays longer: zeros that nobody wrote
+    disk->made = disk->grown = false;
   }
 }

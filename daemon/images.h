@@ -16,7 +16,7 @@ bool images_open(struct disks *disks, char *why, size_t room);
 // be had; then none is locked.
 bool images_hold(struct disks *disks, char *why, size_t room);
 
-// Locks the image of a disk that was opened by somebody else, tests its length, and grows it where it is to grow.
+// Tests the length of an image that was opened by somebody else, and grows it where it is to grow. Locks it where the others are locked.
 bool image_take(const struct disks *disks, struct disk *disk, char *why, size_t room);
 
 // Makes an image as long as a disk of so many blocks. What a block device has behind the disk becomes zeros.
@@ -30,7 +30,8 @@ void images_release(struct disks *disks);
 // system afterwards. Returns false, and says why, where one couldn't be; images_undo then takes back what was done.
 bool images_make(struct disks *disks, uid_t user, gid_t group, char *why, size_t room);
 
-// Takes away the images that images_make made, and what it grew others by. Called where the daemon doesn't come to serve.
+// Takes away the images that images_make made, and what it grew others by, unless another daemon has them by now. Called where the daemon
+// doesn't come to serve.
 void images_undo(struct disks *disks);
 
 #endif

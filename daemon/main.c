@@ -80,8 +80,11 @@ static bool is_gone(int fd) {
 // Takes a connection, or refuses it: one front end is served at a time.
 static void take_front_end(struct daemon *daemon) {
   struct session *session = &daemon->session;
-  // What a front end sent before it went is read first; the next one waits that long.
-  if (daemon->connected && is_gone(session->socket)) return;
+  if (daemon->connected && is_gone(session->socket)) {
+    // What a front end sent before it went is read first; the next one waits that long. But nobody takes the reply to a message that waits.
+    if (!session->is_waiting) return;
+    end_session(daemon, "the session is over");
+  }
   int fd = accept4(daemon->listener.fd, NULL, NULL, SOCK_CLOEXEC | SOCK_NONBLOCK);
   // Where the system has no descriptor left the connection waits, and so does the daemon.
   if (fd < 0 && errno != EAGAIN && errno != EINTR) poll(NULL, 0, 10);
@@ -107,9 +110,33 @@ static void take_client(struct daemon *daemon) {
   if (daemon->control.client < 0) watch(daemon->epoll, daemon->operators.fd, EVENT_CONTROL);
 }
 
+// Serves the client, or its request that waits. What it sends behind such a request isn't looked at meanwhile.
 static void serve_client(struct daemon *daemon) {
+  struct control *control = &daemon->control;
   const struct controlled controlled = {&daemon->disks, daemon->connected ? &daemon->session : NULL, daemon->sessions};
-  if (!control_serve(&daemon->control, &controlled)) watch(daemon->epoll, daemon->operators.fd, EVENT_CONTROL);
+  bool waited = control->waits, stands = control_serve(control, &controlled);
+  if (stands && control->waits && !waited) epoll_ctl(daemon->epoll, EPOLL_CTL_DEL, control->client, NULL);
+  if (stands && waited && !control->waits && !watch(daemon->epoll, control->client, EVENT_CLIENT)) control_end(control);
+  if (control->client < 0) watch(daemon->epoll, daemon->operators.fd, EVENT_CONTROL);
+}
+
+// Writes what devices that ended left to the files, while there is no device, and lets go of the files then. Returns in how many
+// milliseconds it is to be called again, or -1 where nothing is left.
+static int write_rest(struct daemon *daemon) {
+  struct device none = {0};
+  struct disks *disks = &daemon->disks;
+  bool has_device = daemon->connected && daemon->session.backend.device.live;
+  if (has_device || !blocks_are_left(disks)) return -1;
+  enum kept kept = blocks_keep(&none, disks, false);
+  blocks_tell(disks);
+  if (kept == KEEPING) return 0;
+  if (kept == STUCK) {
+    int64_t left = (int64_t)blocks_due(disks) - now();
+    return left > 0 ? (int)left : 1;
+  }
+  if (daemon->connected) session_release(&daemon->session);
+  else images_release(disks);
+  return -1;
 }
 
 // Returns how many milliseconds the front end has left for a message that it owes, or -1 where there is no such limit.
@@ -159,6 +186,8 @@ static bool serve(struct daemon *daemon) {
       end_session(daemon, "it sent half a message, and no more");
       continue;
     }
+    int rest = write_rest(daemon);
+    if (rest >= 0 && (wait < 0 || rest < wait)) wait = rest;
     int count = epoll_wait(daemon->epoll, events, EVENTS, daemon->connected && daemon->session.more ? 0 : wait);
     if (count < 0 && errno != EINTR) return log_say(LOG_ERROR, NULL, "no event can be waited for: %s", strerror(errno)), false;
     if (!take_events(daemon, events, count)) return true;
@@ -183,6 +212,7 @@ static bool open_all(struct daemon *daemon, char *why, size_t room) {
   bool has_path = options->path;
   if (!sandbox_find(&owner, options->user, options->group, why, room)) return false;
   if (has_path ? !listener_can_bind(options->path, why, room) : !listener_take(&daemon->listener, options->fd, why, room)) return false;
+  if (options->control && !listener_can_bind(options->control, why, room)) return false;
   if (!images_open(&daemon->disks, why, room) || !names_read(&daemon->disks, why, room)) return false;
   bool stands = images_make(&daemon->disks, owner.user, owner.group, why, room) &&
                 (daemon->disks.moves || blocks_load(&daemon->disks, why, room)) &&

@@ -49,6 +49,7 @@ void queues_reset(struct session *session) {
     session->queues[q].call = call;
     session->queues[q].err = err;
   }
+  session->is_torn = false;
 }
 
 // The queue that a message names, with a number beside it.
@@ -82,21 +83,28 @@ static bool stays(struct session *session, unsigned q) {
   return !is_there || (desc == ring->desc && driver == ring->driver && device == ring->device);
 }
 
+// Finds whether the memory of a started ring is gone, and may come again.
+static void find_torn(struct session *session) {
+  session->is_torn = false;
+  for (unsigned q = 0; q < session->backend.count; q++) {
+    const struct backend_queue *queue = &session->backend.queues[q];
+    session->is_torn = session->is_torn || (session->queues[q].started && !queue->ready && !queue->fault);
+  }
+}
+
 void queues_find(struct session *session, bool breaks) {
   struct backend *backend = &session->backend;
   // The device has its queues where they lay when it was made.
   for (unsigned q = 0; q < backend->count; q++)
     if (session->queues[q].started && backend->device.live && !stays(session, q)) backend_end(backend);
-  bool is_whole = true;
   for (unsigned q = 0; q < backend->count; q++) {
     struct backend_queue *queue = &backend->queues[q];
     bool is_lost = session->queues[q].started && !find(session, q) && !queue->fault;
     if (is_lost && breaks) queue->fault = FAULT_UNMAPPED;
     backend->broken = backend->broken || (is_lost && breaks);
-    is_whole = is_whole && (!is_lost || breaks);
   }
-  session->is_torn = !is_whole;
-  if (backend->device.live && is_whole) backend_map(backend);
+  find_torn(session);
+  if (backend->device.live && !session->is_torn) backend_map(backend);
   session->more = true;
 }
 
@@ -230,6 +238,8 @@ bool queue_set_call(struct session *session, struct message *message) {
   if (!with_descriptor(session, message, &q, &fd)) return false;
   forget(&session->queues[q].call);
   session->queues[q].call = fd;
+  // Answers that were shown before told the descriptor before it, or none. With event indices those behind them may tell nobody.
+  if (session->queues[q].started) signal_fd(fd);
   return true;
 }
 
@@ -255,6 +265,9 @@ bool queue_get_base(struct session *session, const struct message *message) {
   if (queue->kick >= 0) kick_drain(queue->kick);
   unwatch(session, queue);
   queue->started = queue->enabled = backend->queues[q].ready = false;
+  // The others may have waited for this one's memory.
+  session->more = session->more || session->is_torn;
+  find_torn(session);
   session_release(session);
   little_put(payload, q, 4);
   little_put(payload + 4, queue->base, 4);

@@ -28,11 +28,11 @@
 // How many messages of a session are taken before others of the daemon's descriptors are looked at.
 enum { MOST_MESSAGES = 64, WHY = 200, REGION_BYTES = 32, LOG_BYTES = 16, SPACE_HEAD = 12, MOST_SPACE = 256 };
 
-// Milliseconds: how often it is said that a file can't be written, and a ring is looked at that has no kick; how long a session
-// is served before others of the daemon's descriptors are looked at, but for one round, where rings are looked at without a kick
-// (POLL) and where they aren't; and how long a session that ends has for a round. Nanoseconds: of a millisecond, and for how long
-// rings are looked at first, where that pays; and behind which others get the processor in between, the guest perhaps.
-enum { COMPLAINT = 60000, POLL = 1, LONGEST = 20, LEAVING = 200, MILLISECOND = 1000000, FIRST_WINDOW = 4000, POLITE = 50000 };
+// Milliseconds: how often a ring is looked at that has no kick; how long a session is served before others of the daemon's
+// descriptors are looked at, but for one round, where rings are looked at without a kick (POLL) and where they aren't; and how
+// long a session that ends has for a round. Nanoseconds: of a millisecond, and for how long rings are looked at first, where that
+// pays; and behind which others get the processor in between, the guest perhaps.
+enum { POLL = 1, LONGEST = 20, LEAVING = 200, MILLISECOND = 1000000, FIRST_WINDOW = 4000, POLITE = 50000 };
 
 static void say(const struct session *session, const char *what, const char *why) {
   if (!session->quiet) log_say(LOG_NOTE, NULL, "%s: %s", what, why);
@@ -326,9 +326,9 @@ static bool is_whole(bool stands) {
 
 bool session_read(struct session *session) { return is_whole(read_on(session)); }
 
-// Adds to an event's count. A front end may have made its descriptor one that waits, so a count that is full is left alone: it
-// hasn't looked yet. Between the two calls none but that front end could fill it.
-static void signal_fd(int fd) {
+// A front end may have made its descriptor one that waits, so a count that is full is left alone: it hasn't looked yet. Between the two
+// calls none but that front end could fill it.
+void signal_fd(int fd) {
   const uint64_t one = 1;
   struct pollfd asked = {.fd = fd, .events = POLLOUT};
   if (fd < 0 || poll(&asked, 1, 0) < 1 || !(asked.revents & POLLOUT)) return;
@@ -369,25 +369,6 @@ static void tell_broken(struct session *session) {
   }
 }
 
-// Says once a minute of a file that it can't be written and why, and once that it has all again.
-static RARE void tell_file(struct disk *disk) {
-  uint64_t now = clock_now();
-  bool is_due = !disk->told || now - disk->told >= COMPLAINT;
-  if (disk->error && is_due) {
-    log_say(LOG_ERROR, disk, "can't be written, and is tried again: %s", strerror(disk->error));
-    disk->told = now;
-  } else if (disk->told && !disk->backlog.count) {
-    log_say(LOG_ERROR, disk, "can be written again");
-    disk->told = 0;
-  }
-}
-
-static void tell_files(const struct session *session) {
-  struct disks *disks = session->backend.disks;
-  for (size_t i = 0; i < disks->count; i++)
-    if (disks->disks[i].error || disks->disks[i].told) tell_file(&disks->disks[i]);
-}
-
 // Sets the timer to so many milliseconds from now.
 static RARE void set_timer(const struct session *session, uint64_t left) {
   const struct itimerspec when = {.it_value = {.tv_sec = (time_t)(left / 1000), .tv_nsec = (long)(left % 1000) * 1000000}};
@@ -416,7 +397,7 @@ static RARE enum served make_device(struct session *session) {
 
 // Notes how a session that was served goes on. Returns false where it has to end.
 static inline bool note_served(struct session *session, enum served served) {
-  if (session->backend.keeps) tell_files(session);
+  if (session->backend.keeps) blocks_tell(session->backend.disks);
   if (session->backend.broken) tell_broken(session);
   if (served == FAILED) return false;
   session->more = served == MORE || served == BUSY;

@@ -81,6 +81,9 @@ bool queue_get_base(struct session *session, const struct message *message);
 // Returns whether a descriptor is one by which events are told.
 bool is_event(int fd);
 
+// Adds to an event's count, without waiting. Does nothing where the descriptor is below 0.
+void signal_fd(int fd);
+
 // Takes what a kick's descriptor has to say, without waiting, also where the front end made it one that waits. Returns false
 // where it can't be read.
 bool kick_drain(int fd);

@@ -108,6 +108,14 @@ enum vscsi_answer __wrap_vscsi_live_create(struct vscsi_live *device, const stru
   return __real_vscsi_live_create(device, config, disks, fault);
 }
 
+enum vscsi_answer __real_vscsi_disk_load(struct vscsi_disk *disk, uint64_t first, uint32_t count, const void *bytes, size_t length);
+enum vscsi_answer __wrap_vscsi_disk_load(struct vscsi_disk *disk, uint64_t first, uint32_t count, const void *bytes, size_t length);
+
+enum vscsi_answer __wrap_vscsi_disk_load(struct vscsi_disk *disk, uint64_t first, uint32_t count, const void *bytes, size_t length) {
+  if (faults.loads) return faults.loads--, VSCSI_NO_MEMORY;
+  return __real_vscsi_disk_load(disk, first, count, bytes, length);
+}
+
 enum vscsi_answer __real_vscsi_live_serve(struct vscsi_live *device, uint32_t queues, uint64_t most, uint64_t *steps, bool *more);
 enum vscsi_answer __wrap_vscsi_live_serve(struct vscsi_live *device, uint32_t queues, uint64_t most, uint64_t *steps, bool *more);
 

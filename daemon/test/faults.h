@@ -1,6 +1,6 @@
 // Files that can't be written, memory that is refused, and time that passes: the tests' own pwrite, fdatasync, clock_gettime,
-// vscsi_live_serve and vscsi_live_create, which fail where they are told to. And what serving costs. Calls of the library's, of malloc and the
-// like and of snprintf come here by the linker's word --wrap.
+// vscsi_live_serve, vscsi_live_create and vscsi_disk_load, which fail where they are told to. And what serving costs. Calls of the
+// library's, of malloc and the like and of snprintf come here by the linker's word --wrap.
 #ifndef DAEMON_TEST_FAULTS_H
 #define DAEMON_TEST_FAULTS_H
 
@@ -16,6 +16,7 @@ struct faults {
   unsigned bad_syncs;   // how many fail
   unsigned refusals;    // how many calls of vscsi_live_serve are refused memory
   unsigned creations;   // and how many of vscsi_live_create
+  unsigned loads;       // and how many of vscsi_disk_load
   size_t most;          // the most bytes that realloc gives the daemon, or 0 where it gives any
   bool endless;         // vscsi_live_serve says that something is left
   void (*comes)(void);  // what the guest does before one of its calls, or NULL, and how many calls there are before that

@@ -277,6 +277,12 @@ bool front_give_places(struct front *front, int file) {
   return front_ask(front, &sent);
 }
 
+// Takes what a new call descriptor of a queue was told, so that what it is told then is of requests.
+static void take_call(const struct front *front, unsigned q) {
+  uint64_t told;
+  MUST(read(front->call[q], &told, sizeof told) == sizeof told);
+}
+
 void front_agree(struct front *front) {
   static struct sent sent[64];
   uint8_t payload[MOST_PAYLOAD];
@@ -293,6 +299,7 @@ void front_agree(struct front *front) {
     else if (request == GET_CONFIG)
       MUST(length == 48 && little_get(payload + 12, 4) == QUEUES - 2 && little_get(payload + 12 + 24, 4) == 32);
     else if (request != GET_PROTOCOL_FEATURES && i > 2) MUST(length == 8 && little_get(payload, 8) == 0);
+    if (request == SET_VRING_CALL) take_call(front, (unsigned)little_get(sent[i].bytes + HEADER, 1));
   }
 }
 
@@ -313,7 +320,9 @@ void front_start(struct front *front, unsigned q, uint32_t base) {
     uint8_t *at = sent[i].bytes + HEADER;
     uint32_t request = (uint32_t)little_get(sent[i].bytes, 4);
     if (request == SET_VRING_BASE) little_put(at + 4, base, 4);
-    if ((little_get(at, 4) & 0xff) == q) MUST(front_ask(front, &sent[i]));
+    if ((little_get(at, 4) & 0xff) != q) continue;
+    MUST(front_ask(front, &sent[i]));
+    if (request == SET_VRING_CALL) take_call(front, q);
   }
 }
 

@@ -158,6 +158,30 @@ void test_abandoned(void) {
   }
 }
 
+void test_unloaded(void) {
+  for (unsigned number = 0; number < WAYS; number++) {
+    struct disks disks;
+    struct front front;
+    load_make(&disks, "64G", "");
+    load_begin(&front, &disks, number);
+    put_writes(&front, 1);
+    MUST(await(&front, Q, 1, PATIENCE) == 1 && has(0, 0, false));
+    front_end(&front);
+    // As where the operator gave it another size meanwhile.
+    store_drop(&disks.stores[0]);
+    load_begin(&front, &disks, number);
+    faults.loads = 2;
+    put_write(&front, Q, 1, APART);
+    driver_kick(&front, Q);
+    for (unsigned i = 0; i < 3; i++) {
+      pump(&front);
+      pass(&front, 5);
+    }
+    MUST(await(&front, Q, 1, PATIENCE) == 1 && !faults.loads && is_good(&front, 1) && has(1, APART, false) && has(0, 0, false));
+    load_end(&front, &disks);
+  }
+}
+
 // Has the session run one request, and returns how many blocks the file system has for the file then.
 static blkcnt_t room_behind(struct front *front) {
   struct stat stat;
@@ -192,6 +216,40 @@ void test_zeros(void) {
     MUST(!fallocate(disks.disks[0].file, 0, 0, 1 << 20) && !lstat(paths[0], &stat));
     put_zeros(&front, 64);
     MUST(room_behind(&front) == stat.st_blocks && lseek(disks.disks[0].file, 0, SEEK_DATA) < 0);
+    load_end(&front, &disks);
+  }
+}
+
+void test_formatted(void) {
+  static const uint8_t same_16[16] = {0x93, 1, [13] = 8}, format[6] = {4}, format_by_list[6] = {4, 0x10}, read_10[10] = {0x28, [8] = 8};
+  for (unsigned number = 0; number < WAYS; number++) {
+    struct disks disks;
+    struct front front;
+    load_make(&disks, "1M", "");
+    load_begin(&front, &disks, number);
+    for (unsigned i = 0; i < 3; i++) put_write(&front, Q, i, 64 * i);
+    driver_kick(&front, Q);
+    MUST(await(&front, Q, 3, PATIENCE) == 3 && has(0, 0, false) && has(1, 64, false) && has(2, 128, false));
+    put(&front, Q, 0, same_16, sizeof same_16, 0);
+    driver_kick(&front, Q);
+    MUST(await(&front, Q, 1, PATIENCE) == 1 && is_good(&front, 0) && has(0, 0, true) && has(1, 64, false));
+    // What changes nothing writes nothing.
+    faults.bytes = 0;
+    uint8_t found[BUFFER];
+    MUST(command(&front, Q, read_10, sizeof read_10, NULL, 0, found, sizeof found) == 0 && !faults.bytes);
+    put(&front, Q, 0, format, sizeof format, 0);
+    driver_kick(&front, Q);
+    MUST(await(&front, Q, 1, PATIENCE) == 1 && is_good(&front, 0) && has(1, 64, true) && has(2, 128, true));
+    // With a list it makes a hole of the file.
+    MUST(lseek(disks.disks[0].file, 0, SEEK_DATA) == 0);
+    memset(buffer_of(&front, 0), 0, BUFFER);
+    put_write(&front, Q, 1, 64);
+    driver_kick(&front, Q);
+    MUST(await(&front, Q, 1, PATIENCE) == 1 && has(1, 64, false));
+    put(&front, Q, 0, format_by_list, sizeof format_by_list, 4);
+    driver_kick(&front, Q);
+    MUST(await(&front, Q, 1, PATIENCE) == 1 && is_good(&front, 0) && has(1, 64, true));
+    MUST(lseek(disks.disks[0].file, 0, SEEK_DATA) < 0);
     load_end(&front, &disks);
   }
 }

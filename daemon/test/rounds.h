@@ -20,8 +20,14 @@ void test_forgetful(void);
 // A front end that goes away while the file can't be written: the next one finds everything on the file.
 void test_abandoned(void);
 
+// A disk that can't be loaded for a time as a queue begins: its requests wait, and the session goes on.
+void test_unloaded(void);
+
 // Zeros that are written, and blocks that are unmapped, on files that have the word detect-zeroes=unmap or not.
 void test_zeros(void);
+
+// FORMAT UNIT and WRITE SAME that take no data: the file has their zeros before they are answered.
+void test_formatted(void);
 
 // A queue that is refilled whenever it is served, beside one with a request.
 void test_turns(void);

@@ -127,6 +127,66 @@ void test_slots(void) {
   }
 }
 
+// Starts queue 4 in the second half of memory, with nothing available.
+static void start_elsewhere(struct front *front) {
+  static struct sent sent[MOST_SENT];
+  size_t count = front_set_up(front, sent, 0);
+  uint64_t half = front_half(front, 1).user;
+  for (size_t i = FIRST_OF_RINGS; i < count; i++) {
+    uint8_t *at = sent[i].bytes + HEADER;
+    if ((little_get(at, 4) & 0xff) != 4) continue;
+    for (unsigned part = 0; part < 3 && little_get(sent[i].bytes, 4) == SET_VRING_ADDR; part++)
+      little_put(at + 8 + 8 * part, half + 0x1000 * part, 8);
+    MUST(front_ask(front, &sent[i]));
+  }
+}
+
+// Starts all rings anew, as behind a reset.
+static void start_again(struct front *front) {
+  static struct sent sent[MOST_SENT];
+  memset(front->memory, 0, GUEST_BYTES);
+  for (unsigned q = 0; q < QUEUES; q++) front->queues[q] = (struct driver_queue){.next_wrap = true, .seen_wrap = true};
+  size_t count = front_set_up(front, sent, 0);
+  for (size_t i = FIRST_OF_RINGS; i < count; i++) MUST(front_ask(front, &sent[i]));
+}
+
+void test_torn(void) {
+  static const struct part parts[] = {{0x200000, 51, false}, {0x201000, 108, true}};
+  for (unsigned number = 0; number < 2 * WAYS; number += 3) {
+    struct disks disks;
+    struct front front;
+    struct sent sent;
+    uint32_t length;
+    uint8_t payload[8];
+    begin(&front, &disks, number % WAYS);
+    agree(&front);
+    MUST(is_ready(&front, 2) && is_ready(&front, 4));
+    front_stop(&front, 4);
+    start_elsewhere(&front);
+    MUST(is_ready(&front, 2));
+    // The memory of queue 4 goes and doesn't come again.
+    front_region(&front, &sent, REM_MEM_REG, front_half(&front, 1));
+    MUST(front_ask(&front, &sent));
+    put_request(&front, 0x200000, ready, sizeof ready);
+    driver_put(&front, 2, parts, 2);
+    driver_kick(&front, 2);
+    pump(&front);
+    MUST(front.alive && !driver_next(&front, 2, 2, &length));
+    if (number < WAYS) {
+      front_stop(&front, 4);
+      pump(&front);
+      MUST(driver_next(&front, 2, 2, &length) && front.memory[0x201000 + 10] == 0);
+    } else {
+      front_say(&front, RESET_DEVICE, 0);
+      pump(&front);
+      MUST(front_reply(&front, payload, sizeof payload) == 8);
+      start_again(&front);
+    }
+    MUST(is_ready(&front, 2) && is_ready(&front, 3));
+    end(&front, &disks);
+  }
+}
+
 void test_regions(void) {
   // What is added to the first page's addresses, its size and its place, and whether it is taken then.
   static const struct {
@@ -313,6 +373,35 @@ void test_pipes(void) {
     pump(&front);
     MUST(front.alive && is_ready(&front, 2));
     close(ends[0]);
+    end(&front, &disks);
+  }
+}
+
+void test_called(void) {
+  static const struct part parts[] = {{0x200000, 51, false}, {0x201000, 108, true}};
+  for (unsigned number = 0; number < WAYS; number++) {
+    struct disks disks;
+    struct front front;
+    struct sent sent;
+    uint32_t length;
+    int other = eventfd(0, EFD_NONBLOCK | EFD_CLOEXEC);
+    begin(&front, &disks, number);
+    front_agree(&front);
+    MUST(is_ready(&front, 3));
+    // A request is answered while there is nobody to be told.
+    front_descriptor(&sent, SET_VRING_CALL, 3, -1);
+    MUST(front_ask(&front, &sent));
+    put_request(&front, 0x200000, ready, sizeof ready);
+    driver_put(&front, 3, parts, 2);
+    driver_kick(&front, 3);
+    pump(&front);
+    front_descriptor(&sent, SET_VRING_CALL, 3, other);
+    MUST(front_ask(&front, &sent) && has_more(other) && driver_next(&front, 3, 2, &length));
+    // A queue that isn't started has no answers.
+    MUST(eventfd_read(other, &(eventfd_t){0}) == 0);
+    front_stop(&front, 3);
+    MUST(front_ask(&front, &sent) && !has_more(other));
+    close(other);
     end(&front, &disks);
   }
 }

@@ -8,6 +8,9 @@ void test_moved(void);
 // Regions that are added and removed one by one, up to the most there may be.
 void test_slots(void);
 
+// A ring whose region goes and doesn't come again: the others go on once it is stopped, or all are reset.
+void test_torn(void);
+
 // Regions that aren't aligned, and one at the end of all addresses.
 void test_regions(void);
 
@@ -25,6 +28,9 @@ void test_kicks(void);
 
 // Eventfds that are read as a queue stops, and pipes that are read as they kick.
 void test_pipes(void);
+
+// A call's descriptor that comes behind answers: it is told of them.
+void test_called(void);
 
 // Descriptors of which the front end has the daemon's reads and writes wait.
 void test_waits(void);

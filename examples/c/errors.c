@@ -639,7 +639,7 @@ static void texts(void) {
     for (uint32_t j = 0; j < i; j++) {
       IS(strcmp(vscsi_answer_text((enum vscsi_answer)i), vscsi_answer_text((enum vscsi_answer)j)) != 0 || j > VSCSI_NO_DISK, true);
       IS(strcmp(vscsi_broken_text(i), vscsi_broken_text(j)) != 0 || j > VSCSI_BROKEN_RING_OVERRUN, true);
-      IS(strcmp(vscsi_cause_text(i), vscsi_cause_text(j)) != 0 || j == 0 || j == 6 || j == 7 || j > VSCSI_CAUSE_UNIT_PROFILE, true);
+      IS(strcmp(vscsi_cause_text(i), vscsi_cause_text(j)) != 0 || j == 0 || j == 6 || j == 7 || j > VSCSI_CAUSE_UNIT_NAA, true);
     }
   }
   IS(strcmp(vscsi_answer_text(VSCSI_NO_MEMORY), "no memory"), 0);

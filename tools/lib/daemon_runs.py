@@ -21,7 +21,7 @@ import subprocess
 import time
 from pathlib import Path
 
-from front_end import QUEUE, FrontEnd
+from front_end import GET_VRING_BASE, QUEUE, FrontEnd
 
 DOCS = Path(__file__).resolve().parent.parent.parent / "docs"
 DESCRIPTION = DOCS.parent / "daemon/vhost-user/50-vscsi.json"
@@ -654,6 +654,11 @@ def test_calls_that_nobody_reads(room):
         assert front.asks() and run.poll() is None
 
 
+def taken(run):
+    """How many nanoseconds of a processor a process has taken."""
+    return int(Path(f"/proc/{run.pid}/schedstat").read_text().split()[0])
+
+
 def test_idle(room):
     """However it looks at rings, it takes no processor once a guest has been idle for a while."""
     for words in ([], ["--poll"], ["--poll-max-ns", "0"], ["--poll-max-ns", "10000000"]):
@@ -662,10 +667,9 @@ def test_idle(room):
                 front.write(8 * i, b"a" * 4096)
                 wait_for(lambda: front.answered() == 1 + i, "a WRITE")  # noqa: B023
             time.sleep(0.3)
-            took = Path(f"/proc/{run.pid}/schedstat")
-            before = int(took.read_text().split()[0])
+            before = taken(run)
             time.sleep(1)
-            assert int(took.read_text().split()[0]) - before < 5_000_000, words
+            assert taken(run) - before < 5_000_000, words
             assert front.asks() and run.poll() is None
 
 
@@ -750,6 +754,70 @@ def test_killed(room):
         assert front.answered() == 10 and front.asks()
     for i in range(10):
         assert (first, second)[i % 2].read_bytes()[4096 * i :][:4096] == bytes([i + 1]) * 4096
+
+
+def has(image, at, data):
+    """Whether a file has these data there."""
+    with image.open("rb") as file:
+        file.seek(at)
+        return file.read(len(data)) == data
+
+
+def test_left(room):
+    """What a front end that went left unwritten reaches the file once that can be written, with no other front end."""
+    image, log = room.folder / "image", room.folder / "log"
+    with room.runs("--log", log, "--disk", f"0:0=16M,file={image}") as run:
+        with FrontEnd(connected(room.socket)) as front:
+            front.write(0, b"a" * 4096)
+            wait_for(lambda: front.answered() == 1, "the first WRITE")
+            limit_files(run, MIB)
+            front.write(8192, b"b" * 4096)
+            wait_for(lambda: "can't be written" in log.read_text(), "a file that can't be written")
+        wait_for(lambda: "the session is over" in log.read_text(), "the end of the session")
+        assert has(image, 4 * MIB, bytes(4096))
+        limit_files(run, resource.RLIM_INFINITY)
+        wait_for(lambda: has(image, 4 * MIB, b"b" * 4096), "the second WRITE")
+        wait_for(lambda: log.read_text().count("can be written again") == 1, "a line that says so")
+
+
+def test_left_by_guest_that_moves(room):
+    """Files that have what a guest left there are let go of, whether its front end is still there or not."""
+    for stays in (True, False):
+        image, log = room.folder / f"image{stays}", room.folder / "log"
+        with room.runs("--log", log, "--disk", f"0:0=16M,file={image}", "--migratable") as run, contextlib.ExitStack() as those:
+            front = those.enter_context(FrontEnd(connected(room.socket)))
+            file = those.enter_context(image.open("rb"))
+            limit_files(run, MIB)
+            front.write(8192, b"b" * 4096)
+            wait_for(lambda: "can't be written" in log.read_text(), "a file that can't be written")  # noqa: B023
+            if stays:
+                assert front.stop() == 0
+            else:
+                front.connection.close()
+                wait_for(lambda: "the session is over" in log.read_text(), "the end of the session")  # noqa: B023
+            assert is_locked(file, 100 + WRITES) and has(image, 4 * MIB, bytes(4096))
+            limit_files(run, resource.RLIM_INFINITY)
+            wait_for(lambda: not is_locked(file, 100 + WRITES), "the file to be let go of")  # noqa: B023
+            assert has(image, 4 * MIB, b"b" * 4096)
+            if stays:
+                # What wasn't answered runs once more.
+                front.start(0)
+                wait_for(lambda: front.answered() == 1, "the WRITE")  # noqa: B023
+        log.unlink()
+
+
+def test_gone_while_it_waits(room):
+    """A front end that goes while its message waits leaves its place to the next one at once, and the daemon takes no processor for it."""
+    with driven(room, "--disk", f"0:0=16M,file={room.folder / 'image'}", ends=0) as (run, front, log):
+        limit_files(run, MIB)
+        front.write(8192, b"b" * 4096)
+        wait_for(lambda: "can't be written" in log.read_text(), "a file that can't be written")
+        before = taken(run)
+        front.say(GET_VRING_BASE, struct.pack("<II", QUEUE, 0))
+        front.connection.close()
+        assert serves(room.socket)
+        assert taken(run) - before < 100_000_000 and "another front end came" not in log.read_text()
+        limit_files(run, resource.RLIM_INFINITY)
 
 
 def test_refused_unmap(room):
@@ -1186,6 +1254,25 @@ def test_control_words(room):
     return None
 
 
+def test_control_path(room):
+    """The path of the control socket is looked at before anything is made, loaded or taken away."""
+    if not room.client:
+        return "no libjansson-dev"
+    disk, new = room.file("disk.img"), room.folder / "new.img"
+    with socket.socket(socket.AF_UNIX) as stale:
+        stale.bind(str(room.socket))
+    words = ["--disk", f"0:0=2M,file={disk},grow", "--disk", f"0:1=1M,file={new}"]
+
+    def state():
+        return disk.stat().st_size, disk.stat().st_mtime_ns, room.folder.stat().st_mtime_ns
+
+    before = state()
+    for path, says in ((room.folder / "no/control", "no/control: No such file"), (disk, "disk.img: there already, and no socket")):
+        room.refuses(*words, "--control", path, says=says)
+    assert state() == before
+    return None
+
+
 def test_control_disks(room):
     """Disks come, go and get other sizes while there is no front end, also within the daemon's limits."""
     if not room.client:
@@ -1331,6 +1418,38 @@ def test_control_live(room):
     assert len(kept) == MIB // 2 and kept[1023 * 512 :] == b"a" * 512
 
 
+def test_control_waits(room):
+    """A request that waits takes no processor, whether its client sends more meanwhile or goes, and others are served behind it."""
+    if not room.client:
+        return "no libjansson-dev"
+    path, image = room.folder / "control", room.folder / "image"
+    words = ["--disk", f"0:0=16M,file={image}", "--disk", "0:1=1M", "--control", path]
+    with driven(room, *words, ends=0) as (run, front, log):
+        for turn, goes in enumerate((False, True)):
+            limit_files(run, MIB)
+            front.write(8192 + turn, b"b" * 512)
+            wait_for(lambda: log.read_text().count("can't be written") == turn + 1, "a file that can't be written")  # noqa: B023
+            with Asking(path) as asking:
+                asking.connection.sendall(b'{"execute":"resize","arguments":{"disk":"0:1","size":%d}}\n' % ((2 + turn) * MIB))
+                time.sleep(0.1)
+                if goes:
+                    asking.lines.close()
+                    asking.connection.close()
+                else:
+                    asking.connection.sendall(b'{"execute":"stats"}\n')
+                before = taken(run)
+                time.sleep(0.4)
+                assert taken(run) - before < 40_000_000, goes
+                limit_files(run, resource.RLIM_INFINITY)
+                wait_for(lambda: front.answered() == turn + 1, "a WRITE")  # noqa: B023
+                # On a machine that stood still it waited too long.
+                answers = "" if goes else asking.lines.readline() + asking.lines.readline()
+                assert goes or (answers.startswith(('{"return":{}}\n', '{"error":{"name":"Busy"')) and '"version"' in answers), answers
+            with Asking(path) as asking:
+                assert len(asking.ask("stats")["disks"]) == 2
+    return None
+
+
 def test_migratable(room):
     """Of two daemons with one file each has it while its queue runs, and finds what the other one left."""
     disk, others = room.file("disk.img"), room.folder / "others"
@@ -1355,6 +1474,64 @@ def test_migratable(room):
             wait_for(lambda: front.answered() == 2, "a READ")
             assert front.data(1, 1024) == b"b" * 512 + b"a" * 512
         wait_for(lambda: not is_locked(file, 100 + WRITES), "the end of the session")
+
+
+def test_migratable_grow(room):
+    """A file that another daemon has locked isn't made longer, and one that a start which fails had made longer is as it was."""
+    disk, free, others = room.file("disk.img"), room.file("free.img"), room.folder / "others"
+    words = ["--migratable", "--disk", f"0:0=2M,file={free},grow", "--disk", f"0:1=2M,file={disk},grow"]
+    with room.runs("--disk", f"0:0=1M,file={disk}", "--migratable"), FrontEnd(connected(room.socket)) as front:
+        front.write(0, b"a" * 512)
+        wait_for(lambda: front.answered() == 1, "a WRITE")
+        room.ends("--socket", others, *words, status=1, says="disk.img: in use")
+        assert disk.stat().st_size == MIB and free.stat().st_size == MIB
+        # The guest that has it goes on, as it is as long as it was.
+        assert front.stop() == 1
+        front.start(1)
+        front.read(0, 512)
+        wait_for(lambda: front.answered() == 2, "a READ")
+        assert front.stop() == 2
+        with room.runs(*words, path=others), disk.open("rb") as file:
+            assert disk.stat().st_size == 2 * MIB and free.stat().st_size == 2 * MIB and not is_locked(file, 100 + WRITES)
+
+
+def test_control_migratable(room):
+    """With --migratable only disks that are kept on files are attached, and each is locked where the others are."""
+    if not room.client:
+        return "no libjansson-dev"
+    path, log = room.folder / "control", room.folder / "log"
+    one, two, three = room.file("one.img", 2 * MIB, b"\0"), room.file("two.img"), room.file("three.img")
+
+    def asks(*words, status=0):
+        run = subprocess.run([room.client, path, *words], capture_output=True, text=True)
+        assert run.returncode == status, (words, run.stdout, run.stderr)
+        return run.stdout
+
+    with room.runs("--disk", f"0:0=2M,file={one}", "--migratable", "--control", path, "--log", log) as run, contextlib.ExitStack() as those:
+        files = [those.enter_context(it.open("r+b")) for it in (one, two, three)]
+        for words in ("0:1=1M", f"0:1=file={three},snapshot"):
+            assert "--migratable: each disk" in asks("attach", words, status=1), words
+        fcntl.flock(files[2], fcntl.LOCK_EX)
+        assert "three.img: in use" in asks("attach", f"0:1=2M,file={three},grow", status=1) and three.stat().st_size == MIB
+        fcntl.flock(files[2], fcntl.LOCK_UN)
+        asks("attach", f"0:1=2M,file={three},grow")
+        assert three.stat().st_size == 2 * MIB and not any(is_locked(file, 100 + WRITES) for file in files)
+        with FrontEnd(connected(room.socket)) as front:
+            limit_files(run, MIB)
+            front.write(3000, b"a" * 512)
+            wait_for(lambda: "can't be written" in log.read_text(), "a file that can't be written")
+        wait_for(lambda: "the session is over" in log.read_text(), "the end of the session")
+        # While its files are held so is one that comes, and all are let go of together.
+        asks("attach", f"0:2=1M,file={two}")
+        assert all(is_locked(file, 100 + WRITES) for file in files)
+        limit_files(run, resource.RLIM_INFINITY)
+        wait_for(lambda: not any(is_locked(file, 100 + WRITES) for file in files), "the files to be let go of")
+        assert has(one, 3000 * 512, b"a" * 512)
+        with FrontEnd(connected(room.socket)) as front:
+            front.write(0, b"b" * 512, lun=2)
+            wait_for(lambda: front.answered() == 1, "a WRITE")
+    assert has(two, 0, b"b" * 512)
+    return None
 
 
 SHIM = r"""

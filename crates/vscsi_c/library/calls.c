@@ -557,6 +557,8 @@ const char *vscsi_cause_text(uint32_t cause) {
       [VSCSI_CAUSE_NO_LUN_0] = "a unit whose target has no LUN 0",
       [VSCSI_CAUSE_UNIT_DISK] = "a unit that is given no disk, or one of another capacity",
       [VSCSI_CAUSE_UNIT_PROFILE] = "a unit of a profile that the device doesn't know",
+      [VSCSI_CAUSE_UNIT_IDENTITY] = "a unit that says of itself what none may, or a narrow one that says anything",
+      [VSCSI_CAUSE_UNIT_NAA] = "a unit whose NAA designator another has",
   };
   return TEXT_OF(texts, cause, "an unknown cause");
 }
