@@ -250,6 +250,8 @@ def unread(group):
     # No function has this name, so the check ends behind the compiler's front end.
     _, lines = checked(crate.name, merged(texts), ["--start", "no function"])
     errors = [line for line in lines if re.match(r"src/\S+: error\[", line)]
+    if not errors and not any("has no function `no function`" in line for line in lines):
+        sys.exit(f"edits: {crate.name} can't be read: {lines[-1] if lines else ''}")
     if not errors or len(group) == 1:
         return {group[0]: errors[0]} if errors else {}
     half = len(group) // 2
