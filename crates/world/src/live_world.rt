@@ -170,11 +170,11 @@ impl<M: WritableMemory> LiveWorld<M> {
     /// Takes one event, in a phase of its own. Returns true if it changed something; one that doesn't apply changes
     /// nothing. Only a Fetch, a Hard and a Resize can answer `NoMemory`, and have changed nothing then.
     ///
-    /// Whatever is seen in memory afterwards, there are bytes that may have been found there since the phase began,
-    /// by which the event did what it does. By what is seen a notice was decided. A chain is fetched by one reading:
-    /// by all that memory may be once it was read. Behind every trace that led here from an opening, with whatever
-    /// bytes in memory, the promise is kept, whatever bytes are there afterwards. What was stored are the writes of
-    /// the event's action, in their order, and nothing else.
+    /// The event does what it does by bytes that may have been found in memory since the phase began, whatever is seen
+    /// there afterwards. By what is seen a notice was decided. A chain is fetched by one reading: by all that memory
+    /// may be once it was read. Behind every trace that led here from an opening, with whatever bytes in memory, the
+    /// promise is kept, whatever bytes are there afterwards. What was stored are the writes of the event's action, in
+    /// their order, and nothing else.
     pub fn step(&mut self, event: Event) -> Result<bool, NoMemory>
         ensures size { M.extent self.new.memory ≡ M.extent self.old.memory }
         ensures steps { StepsLive M.shared M.begins M.may_be (Stored M.stored M.storing) self.old (plain_event event) result
