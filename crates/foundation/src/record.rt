@@ -1,6 +1,6 @@
 //! A list that only proofs read.
 //!
-//! `new`, `and` and `and_all` are the only functions that set ghost data; each is proved by hand,
+//! `new`, `any`, `and` and `and_all` are the only functions that set ghost data; each is proved by hand,
 //! since no other proof can set them. A clause on ghost data alone says little: a proof by hand could
 //! choose the data to suit it. It means what it says because these calls alone make a record, and
 //! because invariants tie what was recorded to counts, tables, stores and answers.
@@ -39,6 +39,15 @@ impl<T> Record<T> {
     /// Makes a record of nothing.
     pub fn new() -> Record<T>
         ensures { result.items ≡ [] }
+    {
+        Record { of: PhantomData }
+    }
+
+    /// Makes a record of any items: of those that its caller names in a proof. It stands for bytes that no code has, such as
+    /// those that a host's storage had before it was first read.
+    pub fn any() -> Record<T>
+        ghost items: { List T }
+        ensures { result.items ≡ items }
     {
         Record { of: PhantomData }
     }
