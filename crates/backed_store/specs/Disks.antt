@@ -54,6 +54,11 @@ abbrev pub owes : Disk → ℕ → ℕ → Bool
 owes (Whole s) n p = false
 owes (Backed s) n p = flushes.owes s n p
 
+-- how many of its pages are in memory at most; not said of one that isn't backed
+abbrev pub budget_of : Disk → Option ℕ
+budget_of (Whole s) = None
+budget_of (Backed s) = Some s.cache.budget
+
 pub length-block : (d : Disk) (b : ℕ) → length (blocks_of d b) ≡ 512
 length-block (Whole s) b = length-blocks_in (pages.kept s.pages (b / 8)) (b % 8)
 length-block (Backed s) b = length-contents s b

@@ -33,7 +33,7 @@ pub struct BackedStore {
 }
 
 impl BackedStore {
-    ghost use Rattle.std.specs.Prelude.{false, min};
+    ghost use Rattle.std.specs.Prelude.{false, min, []};
     ghost use Rattle.block_store.specs.Pages.{blocks_in};
     ghost use Rattle.backed_store.specs.Flushes.{KeepsFlushes};
     ghost use Rattle.backed_store.specs.Stores.{contents, backing_of, ledger_of, holds, OwesNoMore};
@@ -46,6 +46,7 @@ impl BackedStore {
         ensures capacity { result.capacity ≡ blocks }
         ensures blocks { (b : ℕ) → contents result b ≡ blocks_in content.items b }
         ensures backing { (b : ℕ) → backing_of result b ≡ blocks_in content.items b }
+        ensures ledger { ledger_of result ≡ record { content = content.items; dealings = [] } }
         ensures absent { (b : ℕ) → holds result b ≡ false }
         ensures budget { result.cache.budget ≡ budget }
     {

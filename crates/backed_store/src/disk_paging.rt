@@ -59,6 +59,7 @@ impl Disk {
         ensures size { size_of self.new ≡ size_of self.old }
         ensures backed { IfOk result (λ given. IfSome given (λ g. is_backed self.old ≡ true)) }
         ensures bytes { IfOk result (λ given. IfSome given (λ g. IsPageOf (blocks_of self.old) g.page g.bytes.items)) }
+        ensures len { IfOk result (λ given. IfSome given (λ g. length g.bytes.items ≡ PAGE_BYTES)) }
         ensures given { IfOk result (λ given. IfSome given (λ g.
             storage_of self.new ≡ option_map (and_then (Dealing.Give g.page g.bytes.items)) (storage_of self.old))) }
         ensures none { IfOk result (λ given. IfNone given (storage_of self.new ≡ storage_of self.old)) }

@@ -85,6 +85,7 @@ impl BackedStore {
         ensures others { IfOk result (λ given. IfSome given (λ g. (p : ℕ) → p ≢ g.page → is_writing self.new p ≡ is_writing self.old p)) }
         ensures dirty { IfOk result (λ given. IfSome given (λ g. IsTrue (is_dirty self.old g.page))) }
         ensures bytes { IfOk result (λ given. IfSome given (λ g. IsPageOf (contents self.old) g.page g.bytes.items)) }
+        ensures len { IfOk result (λ given. IfSome given (λ g. length g.bytes.items ≡ PAGE_BYTES)) }
         ensures given { IfOk result (λ given. IfSome given (λ g. (b : ℕ) →
             (storage_of self.new).given b ≡ with_page g.page (contents self.old) (storage_of self.old).given b)) }
         ensures taken { IfOk result (λ given. IfSome given (λ g.

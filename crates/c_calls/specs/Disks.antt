@@ -1,11 +1,13 @@
 -- What the calls on disks do, and those that hand disks to a device and back.
-use Rattle.std.specs.Prelude.{ℕ, ◌≡◌, ◌≢◌, ◌≤◌, ◌<◌, ◌+◌, ◌*◌, ◌⊎◌, true, false, List, [], length, map, replicate, slice_get, Option, Some, None, is_some}
+use Rattle.std.specs.Prelude.{ℕ, ◌≡◌, ◌≢◌, ◌≤◌, ◌<◌, ◌+◌, ◌*◌, ◌⊎◌, ◌&&◌, not, Bool, true, false, List, [], length, map, replicate, slice_get, Option, Some, None, is_some}
 use Rattle.std.specs.List.{list_any}
 use Rattle.block_store.specs.Blocks.{zero_block, overwritten, run}
-use Rattle.backed_store.specs.Disks.{size_of, blocks_of, storage_of, is_backed}
+use Rattle.block_store.specs.Pages.{blocks_in}
+use Rattle.backed_store.specs.Disks.{size_of, blocks_of, storage_of, holds, budget_of, is_backed}
 use Rattle.backed_store.specs.declared.disk.Disk.{Disk as UnitDisk}
 use Rattle.unit_model.specs.Contents.{is_capacity}
 use Rattle.request_intake.specs.declared.inventory.UnitSpec.{UnitSpec}
+use Rattle.request_intake.specs.Inventory.{is_cached}
 use Rattle.config.specs.Config.{is_config}
 use Rattle.config.specs.declared.config.Config.{Config}
 use Rattle.device_model.specs.World.{Opens}
@@ -33,6 +35,30 @@ CreatesDisk blocks None answer.BadCapacity after = (is_capacity blocks ≡ false
 CreatesDisk blocks None answer.NoMemory after = (is_capacity blocks ≡ true) × (after ≡ None)
 CreatesDisk blocks None answer.Done after = (is_capacity blocks ≡ true) × (s : UnitDisk) × IsBlank blocks s × (after ≡ Some s)
 CreatesDisk blocks None a after = ⊥
+
+-- a disk of so many blocks whose pages come and go, of which none is in memory and at most so many will be, over a storage that
+-- has these bytes
+pub record IsBackedOver (content : List ℕ) (blocks most_pages : ℕ) (s : UnitDisk) : Type 0 where
+  pub size : size_of s ≡ blocks
+  pub blocks : (b : ℕ) → blocks_of s b ≡ blocks_in content b
+  pub absent : (b : ℕ) → holds s b ≡ false
+  pub storage : storage_of s ≡ Some (record { content = content; dealings = [] })
+  pub budget : budget_of s ≡ Some most_pages
+
+-- such a disk is made where there is none, of a capacity that a unit may have
+abbrev pub CreatesBacked : List ℕ → ℕ → ℕ → Option UnitDisk → Answer → Option UnitDisk → Type 0
+CreatesBacked content blocks most_pages (Some s) a after = (a ≡ answer.InUse) × (after ≡ Some s)
+CreatesBacked content blocks most_pages None answer.BadCapacity after = (is_capacity blocks ≡ false) × (after ≡ None)
+CreatesBacked content blocks most_pages None answer.BadLength after = (most_pages < 8448) × (after ≡ None)
+CreatesBacked content blocks most_pages None answer.NoMemory after = after ≡ None
+CreatesBacked content blocks most_pages None answer.Done after =
+    (is_capacity blocks ≡ true) × (8448 ≤ most_pages) × (s : UnitDisk) × IsBackedOver content blocks most_pages s × (after ≡ Some s)
+CreatesBacked content blocks most_pages None a after = ⊥
+
+-- whether there is a disk whose pages come and go
+abbrev pub has_backed : Option UnitDisk → Bool
+has_backed None = false
+has_backed (Some s) = is_backed s
 
 abbrev pub DestroysDisk : Option UnitDisk → Answer → Option UnitDisk → Type 0
 DestroysDisk None a after = (a ≡ answer.NoDisk) × (after ≡ None)
@@ -104,10 +130,20 @@ Lacks units disks place = (u : UnitSpec) × (disk : Option UnitDisk) × (slice_g
     × ((k : ℕ) (v : UnitSpec) (other : Option UnitDisk) → k < place → slice_get units k ≡ Some v
     → slice_get disks k ≡ Some other → Fits v other)
 
+-- whether a unit is given a backed disk, and has no write cache that it tells of
+abbrev pub lacks_cache : UnitSpec → Option UnitDisk → Bool
+lacks_cache u None = false
+lacks_cache u (Some s) = is_backed s && not (is_cached u)
+
+-- such a unit stands at a place
+abbrev pub LacksCache : List UnitSpec → List (Option UnitDisk) → ℕ → Type 0
+LacksCache units disks place = (u : UnitSpec) × (disk : Option UnitDisk) × (slice_get units place ≡ Some u)
+    × (slice_get disks place ≡ Some disk) × (lacks_cache u disk ≡ true)
+
 -- and that is told by the cause of number 13 and the unit's place
 pub record LacksDisk (c : Config) (disks : List (Option UnitDisk)) (told : Fault) : Type 0 where
   pub taken : is_config c ≡ true
-  pub lacks : Lacks c.units.items disks told.place
+  pub lacks : Lacks c.units.items disks told.place ⊎ LacksCache c.units.items disks told.place
   pub named : plain_cause told ≡ record { cause = 13; place = told.place; detail = 0 }
 
 -- as `World::new_with`: the disks are the device's then; else all is as it was, but for why a configuration isn't taken

@@ -13,4 +13,5 @@ pub mod Position
 pub mod Live
 pub mod LiveAsked
 pub mod LiveDisks
+pub mod Storage
 pub mod Inner

@@ -33,6 +33,7 @@ identity_of u =
       physical_exponent = u.physical_exponent;
       rotation_rate = u.rotation_rate;
       sense_format = sense_format_of u.sense_format;
+      write_cache = not (u.write_cache == 0);
     }
 
 abbrev pub spec_of : WantedUnit → UnitSpec

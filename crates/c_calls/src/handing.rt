@@ -7,12 +7,13 @@ ghost use Rattle.std.specs.Vec.{vec_capacity};
 ghost use Rattle.std.specs.Result.{MatchResult};
 ghost use Rattle.c_calls.specs.Kept.{kept_in, disk_at, disks_at};
 ghost use Rattle.c_calls.specs.Calls.{plain_cause};
-ghost use Rattle.c_calls.specs.Disks.{Fits, Lacks, CreatesOver, Closes};
-ghost use Rattle.c_calls.specs.Inner.Disks.{Fit};
+ghost use Rattle.c_calls.specs.Disks.{Fits, Lacks, lacks_cache, LacksCache, CreatesOver, Closes};
+ghost use Rattle.c_calls.specs.Inner.Disks.{Fit, AreCached};
 
 use crate::answer::Answer;
 use crate::device::Device;
 use crate::disk::Disk;
+use crate::disks::is_backed;
 use crate::served::Served;
 use crate::wanted::{Fault, WantedQueue, WantedUnit, config_of, fault_of};
 use backed_store::Disk as UnitDisk;
@@ -50,6 +51,28 @@ pub(crate) fn lacking(units: &[UnitSpec], disks: &[Disk]) -> Option<usize>
 {
     for place in 0..disks.len() {
         if !has_disk_for(&disks[place], &units[place]) {
+            return Some(place);
+        }
+    }
+    None
+}
+
+/// Returns true if a place has a backed disk, and the unit has no write cache that it tells of.
+fn is_uncached(disk: &mut Disk, alloc: Global, unit: &UnitSpec) -> bool
+    ensures told { result ≡ lacks_cache unit.now (disk_at disk.old) }
+    ensures same { disk_at disk.new ≡ disk_at disk.old }
+{
+    is_backed(disk, alloc) && !unit.has_write_cache()
+}
+
+/// Returns the place of the first unit that has a backed disk, and no write cache that it tells of.
+pub(crate) fn uncached(units: &[UnitSpec], disks: &mut [Disk], alloc: Global) -> Option<usize>
+    requires { length disks.old ≡ length units.now }
+    ensures found { MatchOption result (AreCached units.now (disks_at disks.old)) (λ place. LacksCache units.now (disks_at disks.old) place) }
+    ensures same { disks_at disks.new ≡ disks_at disks.old }
+{
+    for place in 0..disks.len() {
+        if is_uncached(&mut disks[place], alloc, &units[place]) {
             return Some(place);
         }
     }
@@ -102,6 +125,10 @@ pub fn create_with(
         return Answer::BadConfig;
     }
     if let Some(place) = lacking(config.units.as_slice(), disks) {
+        *fault = no_disk_at(place);
+        return Answer::BadConfig;
+    }
+    if let Some(place) = uncached(config.units.as_slice(), disks, alloc) {
         *fault = no_disk_at(place);
         return Answer::BadConfig;
     }

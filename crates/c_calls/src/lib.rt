@@ -25,6 +25,7 @@ mod live_device;
 pub mod live_handing;
 mod live_opening;
 mod live_served;
+mod live_storage;
 mod live_wanted;
 mod loose;
 mod owner;
@@ -33,6 +34,7 @@ mod ranges;
 mod region;
 mod rings;
 mod served;
+pub mod storage_calls;
 mod wanted;
 
 pub use answer::Answer;

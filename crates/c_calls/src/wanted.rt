@@ -58,6 +58,8 @@ pub struct WantedUnit {
     pub naa: [u8; 8],
     /// 0: the unit sends sense data in the fixed format; else in the descriptor format.
     pub sense_format: u8,
+    /// 0: the unit has no write cache.
+    pub write_cache: u8,
 }
 
 /// Returns the profile of this number.
@@ -102,6 +104,7 @@ impl WantedUnit {
             physical_exponent: self.physical_exponent,
             rotation_rate: self.rotation_rate,
             sense_format: sense_format(self.sense_format),
+            write_cache: self.write_cache != 0,
         }
     }
 

@@ -49,6 +49,13 @@ impl JobsAside {
         self.aside.len() + self.woken.len() < limit
     }
 
+    /// Returns how many jobs wait, those that are to be tried again among them.
+    pub(crate) fn count(&self) -> usize
+        ensures { result ≡ length self.now.aside + length self.now.woken }
+    {
+        self.aside.len() + self.woken.len()
+    }
+
     /// Returns true if a job is to be tried again.
     pub(crate) fn has_woken(&self) -> bool
         ensures { Denies (self.now.woken ≡ []) result }

@@ -5,9 +5,17 @@ use backed_store::{GivenPage, PAGE_BYTES};
 use foundation::NoMemory;
 
 impl Device {
-    ghost use Rattle.std.specs.Prelude.{◌≡◌, length, IsTrue, IsFalse, IfOk, OnErr, IfSome, IfNone};
+    ghost use Rattle.std.specs.Prelude.{◌≡◌, ◌+◌, length, IsTrue, IsFalse, IfOk, OnErr, IfSome, IfNone};
     ghost use Rattle.block_store.specs.Storage.{Dealing};
     ghost use Rattle.device_steps.specs.Paging.{IsBackedAt, IsKeptPage, IsDealt};
+
+    /// Returns how many jobs wait for pages of their disks, or for what was written to be kept, those that are to be tried again
+    /// among them. A host wakes them once more where fewer wait than before.
+    pub fn waiting(&self) -> usize
+        ensures { result ≡ length self.now.aside + length self.now.woken }
+    {
+        self.jobs_aside.count()
+    }
 
     /// Returns the next page of the disk of the unit at a place that the host is to read, 8 blocks each, and counts it as
     /// asked for. The host hands it in by [`Device::load`], or says that it can't by [`Device::load_failed`]. `None` where no
@@ -57,6 +65,7 @@ impl Device {
     pub fn give(&mut self, place: u16) -> Result<Option<GivenPage>, NoMemory>
         ensures given { IfOk result (λ given. IfSome given (λ g.
             IsDealt self.old place (Dealing.Give g.page g.bytes.items) self.new)) }
+        ensures len { IfOk result (λ given. IfSome given (λ g. length g.bytes.items ≡ PAGE_BYTES)) }
         ensures none { IfOk result (λ given. IfNone given (self.new ≡ self.old)) }
         ensures err { OnErr result (self.new ≡ self.old) }
     {

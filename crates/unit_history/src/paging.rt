@@ -44,6 +44,7 @@ impl UnitState {
     pub fn give(&mut self) -> Result<Option<GivenPage>, NoMemory>
         ensures may { IfOk result (λ given. IfSome given (λ g. MayDeal self.old (Dealing.Give g.page g.bytes.items))) }
         ensures given { IfOk result (λ given. IfSome given (λ g. self.new ≡ dealing (Dealing.Give g.page g.bytes.items) self.old)) }
+        ensures len { IfOk result (λ given. IfSome given (λ g. length g.bytes.items ≡ PAGE_BYTES)) }
         ensures none { IfOk result (λ given. IfNone given (self.new ≡ self.old)) }
         ensures err { OnErr result (self.new ≡ self.old) }
     {

@@ -32,6 +32,9 @@
  * in by vscsi_poke, what the device wrote is copied out by vscsi_peek. docs/C.md says which bytes, and when. A `struct
  * vscsi_live` works in the guest's memory itself, where the host mapped it (vscsi_map).
  *
+ * A disk's blocks are in memory, all of them, or the host's storage has them: of a backed disk a bounded number of pages is
+ * in memory (vscsi_disk_create_backed).
+ *
  * Versions. VSCSI_VERSION is that of this header, vscsi_version() that of the library. With one major version programs
  * that were built with an older header go on working: numbers keep their meaning, and calls, numbers and fields at a
  * structure's end are only added. */
@@ -46,9 +49,9 @@
 extern "C" {
 #endif
 
-/* The version of this header: 1.6.0. VSCSI_VERSION is major * 65,536 + minor * 256 + patch. */
+/* The version of this header: 1.7.0. VSCSI_VERSION is major * 65,536 + minor * 256 + patch. */
 #define VSCSI_VERSION_MAJOR 1
-#define VSCSI_VERSION_MINOR 6
+#define VSCSI_VERSION_MINOR 7
 #define VSCSI_VERSION_PATCH 0
 #define VSCSI_VERSION ((uint32_t)VSCSI_VERSION_MAJOR << 16 | (uint32_t)VSCSI_VERSION_MINOR << 8 | (uint32_t)VSCSI_VERSION_PATCH)
 
@@ -106,6 +109,10 @@ enum vscsi_answer {
 
 /* The most blocks of a disk: 512 tebibytes. A disk takes memory for what was written to it, and none for its size. */
 #define VSCSI_MOST_BLOCKS (UINT64_C(1) << 40)
+
+/* The least number of pages, of 4 KiB, that a backed disk may have in memory: 33 MiB. The largest command needs some 8,224 at
+ * once. Since 1.7. */
+#define VSCSI_LEAST_PAGES 8448u
 
 /* Where the driver put a queue: its descriptors, its driver area and its device area, by guest addresses, and how many
  * descriptors it has, 2 to 1,024. Of a split queue the driver area is the available ring, and the device area the used
@@ -192,7 +199,8 @@ enum vscsi_cause {
   VSCSI_CAUSE_UNIT_BLOCKS = 10, /* no blocks, or more than VSCSI_MOST_BLOCKS */
   VSCSI_CAUSE_UNIT_ORDER = 11,  /* a unit that doesn't stand above the one before it */
   VSCSI_CAUSE_NO_LUN_0 = 12,    /* a unit whose target has no LUN 0 */
-  VSCSI_CAUSE_UNIT_DISK = 13,   /* of vscsi_create_with: a unit that is given no disk, or one of another capacity */
+  VSCSI_CAUSE_UNIT_DISK = 13,   /* a unit that is given no disk, or one of another capacity; a backed one where the unit is
+                                   narrow, or the device is none on live memory */
   VSCSI_CAUSE_UNIT_PROFILE = 14, /* a unit whose profile isn't among `enum vscsi_profile`. Since 1.5 */
   VSCSI_CAUSE_UNIT_IDENTITY = 15, /* a unit that says of itself what none may, or a narrow one that says anything. Since 1.6 */
   VSCSI_CAUSE_UNIT_NAA = 16       /* a unit whose NAA designator another has. Since 1.6 */
@@ -460,12 +468,12 @@ enum vscsi_answer vscsi_disk_blocks(const struct vscsi_disk *disk, uint64_t *blo
 /* Copies bytes over blocks of a disk; `length` is `count` times 512. Blocks that a disk never got are zeros: whoever
  * loads a sparse file leaves its holes out. Since 1.2.
  * The first of these, in this order, that is so: VSCSI_NO_DISK; VSCSI_BAD_LENGTH; VSCSI_OUTSIDE; VSCSI_NO_MEMORY, and then no block
- * has changed. */
+ * has changed: also where the disk is backed, and pages of these blocks aren't in memory. */
 enum vscsi_answer vscsi_disk_load(struct vscsi_disk *disk, uint64_t first, uint32_t count, const void *bytes, size_t length);
 
 /* Copies blocks of a disk out; `length` is `count` times 512. Since 1.2.
  * The first of these, in this order, that is so: VSCSI_NO_DISK; VSCSI_BAD_LENGTH; VSCSI_OUTSIDE; VSCSI_NO_MEMORY, never where
- * `count` is 0. */
+ * `count` is 0; also where the disk is backed, and pages of these blocks aren't in memory. */
 enum vscsi_answer vscsi_disk_save(struct vscsi_disk *disk, uint64_t first, uint32_t count, void *into, size_t length);
 
 /* Live memory: a device that serves a guest where the guest's memory is, while the guest runs. Nothing is copied in and
@@ -543,6 +551,71 @@ enum vscsi_answer vscsi_live_changed(struct vscsi_live *device, uint8_t target, 
                                      size_t room, size_t *count, bool *all);
 enum vscsi_answer vscsi_live_close(struct vscsi_live *device, struct vscsi_disk *disks, size_t count);
 enum vscsi_answer vscsi_live_destroy(struct vscsi_live *device);
+
+/* Backed disks: the host's storage has their blocks, and the device a bounded number of pages of 4 KiB, 8 blocks each. Page n
+ * has the bytes from 4,096 * n on; what lies behind the disk's last block is zeros. The host reads and writes pages by any means,
+ * as many at once as it likes and in any order, while the device serves.
+ *
+ * The unit has the wide profile, and tells its guest of a volatile write cache: WCE is 1 and DPOFUA 0 (docs/COMMANDS.md). A WRITE
+ * is answered as it stands in memory. SYNCHRONIZE CACHE is answered once the host has said of each page that was changed before
+ * it that it is kept. A command that needs a page which isn't in memory waits, alone.
+ *
+ * What the host owes, and nothing checks: what it hands in by vscsi_live_load is what its storage had of the page when the disk
+ * was made, or what it last said by vscsi_live_written that it kept. All that is promised of the unit's blocks rests on that.
+ *
+ * The host's loop, behind each kick and each read or write of its own that is over:
+ * 1. vscsi_live_load, vscsi_live_load_failed or vscsi_live_written for what is over; if there was any, vscsi_live_wake.
+ * 2. vscsi_live_serve until `more` is false; vscsi_live_owed, and notify.
+ * 3. vscsi_live_give of each backed disk until nothing is found: begin these writes. vscsi_live_wanted until nothing is found:
+ *    begin these reads.
+ * 4. If commands wait, vscsi_live_wake and vscsi_live_serve once more; and again from 2 where fewer wait than before. A command
+ *    may wait for room that another had, and then no page that comes wakes it.
+ * Before it closes a device the host waits for its reads and writes to end, and writes what vscsi_live_give still finds: pages that
+ * were changed stay with the disk, and are lost with it.
+ *
+ * Makes a backed disk of 1 to VSCSI_MOST_BLOCKS blocks, of which at most `most_pages` pages are in memory, VSCSI_LEAST_PAGES or
+ * more. None is there yet. Only a `struct vscsi_live` takes such a disk. Since 1.7.
+ * The first of these, in this order, that is so: VSCSI_IN_USE; VSCSI_BAD_CAPACITY; VSCSI_BAD_LENGTH where there are fewer pages;
+ * VSCSI_NO_MEMORY. */
+enum vscsi_answer vscsi_disk_create_backed(struct vscsi_disk *disk, uint64_t blocks, size_t most_pages);
+
+/* Tells the next page of a unit's disk that the host is to read; `found` is false where there is none, as of a disk that isn't
+ * backed. A page is told once; it is told again where a command still needs it after vscsi_live_load_failed. Takes no memory.
+ * Since 1.7.
+ * The first of these, in this order, that is so: VSCSI_NO_DEVICE; VSCSI_NO_UNIT. */
+enum vscsi_answer vscsi_live_wanted(struct vscsi_live *device, uint8_t target, uint16_t lun, uint64_t *page, bool *found);
+
+/* Hands in the 4,096 bytes of a page that the host was told to read. The bytes are copied. A host that was given the same page to
+ * write since it was told to read it calls vscsi_live_load_failed in place of this: what it read may be older. Bytes of a page
+ * that isn't wanted any more aren't looked at. Since 1.7.
+ * The first of these, in this order, that is so: VSCSI_NO_DEVICE; VSCSI_NO_UNIT; VSCSI_NO_MEMORY, and then the page may be handed in
+ * again. */
+enum vscsi_answer vscsi_live_load(struct vscsi_live *device, uint8_t target, uint16_t lun, uint64_t page, const void *bytes);
+
+/* Says that a page which the host was told to read doesn't come: its storage failed, or was given the page meanwhile. No command
+ * fails by that. Behind the next vscsi_live_wake those that need the page have it told again, so a host whose storage failed lets
+ * some time pass. Takes no memory. Since 1.7.
+ * The first of these, in this order, that is so: VSCSI_NO_DEVICE; VSCSI_NO_UNIT. */
+enum vscsi_answer vscsi_live_load_failed(struct vscsi_live *device, uint8_t target, uint16_t lun, uint64_t page);
+
+/* Gives the host the next page of a unit's disk that it is to write: its number, and into `bytes` its 4,096 bytes as they are now.
+ * `found` is false, and `bytes` as it was, where each changed page was given. The host answers by vscsi_live_written. Until then
+ * the page isn't given again, whatever the guest writes. To call it until nothing is found also frees room that was kept for pages
+ * which weren't changed then. Since 1.7.
+ * The first of these, in this order, that is so: VSCSI_NO_DEVICE; VSCSI_NO_UNIT; VSCSI_NO_MEMORY. */
+enum vscsi_answer vscsi_live_give(struct vscsi_live *device, uint8_t target, uint16_t lun, uint64_t *page, void *bytes, bool *found);
+
+/* Says that the write of a page is over. Where `kept` is true, the storage gives the page back as it was given, also behind a
+ * crash of the host or its machine: a host that writes a file calls fdatasync first, once for many pages. Where it is false the
+ * page stays as it is in memory, and is given again. A page that the guest changed meanwhile is given again, too. Since 1.7.
+ * The first of these, in this order, that is so: VSCSI_NO_DEVICE; VSCSI_NO_UNIT; VSCSI_NO_MEMORY, and then the host says it again
+ * later. */
+enum vscsi_answer vscsi_live_written(struct vscsi_live *device, uint8_t target, uint16_t lun, uint64_t page, bool kept);
+
+/* Has each command that waits for pages, for room or for what was written before it tried again, by the next vscsi_live_serve, which
+ * takes two steps at most for each. `waiting` is how many these are, of all units; it is optional. Takes no memory. Since 1.7.
+ * VSCSI_NO_DEVICE. */
+enum vscsi_answer vscsi_live_wake(struct vscsi_live *device, uint64_t *waiting);
 
 /* The version of the library, as VSCSI_VERSION tells that of the header. */
 uint32_t vscsi_version(void);

@@ -27,6 +27,7 @@ struct wanted_unit {
   uint8_t has_naa;
   uint8_t naa[8];
   uint8_t sense_format;
+  uint8_t write_cache;
 };
 
 /* What the device exports (`src/exports.rt`). */
@@ -53,6 +54,8 @@ uint32_t vscsi_raw_create_with(struct vscsi *device, uint32_t pages, uint64_t fe
                                struct vscsi_fault *fault);
 uint32_t vscsi_raw_close(struct vscsi *device, struct vscsi_disk *disks, size_t count);
 uint32_t vscsi_raw_disk_create(struct vscsi_disk *disk, uint64_t blocks);
+uint32_t vscsi_raw_disk_create_backed(struct vscsi_disk *disk, uint64_t blocks, size_t most_pages);
+bool vscsi_raw_disk_is_backed(struct vscsi_disk *disk);
 uint32_t vscsi_raw_disk_destroy(struct vscsi_disk *disk);
 uint32_t vscsi_raw_disk_blocks(const struct vscsi_disk *disk, uint64_t *blocks);
 uint32_t vscsi_raw_disk_load(struct vscsi_disk *disk, uint64_t first, uint32_t count, const uint8_t *bytes, size_t length);
@@ -83,6 +86,13 @@ uint32_t vscsi_raw_live_blocks(struct vscsi_live *device, uint8_t target, uint16
                                size_t length);
 uint32_t vscsi_raw_live_changed(struct vscsi_live *device, uint8_t target, uint16_t lun, struct told *told, struct vscsi_range *room,
                                 size_t length);
+uint32_t vscsi_raw_live_wanted(struct vscsi_live *device, uint8_t target, uint16_t lun, uint64_t *page, bool *found);
+uint32_t vscsi_raw_live_load(struct vscsi_live *device, uint8_t target, uint16_t lun, uint64_t page, const uint8_t *bytes, size_t length);
+uint32_t vscsi_raw_live_load_failed(struct vscsi_live *device, uint8_t target, uint16_t lun, uint64_t page);
+uint32_t vscsi_raw_live_give(struct vscsi_live *device, uint8_t target, uint16_t lun, uint64_t *page, uint8_t *bytes, size_t length,
+                             bool *found);
+uint32_t vscsi_raw_live_written(struct vscsi_live *device, uint8_t target, uint16_t lun, uint64_t page, bool kept);
+uint32_t vscsi_raw_live_wake(struct vscsi_live *device, uint64_t *waiting);
 
 /* Returns true if so many items of a size are more than memory has room for. */
 static bool is_long(size_t count, size_t size) { return count > PTRDIFF_MAX / size; }
@@ -160,6 +170,21 @@ static bool read_units(struct wanted_units *wanted, const struct vscsi_unit *uni
   return true;
 }
 
+/* Has each unit tell of a write cache whose disk is backed. */
+static void tell_caches(struct wanted_units *wanted, struct vscsi_disk *disks) {
+  for (size_t place = 0; place < wanted->count; place++) wanted->items[place].write_cache = vscsi_raw_disk_is_backed(&disks[place]);
+}
+
+/* Returns true if none of the units' disks is backed. Else tells of the first that is. */
+static bool are_in_memory(struct vscsi_disk *disks, size_t count, struct vscsi_fault *fault) {
+  for (size_t place = 0; place < count; place++) {
+    if (!vscsi_raw_disk_is_backed(&disks[place])) continue;
+    *fault = (struct vscsi_fault){.place = place, .cause = VSCSI_CAUSE_UNIT_DISK, .detail = 0};
+    return false;
+  }
+  return true;
+}
+
 /* The sizes of configurations in older headers: without `identities`, without `profiles`, and without `asks`. */
 static const size_t size_without_identities = offsetof(struct vscsi_config, identities);
 static const size_t live_size_without_identities = offsetof(struct vscsi_live_config, identities);
@@ -224,6 +249,7 @@ enum vscsi_answer vscsi_create_with(struct vscsi *device, const struct vscsi_con
   if (device->live) return VSCSI_IN_USE;
   if (!fault) fault = &unread;
   if (!read_units(&units, config->units, config->unit_count, profiles_of(config), identities_of(config), fault)) return VSCSI_BAD_CONFIG;
+  if (disks && !are_in_memory(disks, units.count, fault)) return VSCSI_BAD_CONFIG;
   return (enum vscsi_answer)vscsi_raw_create_with(device, config->pages, config->features, config->queues ? config->queues : &no_queue,
                                                   config->queue_count, units.items, units.count, disks ? disks : &nothing, units.count,
                                                   fault);
@@ -362,6 +388,7 @@ enum vscsi_answer vscsi_live_create(struct vscsi_live *device, const struct vscs
   if (vscsi_raw_live_is_there(device)) return VSCSI_IN_USE;
   if (!fault) fault = &unread;
   if (!read_units(&units, config->units, config->unit_count, live_profiles_of(config), live_identities_of(config), fault)) return VSCSI_BAD_CONFIG;
+  if (disks) tell_caches(&units, disks);
   struct bus_map *map = bus_map();
   if (!map) return VSCSI_NO_MEMORY;
   answer = create_over(device, map, config, &units, disks, fault);
@@ -490,8 +517,39 @@ enum vscsi_answer vscsi_live_changed(struct vscsi_live *device, uint8_t target, 
   return VSCSI_DONE;
 }
 
+enum vscsi_answer vscsi_live_wanted(struct vscsi_live *device, uint8_t target, uint16_t lun, uint64_t *page, bool *found) {
+  return device && page && found ? (enum vscsi_answer)vscsi_raw_live_wanted(device, target, lun, page, found) : VSCSI_NULL;
+}
+
+enum vscsi_answer vscsi_live_load(struct vscsi_live *device, uint8_t target, uint16_t lun, uint64_t page, const void *bytes) {
+  if (!device || !bytes) return VSCSI_NULL;
+  return (enum vscsi_answer)vscsi_raw_live_load(device, target, lun, page, (const uint8_t *)bytes, VSCSI_PAGE);
+}
+
+enum vscsi_answer vscsi_live_load_failed(struct vscsi_live *device, uint8_t target, uint16_t lun, uint64_t page) {
+  return device ? (enum vscsi_answer)vscsi_raw_live_load_failed(device, target, lun, page) : VSCSI_NULL;
+}
+
+enum vscsi_answer vscsi_live_give(struct vscsi_live *device, uint8_t target, uint16_t lun, uint64_t *page, void *bytes, bool *found) {
+  if (!device || !page || !bytes || !found) return VSCSI_NULL;
+  return (enum vscsi_answer)vscsi_raw_live_give(device, target, lun, page, (uint8_t *)bytes, VSCSI_PAGE, found);
+}
+
+enum vscsi_answer vscsi_live_written(struct vscsi_live *device, uint8_t target, uint16_t lun, uint64_t page, bool kept) {
+  return device ? (enum vscsi_answer)vscsi_raw_live_written(device, target, lun, page, kept) : VSCSI_NULL;
+}
+
+enum vscsi_answer vscsi_live_wake(struct vscsi_live *device, uint64_t *waiting) {
+  uint64_t unread = 0;
+  return device ? (enum vscsi_answer)vscsi_raw_live_wake(device, waiting ? waiting : &unread) : VSCSI_NULL;
+}
+
 enum vscsi_answer vscsi_disk_create(struct vscsi_disk *disk, uint64_t blocks) {
   return disk ? (enum vscsi_answer)vscsi_raw_disk_create(disk, blocks) : VSCSI_NULL;
+}
+
+enum vscsi_answer vscsi_disk_create_backed(struct vscsi_disk *disk, uint64_t blocks, size_t most_pages) {
+  return disk ? (enum vscsi_answer)vscsi_raw_disk_create_backed(disk, blocks, most_pages) : VSCSI_NULL;
 }
 
 enum vscsi_answer vscsi_disk_destroy(struct vscsi_disk *disk) { return disk ? (enum vscsi_answer)vscsi_raw_disk_destroy(disk) : VSCSI_NULL; }
@@ -555,7 +613,7 @@ const char *vscsi_cause_text(uint32_t cause) {
       [VSCSI_CAUSE_UNIT_BLOCKS] = "a unit of no blocks, or of too many",
       [VSCSI_CAUSE_UNIT_ORDER] = "a unit that doesn't stand above the one before it",
       [VSCSI_CAUSE_NO_LUN_0] = "a unit whose target has no LUN 0",
-      [VSCSI_CAUSE_UNIT_DISK] = "a unit that is given no disk, or one of another capacity",
+      [VSCSI_CAUSE_UNIT_DISK] = "a unit that is given no disk, one of another capacity, or a backed one that it can't have",
       [VSCSI_CAUSE_UNIT_PROFILE] = "a unit of a profile that the device doesn't know",
       [VSCSI_CAUSE_UNIT_IDENTITY] = "a unit that says of itself what none may, or a narrow one that says anything",
       [VSCSI_CAUSE_UNIT_NAA] = "a unit whose NAA designator another has",

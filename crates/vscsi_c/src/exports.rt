@@ -1,14 +1,14 @@
 //! The exports, which C calls: each is one call, and its answer's number. The header says what C owes for each: a
 //! `Device` that C made of zeros or that a call left, and room where a call writes.
 
-ghost use Rattle.std.specs.Prelude.{◌≡◌};
+ghost use Rattle.std.specs.Prelude.{◌≡◌, ℕ, List};
 ghost use Rattle.c_calls.specs.Answers.{Tells};
 ghost use Rattle.c_calls.specs.Kept.{kept_in, disk_at, disks_at};
 ghost use Rattle.c_calls.specs.Calls.{Serving, Settles, ServesPortion, Pokes, Peeks, Owes, IsStatus, Breaks, Counts, Resets, Resizes, Holds, Gives, Creates, Destroys};
 ghost use Rattle.c_calls.specs.Changes.{TellsChanges};
 ghost use Rattle.c_calls.specs.Counts.{TellsCounts};
 ghost use Rattle.c_calls.specs.Position.{TellsPosition};
-ghost use Rattle.c_calls.specs.Disks.{CreatesDisk, DestroysDisk, OnDisk, HasBlocks, LoadsBlocks, Saves, CreatesOver, Closes};
+ghost use Rattle.c_calls.specs.Disks.{CreatesBacked, has_backed, CreatesDisk, DestroysDisk, OnDisk, HasBlocks, LoadsBlocks, Saves, CreatesOver, Closes};
 
 use c_calls::{
     BlockRange, Device, Disk, Fault, RingPosition, Told, UnitCounts, WantedQueue, WantedUnit,
@@ -242,6 +242,29 @@ pub extern "C" fn vscsi_raw_disk_create(disk: &mut Disk, alloc: Global, blocks: 
     ensures { Tells result (λ a. CreatesDisk blocks (disk_at disk.old) a (disk_at disk.new)) }
 {
     disks::create_disk(disk, alloc, blocks).code()
+}
+
+/// Makes a disk whose pages come and go where there is none, over a storage that has these bytes.
+#[unsafe(no_mangle)]
+pub extern "C" fn vscsi_raw_disk_create_backed(
+    disk: &mut Disk,
+    alloc: Global,
+    blocks: u64,
+    most_pages: usize,
+) -> u32
+    ghost content: { List ℕ }
+    ensures { Tells result (λ a. CreatesBacked content blocks most_pages (disk_at disk.old) a (disk_at disk.new)) }
+{
+    disks::create_backed(disk, alloc, blocks, most_pages).code()
+}
+
+/// Returns true if there is a disk whose pages come and go.
+#[unsafe(no_mangle)]
+pub extern "C" fn vscsi_raw_disk_is_backed(disk: &mut Disk, alloc: Global) -> bool
+    ensures told { result ≡ has_backed (disk_at disk.old) }
+    ensures same { disk_at disk.new ≡ disk_at disk.old }
+{
+    disks::is_backed(disk, alloc)
 }
 
 /// Lets go of a disk and of all its memory.

@@ -6,10 +6,11 @@ ghost use Rattle.c_calls.specs.Kept.{live_at, disks_at};
 ghost use Rattle.c_calls.specs.LiveAsked.{ServesAskedPortion};
 ghost use Rattle.c_calls.specs.Live.{ServingLive, Maps, AsksDriver, ServesPortion, Owes, IsStatus, Breaks, Resets, Resizes, Holds, Gives, TellsCounts, TellsPosition, TellsChanges, CreatesLive, DestroysLive};
 ghost use Rattle.c_calls.specs.LiveDisks.{CreatesLiveOver, ClosesLive};
+ghost use Rattle.c_calls.specs.Storage.{OwesPage, WantsPage, LoadsPage, FailsPage, GivesPage, KeepsPage, Wakes};
 
 use c_calls::{
     BlockRange, Disk, Fault, LiveDevice, Region, RingPosition, Told, UnitCounts, WantedRing,
-    WantedUnit, live_calls, live_handing,
+    WantedUnit, live_calls, live_handing, storage_calls,
 };
 use std::alloc::Global;
 
@@ -279,4 +280,98 @@ pub extern "C" fn vscsi_raw_live_changed(
         (live_at device.old) a (live_at device.new)) }
 {
     live_calls::changed(device, alloc, target, lun, told, room).code()
+}
+
+/// Tells the next page of a unit's disk that the host is to read.
+#[unsafe(no_mangle)]
+pub extern "C" fn vscsi_raw_live_wanted(
+    device: &mut LiveDevice,
+    alloc: Global,
+    target: u8,
+    lun: u16,
+    page: &mut u64,
+    found: &mut bool,
+) -> u32
+    ensures { Tells result (λ a. ServingLive (WantsPage target lun page.old found.old page.new found.new)
+        ((page.new ≡ page.old) × (found.new ≡ found.old)) (live_at device.old) a (live_at device.new)) }
+{
+    storage_calls::wanted(device, alloc, target, lun, page, found).code()
+}
+
+/// Takes the bytes of a page that the host read. The host owes that its storage has them.
+#[unsafe(no_mangle)]
+pub extern "C" fn vscsi_raw_live_load(
+    device: &mut LiveDevice,
+    alloc: Global,
+    target: u8,
+    lun: u16,
+    page: u64,
+    bytes: &[u8],
+) -> u32
+    requires owed { OwesPage target lun page bytes.now (live_at device.old) }
+    ensures { Tells result (λ a. ServingLive (LoadsPage target lun bytes.now) (Unit {0}) (live_at device.old) a
+        (live_at device.new)) }
+{
+    storage_calls::load(device, alloc, target, lun, page, bytes).code()
+}
+
+/// Notes that a page doesn't come.
+#[unsafe(no_mangle)]
+pub extern "C" fn vscsi_raw_live_load_failed(
+    device: &mut LiveDevice,
+    alloc: Global,
+    target: u8,
+    lun: u16,
+    page: u64,
+) -> u32
+    ensures { Tells result (λ a. ServingLive (FailsPage target lun) (Unit {0}) (live_at device.old) a (live_at device.new)) }
+{
+    storage_calls::load_failed(device, alloc, target, lun, page).code()
+}
+
+/// Gives the host the next page that it is to write.
+#[unsafe(no_mangle)]
+pub extern "C" fn vscsi_raw_live_give(
+    device: &mut LiveDevice,
+    alloc: Global,
+    target: u8,
+    lun: u16,
+    page: &mut u64,
+    bytes: &mut [u8],
+    found: &mut bool,
+) -> u32
+    ensures { Tells result (λ a. ServingLive (GivesPage target lun page.old bytes.old found.old page.new bytes.new found.new)
+        ((page.new ≡ page.old) × (bytes.new ≡ bytes.old) × (found.new ≡ found.old))
+        (live_at device.old) a (live_at device.new)) }
+{
+    storage_calls::give(device, alloc, target, lun, page, bytes, found).code()
+}
+
+/// Notes that the host's write of a page is over.
+#[unsafe(no_mangle)]
+pub extern "C" fn vscsi_raw_live_written(
+    device: &mut LiveDevice,
+    alloc: Global,
+    target: u8,
+    lun: u16,
+    page: u64,
+    kept: bool,
+) -> u32
+    ensures { Tells result (λ a. ServingLive (KeepsPage target lun page kept) (Unit {0}) (live_at device.old) a
+        (live_at device.new)) }
+{
+    storage_calls::written(device, alloc, target, lun, page, kept).code()
+}
+
+/// Has each command that waits tried again, and tells how many these are.
+#[unsafe(no_mangle)]
+pub extern "C" fn vscsi_raw_live_wake(
+    device: &mut LiveDevice,
+    alloc: Global,
+    waiting: &mut u64,
+) -> u32
+    ensures { Tells result (λ a. ServingLive (Wakes waiting.old waiting.new) (waiting.new ≡ waiting.old) (live_at device.old)
+        a (live_at device.new)) }
+{
+    storage_calls::wake(device, alloc, waiting).code()
 }

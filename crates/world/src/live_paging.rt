@@ -10,10 +10,18 @@ use foundation::NoMemory;
 use guest_mem::WritableMemory;
 
 impl<M: WritableMemory> LiveWorld<M> {
-    ghost use Rattle.std.specs.Prelude.{◌≡◌, length, IsTrue, IsFalse, IfOk, OnErr, IfSome, IfNone};
+    ghost use Rattle.std.specs.Prelude.{◌≡◌, ◌+◌, length, IsTrue, IsFalse, IfOk, OnErr, IfSome, IfNone};
     ghost use Rattle.block_store.specs.Storage.{Dealing};
     ghost use Rattle.device_steps.specs.Paging.{IsBackedAt, IsKeptPage};
     ghost use Rattle.world.specs.Paging.{DealsPromised};
+
+    /// Returns how many jobs wait for pages of their disks, or for what was written to be kept, those that are to be tried again
+    /// among them. A host makes a Wake once more where fewer wait than before.
+    pub fn waiting(&self) -> usize
+        ensures { result ≡ length self.now.device.aside + length self.now.device.woken }
+    {
+        self.device.waiting()
+    }
 
     /// Returns the next page of the disk of the unit at a place that the host is to read, 8 blocks each, and counts it as
     /// asked for. The host hands it in by [`LiveWorld::load`], or says that it can't by [`LiveWorld::load_failed`]. `None` where no
@@ -52,6 +60,7 @@ impl<M: WritableMemory> LiveWorld<M> {
         ensures memory { self.new.memory ≡ self.old.memory }
         ensures given { IfOk result (λ given. IfSome given (λ g. DealsPromised M.shared (M.extent self.old.memory) self.old.device place
             (Dealing.Give g.page g.bytes.items) self.new.device)) }
+        ensures len { IfOk result (λ given. IfSome given (λ g. length g.bytes.items ≡ PAGE_BYTES)) }
         ensures none { IfOk result (λ given. IfNone given (self.new ≡ self.old)) }
         ensures err { OnErr result (self.new ≡ self.old) }
     {

@@ -7,10 +7,18 @@ use device_model::trace_laws::the_promise_is_kept;
 use foundation::NoMemory;
 
 impl World {
-    ghost use Rattle.std.specs.Prelude.{◌≡◌, length, IsTrue, IsFalse, IfOk, OnErr, IfSome, IfNone};
+    ghost use Rattle.std.specs.Prelude.{◌≡◌, ◌+◌, length, IsTrue, IsFalse, IfOk, OnErr, IfSome, IfNone};
     ghost use Rattle.block_store.specs.Storage.{Dealing};
     ghost use Rattle.device_steps.specs.Paging.{IsBackedAt, IsKeptPage};
     ghost use Rattle.world.specs.Paging.{DealsAsPromised};
+
+    /// Returns how many jobs wait for pages of their disks, or for what was written to be kept, those that are to be tried again
+    /// among them. A host makes a Wake once more where fewer wait than before.
+    pub fn waiting(&self) -> usize
+        ensures { result ≡ length self.now.aside + length self.now.woken }
+    {
+        self.device.waiting()
+    }
 
     /// Returns the next page of the disk of the unit at a place that the host is to read, 8 blocks each, and counts it as
     /// asked for. The host hands it in by [`World::load`], or says that it can't by [`World::load_failed`]. `None` where no
@@ -48,6 +56,7 @@ impl World {
     pub fn give(&mut self, place: u16) -> Result<Option<GivenPage>, NoMemory>
         ensures given { IfOk result (λ given. IfSome given (λ g.
             DealsAsPromised self.old place (Dealing.Give g.page g.bytes.items) self.new)) }
+        ensures len { IfOk result (λ given. IfSome given (λ g. length g.bytes.items ≡ PAGE_BYTES)) }
         ensures none { IfOk result (λ given. IfNone given (self.new ≡ self.old)) }
         ensures err { OnErr result (self.new ≡ self.old) }
     {

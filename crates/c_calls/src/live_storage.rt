@@ -1,0 +1,125 @@
+//! The storage of a unit's backed disk, which the host has: each call with its answer.
+
+ghost use Rattle.std.specs.Prelude.{◌≡◌};
+ghost use Rattle.device_steps.specs.Paging.{IsKeptPage};
+ghost use Rattle.device_steps.specs.Views.{IsPlaceAmong};
+ghost use Rattle.std.specs.Prelude.{ℕ, Some};
+ghost use Rattle.c_calls.specs.Storage.{WantsPage, LoadsPage, FailsPage, GivesPage, KeepsPage, Wakes};
+
+use crate::answer::Answer;
+use crate::live_served::LiveServed;
+use backed_store::PAGE_BYTES;
+use device_model::Event;
+
+impl LiveServed {
+    /// Tells the next page of a unit's disk that the host is to read.
+    pub(crate) fn wanted(
+        &mut self,
+        target: u8,
+        lun: u16,
+        page: &mut u64,
+        found: &mut bool,
+    ) -> Answer
+        ensures { WantsPage target lun page.old found.old page.new found.new self.old result self.new }
+    {
+        let Some(place) = self.world.place(target, lun) else {
+            return Answer::NoUnit;
+        };
+        match self.world.next_wanted(place) {
+            Some(next) => {
+                *page = next;
+                *found = true;
+            }
+            None => *found = false,
+        }
+        Answer::Done
+    }
+
+    /// Takes the bytes of a page that the host read.
+    pub(crate) fn load(&mut self, target: u8, lun: u16, page: u64, bytes: &[u8]) -> Answer
+        requires kept { (place : ℕ) → IsPlaceAmong self.old.world.device.units target lun (Some place)
+            → IsKeptPage self.old.world.device.units place page bytes.now }
+        ensures { LoadsPage target lun bytes.now self.old result self.new }
+    {
+        if bytes.len() != PAGE_BYTES {
+            return Answer::BadLength;
+        }
+        let Some(place) = self.world.place(target, lun) else {
+            return Answer::NoUnit;
+        };
+        match self.world.load(place, page, bytes) {
+            Ok(_) => Answer::Done,
+            Err(_) => Answer::NoMemory,
+        }
+    }
+
+    /// Notes that a page doesn't come.
+    pub(crate) fn load_failed(&mut self, target: u8, lun: u16, page: u64) -> Answer
+        ensures { FailsPage target lun self.old result self.new }
+    {
+        let Some(place) = self.world.place(target, lun) else {
+            return Answer::NoUnit;
+        };
+        let _waits = self.world.load_failed(place, page);
+        Answer::Done
+    }
+
+    /// Gives the host the next page that it is to write.
+    pub(crate) fn give(
+        &mut self,
+        target: u8,
+        lun: u16,
+        page: &mut u64,
+        bytes: &mut [u8],
+        found: &mut bool,
+    ) -> Answer
+        ensures { GivesPage target lun page.old bytes.old found.old page.new bytes.new found.new self.old result self.new }
+    {
+        if bytes.len() != PAGE_BYTES {
+            return Answer::BadLength;
+        }
+        let Some(place) = self.world.place(target, lun) else {
+            return Answer::NoUnit;
+        };
+        match self.world.give(place) {
+            Ok(Some(given)) => {
+                bytes.copy_from_slice(given.bytes.as_slice());
+                *page = given.page;
+                *found = true;
+                Answer::Done
+            }
+            Ok(None) => {
+                *found = false;
+                Answer::Done
+            }
+            Err(_) => Answer::NoMemory,
+        }
+    }
+
+    /// Notes that the host's write of a page is over.
+    pub(crate) fn written(&mut self, target: u8, lun: u16, page: u64, kept: bool) -> Answer
+        ensures { KeepsPage target lun page kept self.old result self.new }
+    {
+        let Some(place) = self.world.place(target, lun) else {
+            return Answer::NoUnit;
+        };
+        match self.world.written(place, page, kept) {
+            Ok(_) => Answer::Done,
+            Err(_) => Answer::NoMemory,
+        }
+    }
+
+    /// Has each command that waits tried again, and tells how many these are.
+    pub(crate) fn wake(&mut self, waiting: &mut u64) -> Answer
+        ensures { Wakes waiting.old waiting.new self.old result self.new }
+    {
+        let count = self.world.waiting() as u64;
+        match self.world.step(Event::Wake) {
+            Ok(_) => {
+                *waiting = count;
+                Answer::Done
+            }
+            Err(_) => Answer::NoMemory,
+        }
+    }
+}
