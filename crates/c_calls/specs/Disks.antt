@@ -1,5 +1,5 @@
 -- What the calls on disks do, and those that hand disks to a device and back.
-use Rattle.std.specs.Prelude.{ℕ, ◌≡◌, ◌≢◌, ◌≤◌, ◌<◌, ◌+◌, ◌*◌, ◌⊎◌, ◌&&◌, not, Bool, true, false, List, [], length, map, replicate, slice_get, Option, Some, None, is_some}
+use Rattle.std.specs.Prelude.{ℕ, ◌≡◌, ◌≢◌, ◌≤◌, ◌<◌, ◌+◌, ◌*◌, ◌⊎◌, Bool, true, false, List, [], length, map, replicate, slice_get, Option, Some, None, is_some}
 use Rattle.std.specs.List.{list_any}
 use Rattle.block_store.specs.Blocks.{zero_block, overwritten, run}
 use Rattle.block_store.specs.Pages.{blocks_in}
@@ -7,12 +7,11 @@ use Rattle.backed_store.specs.Disks.{size_of, blocks_of, storage_of, holds, budg
 use Rattle.backed_store.specs.declared.disk.Disk.{Disk as UnitDisk}
 use Rattle.unit_model.specs.Contents.{is_capacity}
 use Rattle.request_intake.specs.declared.inventory.UnitSpec.{UnitSpec}
-use Rattle.request_intake.specs.Inventory.{is_cached}
 use Rattle.config.specs.Config.{is_config}
 use Rattle.config.specs.declared.config.Config.{Config}
 use Rattle.device_model.specs.World.{Opens}
 use Rattle.device_model.specs.Happens.{Reached}
-use Rattle.device_steps.specs.Opening.{AreDisksFor, AreDisksOf, IsOpeningOver}
+use Rattle.device_steps.specs.Opening.{IsDiskFor, AreDisksFor, AreDisksOf, IsOpeningOver}
 use Rattle.c_calls.specs.Wanted.{Asks}
 use Rattle.c_calls.specs.Calls.{Refuses, plain_cause}
 use Rattle.c_calls.specs.declared.answer.Answer.{Answer}
@@ -118,32 +117,22 @@ pub record MakesOver (c : Config) (stores : List UnitDisk) (d : Served) : Type 0
   pub reaches : Reached d.world [] d.world
   pub told : d.told ≡ replicate 18 0
 
--- there is a disk of the unit's capacity
+-- there is a disk that the unit may have
 abbrev pub Fits : UnitSpec → Option UnitDisk → Type 0
 Fits u None = ⊥
-Fits u (Some s) = size_of s ≡ u.blocks
+Fits u (Some s) = IsDiskFor u s
 
--- the first unit that has no disk, or one of another capacity, stands at a place
+-- the first unit that has no disk, or one that it may not have, stands at a place
 abbrev pub Lacks : List UnitSpec → List (Option UnitDisk) → ℕ → Type 0
 Lacks units disks place = (u : UnitSpec) × (disk : Option UnitDisk) × (slice_get units place ≡ Some u)
     × (slice_get disks place ≡ Some disk) × (Fits u disk → ⊥)
     × ((k : ℕ) (v : UnitSpec) (other : Option UnitDisk) → k < place → slice_get units k ≡ Some v
     → slice_get disks k ≡ Some other → Fits v other)
 
--- whether a unit is given a backed disk, and has no write cache that it tells of
-abbrev pub lacks_cache : UnitSpec → Option UnitDisk → Bool
-lacks_cache u None = false
-lacks_cache u (Some s) = is_backed s && not (is_cached u)
-
--- such a unit stands at a place
-abbrev pub LacksCache : List UnitSpec → List (Option UnitDisk) → ℕ → Type 0
-LacksCache units disks place = (u : UnitSpec) × (disk : Option UnitDisk) × (slice_get units place ≡ Some u)
-    × (slice_get disks place ≡ Some disk) × (lacks_cache u disk ≡ true)
-
 -- and that is told by the cause of number 13 and the unit's place
 pub record LacksDisk (c : Config) (disks : List (Option UnitDisk)) (told : Fault) : Type 0 where
   pub taken : is_config c ≡ true
-  pub lacks : Lacks c.units.items disks told.place ⊎ LacksCache c.units.items disks told.place
+  pub lacks : Lacks c.units.items disks told.place
   pub named : plain_cause told ≡ record { cause = 13; place = told.place; detail = 0 }
 
 -- as `World::new_with`: the disks are the device's then; else all is as it was, but for why a configuration isn't taken

@@ -9,7 +9,7 @@ use Rattle.config.specs.declared.config.Config.{Config}
 use Rattle.device_steps.specs.Opening.{AreDisksFor, AreDisksOf}
 use Rattle.world.specs.LiveWorld.{IsOpeningOverApart, OpensIn, BeginsIn}
 use Rattle.c_calls.specs.Calls.{plain_cause}
-use Rattle.c_calls.specs.Disks.{Lacks, LacksCache}
+use Rattle.c_calls.specs.Disks.{Lacks}
 use Rattle.c_calls.specs.Live.{all_bytes, RefusesLive}
 use Rattle.c_calls.specs.LiveWanted.{AsksLive}
 use Rattle.c_calls.specs.Mapped.{opening_rings}
@@ -33,11 +33,10 @@ pub record MakesLiveOver (host_map : ℕ) (c : Config) (stores : List UnitDisk) 
   pub told : d.told ≡ replicate 18 0
   pub rings : d.rings ≡ opening_rings c
 
--- the first unit that has no disk, or one of another capacity, is told by the cause of number 13 and its place; and so is the first
--- that has a backed disk, and no write cache that it tells of, where there is no such unit
+-- the first unit that has no disk, or one that it may not have, is told by the cause of number 13 and its place
 pub record LacksLiveDisk (c : Config) (disks : List (Option UnitDisk)) (told : Fault) : Type 0 where
   pub taken : is_config_for all_bytes c ≡ true
-  pub lacks : Lacks c.units.items disks told.place ⊎ LacksCache c.units.items disks told.place
+  pub lacks : Lacks c.units.items disks told.place
   pub named : plain_cause told ≡ record { cause = 13; place = told.place; detail = 0 }
 
 -- as `LiveWorld::new_with`: the disks are the device's then; else all is as it was, but for why a configuration isn't taken

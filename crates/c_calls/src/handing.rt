@@ -7,26 +7,26 @@ ghost use Rattle.std.specs.Vec.{vec_capacity};
 ghost use Rattle.std.specs.Result.{MatchResult};
 ghost use Rattle.c_calls.specs.Kept.{kept_in, disk_at, disks_at};
 ghost use Rattle.c_calls.specs.Calls.{plain_cause};
-ghost use Rattle.c_calls.specs.Disks.{Fits, Lacks, lacks_cache, LacksCache, CreatesOver, Closes};
-ghost use Rattle.c_calls.specs.Inner.Disks.{Fit, AreCached};
+ghost use Rattle.c_calls.specs.Disks.{Fits, Lacks, CreatesOver, Closes};
+ghost use Rattle.c_calls.specs.Inner.Disks.{Fit};
 
 use crate::answer::Answer;
 use crate::device::Device;
 use crate::disk::Disk;
-use crate::disks::is_backed;
 use crate::served::Served;
 use crate::wanted::{Fault, WantedQueue, WantedUnit, config_of, fault_of};
 use backed_store::Disk as UnitDisk;
 use block_store::PagedStore;
+use device_steps::is_disk_for;
 use foundation::NoMemory;
 use request_intake::UnitSpec;
 use std::alloc::Global;
 use world::{Notifications, World};
 
-/// The cause of a unit that has no disk, or one of another capacity.
+/// The cause of a unit that has no disk, or one that it may not have.
 const NO_DISK_CAUSE: u32 = 13;
 
-/// Returns what is told of the unit at a place, which has no disk, or one of another capacity.
+/// Returns what is told of the unit at a place, which has no disk, or one that it may not have.
 pub(crate) fn no_disk_at(place: usize) -> Fault
     ensures { plain_cause result ≡ record { cause = 13; place = place; detail = 0 } }
 {
@@ -37,42 +37,27 @@ pub(crate) fn no_disk_at(place: usize) -> Fault
     }
 }
 
-/// Returns true if a place has a disk of a unit's capacity.
-fn has_disk_for(disk: &Disk, unit: &UnitSpec) -> bool
-    ensures { IsTrue result ↔ Fits unit.now (disk_at disk.now) }
-{
-    disk.blocks() == Some(unit.blocks)
-}
-
-/// Returns the place of the first unit that has no disk, or one of another capacity.
-pub(crate) fn lacking(units: &[UnitSpec], disks: &[Disk]) -> Option<usize>
-    requires { length disks.now ≡ length units.now }
-    ensures { MatchOption result (Fit units.now (disks_at disks.now)) (λ place. Lacks units.now (disks_at disks.now) place) }
-{
-    for place in 0..disks.len() {
-        if !has_disk_for(&disks[place], &units[place]) {
-            return Some(place);
-        }
-    }
-    None
-}
-
-/// Returns true if a place has a backed disk, and the unit has no write cache that it tells of.
-fn is_uncached(disk: &mut Disk, alloc: Global, unit: &UnitSpec) -> bool
-    ensures told { result ≡ lacks_cache unit.now (disk_at disk.old) }
+/// Returns true if a place has a disk that a unit may have.
+fn has_disk_for(disk: &mut Disk, alloc: Global, unit: &UnitSpec) -> bool
+    ensures told { IsTrue result ↔ Fits unit.now (disk_at disk.old) }
     ensures same { disk_at disk.new ≡ disk_at disk.old }
 {
-    is_backed(disk, alloc) && !unit.has_write_cache()
+    let Some(store) = disk.take(alloc) else {
+        return false;
+    };
+    let fits = is_disk_for(unit, &store);
+    disk.put(store);
+    fits
 }
 
-/// Returns the place of the first unit that has a backed disk, and no write cache that it tells of.
-pub(crate) fn uncached(units: &[UnitSpec], disks: &mut [Disk], alloc: Global) -> Option<usize>
+/// Returns the place of the first unit that has no disk, or one that it may not have.
+pub(crate) fn lacking(units: &[UnitSpec], disks: &mut [Disk], alloc: Global) -> Option<usize>
     requires { length disks.old ≡ length units.now }
-    ensures found { MatchOption result (AreCached units.now (disks_at disks.old)) (λ place. LacksCache units.now (disks_at disks.old) place) }
+    ensures found { MatchOption result (Fit units.now (disks_at disks.old)) (λ place. Lacks units.now (disks_at disks.old) place) }
     ensures same { disks_at disks.new ≡ disks_at disks.old }
 {
     for place in 0..disks.len() {
-        if is_uncached(&mut disks[place], alloc, &units[place]) {
+        if !has_disk_for(&mut disks[place], alloc, &units[place]) {
             return Some(place);
         }
     }
@@ -124,11 +109,7 @@ pub fn create_with(
         *fault = fault_of(cause);
         return Answer::BadConfig;
     }
-    if let Some(place) = lacking(config.units.as_slice(), disks) {
-        *fault = no_disk_at(place);
-        return Answer::BadConfig;
-    }
-    if let Some(place) = uncached(config.units.as_slice(), disks, alloc) {
+    if let Some(place) = lacking(config.units.as_slice(), disks, alloc) {
         *fault = no_disk_at(place);
         return Answer::BadConfig;
     }

@@ -6,9 +6,7 @@ ghost use Rattle.c_calls.specs.LiveDisks.{CreatesLiveOver, ClosesLive};
 
 use crate::answer::Answer;
 use crate::disk::Disk;
-use crate::handing::{
-    Room, is_any_there, lacking, new_room, no_disk_at, put_back, take_out, uncached,
-};
+use crate::handing::{Room, is_any_there, lacking, new_room, no_disk_at, put_back, take_out};
 use crate::live_device::LiveDevice;
 use crate::live_opening::{ALL_BYTES, open};
 use crate::live_served::LiveServed;
@@ -43,11 +41,7 @@ pub fn create_with(
         *fault = fault_of(cause);
         return Answer::BadConfig;
     }
-    if let Some(place) = lacking(config.units.as_slice(), disks) {
-        *fault = no_disk_at(place);
-        return Answer::BadConfig;
-    }
-    if let Some(place) = uncached(config.units.as_slice(), disks, alloc) {
+    if let Some(place) = lacking(config.units.as_slice(), disks, alloc) {
         *fault = no_disk_at(place);
         return Answer::BadConfig;
     }

@@ -26,7 +26,7 @@ mod views;
 pub use bay::Bay;
 pub use cursor::{Cursor, Progress, is_fetch};
 pub use device::Device;
-pub use opening::{are_disks_for, open_device};
+pub use opening::{are_disks_for, is_disk_for, open_device};
 pub use service::is_asked;
 pub use sound::all_are_sound;
 pub use steps::{poke, poke_in};

@@ -1,13 +1,13 @@
 //! The opening of the device.
 
-ghost use Rattle.std.specs.Prelude.{◌≡◌, ◌≤◌, [], length, map, IfOk, IsFalse, IsTrue, true, false};
+ghost use Rattle.std.specs.Prelude.{◌≡◌, ◌≤◌, ◌↔◌, [], length, map, IfOk, IsFalse, IsTrue, true, false};
 ghost use Rattle.request_intake.specs.Inventory.{address_of};
 ghost use Rattle.std.specs.List.{list_all};
 ghost use Rattle.config.specs.Config.{is_config_for, is_queue};
 ghost use Rattle.ring_core.specs.State.{features_of};
 ghost use Rattle.device_model.specs.World.{Everywhere};
 ghost use Rattle.std.specs.Vec.{vec_capacity};
-ghost use Rattle.device_steps.specs.Opening.{IsOpeningApart, AreOpening, AreFresh, AreDisksOf, opening_unit, AreDisksFor, over_disks};
+ghost use Rattle.device_steps.specs.Opening.{IsOpeningApart, AreOpening, AreFresh, AreDisksOf, opening_unit, IsDiskFor, AreDisksFor, over_disks};
 ghost use Rattle.device_steps.specs.Inner.Opening.{AreSeats};
 
 use crate::aside::JobsAside;
@@ -149,7 +149,15 @@ pub fn open_device<M: Memory>(
     })
 }
 
-/// Returns true if there is a disk for each unit, of its capacity. A host calls it before it opens a device over disks.
+/// Returns true if a unit may have a disk: it is of its capacity, and the unit tells of its write cache where the disk's pages
+/// come and go. Else a guest would never have them written to its host's storage.
+pub fn is_disk_for(unit: &UnitSpec, disk: &Disk) -> bool
+    ensures { IsTrue result ↔ IsDiskFor unit.now disk.now }
+{
+    disk.capacity() == unit.blocks && (disk.is_resident() || unit.has_write_cache())
+}
+
+/// Returns true if there is a disk for each unit, which it may have. A host calls it before it opens a device over disks.
 pub fn are_disks_for(wanted: &[UnitSpec], disks: &[Disk]) -> bool
     ensures yes { IsTrue result → AreDisksFor wanted.now disks.now }
     ensures no { IsFalse result → AreDisksFor wanted.now disks.now → ⊥ }
@@ -158,7 +166,7 @@ pub fn are_disks_for(wanted: &[UnitSpec], disks: &[Disk]) -> bool
         return false;
     }
     for number in 0..wanted.len() {
-        if disks[number].capacity() != wanted[number].blocks {
+        if !is_disk_for(&wanted[number], &disks[number]) {
             return false;
         }
     }

@@ -1,6 +1,6 @@
 -- Rests on `specs/Disks.antt`; no promise rests on it.
-use Rattle.std.specs.Prelude.{ℕ, ◌≡◌, false, List, slice_get, Option, Some}
-use Rattle.c_calls.specs.Disks.{Fits, lacks_cache}
+use Rattle.std.specs.Prelude.{ℕ, ◌≡◌, List, slice_get, Option, Some}
+use Rattle.c_calls.specs.Disks.{Fits}
 use Rattle.backed_store.specs.declared.disk.Disk.{Disk as UnitDisk}
 use Rattle.request_intake.specs.declared.inventory.UnitSpec.{UnitSpec}
 
@@ -8,8 +8,3 @@ use Rattle.request_intake.specs.declared.inventory.UnitSpec.{UnitSpec}
 abbrev pub Fit : List UnitSpec → List (Option UnitDisk) → Type 0
 Fit units disks = (k : ℕ) (u : UnitSpec) (disk : Option UnitDisk) → slice_get units k ≡ Some u → slice_get disks k ≡ Some disk
     → Fits u disk
-
--- each unit that has a backed disk has a write cache that it tells of
-abbrev pub AreCached : List UnitSpec → List (Option UnitDisk) → Type 0
-AreCached units disks = (k : ℕ) (u : UnitSpec) (disk : Option UnitDisk) → slice_get units k ≡ Some u → slice_get disks k ≡ Some disk
-    → lacks_cache u disk ≡ false
