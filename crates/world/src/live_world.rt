@@ -67,8 +67,8 @@ impl<M: WritableMemory + Drop> LiveWorld<M> {
     /// Opens a device as `new` does, but over disks: each unit, in the order of the configuration, has the blocks of
     /// its disk in place of zeros. Called for disks that outlive their devices, as [`LiveWorld::close`] gives them,
     /// and for those whose pages come and go; the device takes them all. `BadConfig` exactly where the device doesn't
-    /// take the configuration on a memory of this size, or the disks aren't as many as its units, each of its unit's
-    /// capacity; else `NoMemory` where a growth was refused. Then the disks are as they were.
+    /// take the configuration on a memory of this size, or the disks aren't as many as its units, each one that its unit
+    /// may have; else `NoMemory` where a growth was refused. Then the disks are as they were.
     pub fn new_with(
         alloc: Global,
         config: &Config,

@@ -78,7 +78,7 @@ impl World {
     /// Opens a device as `new` does, but over disks: each unit, in the order of the configuration, has the blocks of
     /// its disk in place of zeros. Called for disks that outlive their devices, as [`World::close`] gives them, and
     /// for those whose pages come and go; the device takes them all. `BadConfig` exactly where the configuration
-    /// isn't valid, or the disks aren't as many as its units, each of its unit's capacity; else `NoMemory` where a
+    /// isn't valid, or the disks aren't as many as its units, each one that its unit may have; else `NoMemory` where a
     /// growth was refused. Then the disks are as they were.
     pub fn new_with(
         alloc: Global,
