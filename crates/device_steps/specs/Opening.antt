@@ -16,7 +16,7 @@ use Rattle.backed_store.specs.Disks.{size_of as disk_size, is_backed}
 use Rattle.backed_store.specs.declared.disk.Disk.{Disk}
 use Rattle.unit_history.specs.Disks.{unit_over, IsDiskOf}
 use Rattle.scsi_codec.specs.declared.lun.Address.{Address}
-use Rattle.request_intake.specs.Inventory.{address_of, inventory_of, is_cached, luns_of}
+use Rattle.request_intake.specs.Inventory.{address_of, inventory_of, has_cache, luns_of}
 use Rattle.request_intake.specs.declared.inventory.UnitSpec.{UnitSpec}
 use Rattle.config.specs.Config.{form_of, has_bit, is_config, size_of}
 use Rattle.config.specs.declared.config.Config.{Config}
@@ -91,7 +91,7 @@ pub record IsOpening (c : Config) (w : PlainWorld) : Type 0 where
 -- own: a unit may have a disk of its capacity; and one whose pages come and go only if it tells of its write cache
 pub record IsDiskFor (u : UnitSpec) (disk : Disk) : Type 0 where
   pub size : disk_size disk ≡ u.blocks
-  pub cache : is_backed disk ≡ true → is_cached u ≡ true
+  pub cache : is_backed disk ≡ true → has_cache u ≡ true
 
 -- there is a disk for each unit, which it may have
 pub record AreDisksFor (wanted : List UnitSpec) (disks : List Disk) : Type 0 where

@@ -12,8 +12,8 @@ abbrev pub address_of : UnitSpec → Address
 address_of u = record { target = u.target; lun = u.lun }
 
 -- own: whether a unit has a volatile write cache, of which it tells
-abbrev pub is_cached : UnitSpec → Bool
-is_cached u = (told_by u.profile u.identity).write_cache
+abbrev pub has_cache : UnitSpec → Bool
+has_cache u = (told_by u.profile u.identity).write_cache
 
 -- own: the address of each unit, and the profile of its commands, each at its unit's place
 pub record PlainInventory : Type 0 where

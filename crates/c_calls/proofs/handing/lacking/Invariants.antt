@@ -9,7 +9,8 @@ use Rattle.c_calls.proofs.handing.lacking.Given as goal
 abbrev pub invariant-loop-place : goal.invariant-loop-place
 invariant-loop-place l =
     record {
+      same : disks_at l.disks ≡ disks_at l.fn.disks;
       fit : (k : ℕ) (u : UnitSpec) (disk : Option UnitDisk) → k < l.place → slice_get l.units k ≡ Some u
-          → slice_get (disks_at l.disks) k ≡ Some disk → Fits u disk;
+          → slice_get (disks_at l.fn.disks) k ≡ Some disk → Fits u disk;
       all : l.place-end ≡ length l.disks;
     }
