@@ -154,7 +154,7 @@ pub fn open_device<M: Memory>(
 pub fn is_disk_for(unit: &UnitSpec, disk: &Disk) -> bool
     ensures { IsTrue result ↔ IsDiskFor unit.now disk.now }
 {
-    disk.capacity() == unit.blocks && (disk.is_resident() || unit.has_write_cache())
+    disk.capacity() == unit.blocks && (disk.is_resident() || unit.has_cache())
 }
 
 /// Returns true if there is a disk for each unit, which it may have. A host calls it before it opens a device over disks.

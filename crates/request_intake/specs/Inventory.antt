@@ -3,17 +3,12 @@ use Rattle.std.specs.Prelude.{ℕ, ◌==◌, ◌&&◌, ◌||◌, nat_lt, Bool, t
 use Rattle.std.specs.List.{list_any}
 use Rattle.cdb.specs.declared.profile.Profile.{Profile}
 use Rattle.cdb.specs.declared.profile.Profile.TheVariants.{Narrow}
-use Rattle.command_model.specs.Identity.{told_by}
 use Rattle.scsi_codec.specs.declared.lun.Address.{Address}
 use Rattle.request_intake.specs.declared.inventory.Known.{Known}
 use Rattle.request_intake.specs.declared.inventory.UnitSpec.{UnitSpec}
 
 abbrev pub address_of : UnitSpec → Address
 address_of u = record { target = u.target; lun = u.lun }
-
--- own: whether a unit has a volatile write cache, of which it tells
-abbrev pub has_cache : UnitSpec → Bool
-has_cache u = (told_by u.profile u.identity).write_cache
 
 -- own: the address of each unit, and the profile of its commands, each at its unit's place
 pub record PlainInventory : Type 0 where

@@ -2,7 +2,7 @@
 
 ghost use Rattle.std.specs.Prelude.{◌≡◌, ◌<◌, ◌≤◌, ◌^◌, true, map, length, slice_get, Some, IfSome, IfOk};
 ghost use Rattle.scsi_codec.specs.Lun.{address_at, number_of};
-ghost use Rattle.request_intake.specs.Inventory.{has_cache, address_of, stands_before, inventory_of, is_rising, has_target, place_of, luns_of};
+ghost use Rattle.request_intake.specs.Inventory.{address_of, stands_before, inventory_of, is_rising, has_target, place_of, luns_of};
 
 use arrayvec::ArrayVec;
 use cdb::Profile;
@@ -32,13 +32,6 @@ pub struct UnitSpec {
 }
 
 impl UnitSpec {
-    /// Returns true if it has a volatile write cache, of which it tells a host.
-    pub fn has_write_cache(&self) -> bool
-        ensures { result ≡ has_cache self.now }
-    {
-        self.profile == Profile::Wide && self.identity.write_cache
-    }
-
     /// Returns its address.
     pub fn address(&self) -> Address
         ensures { result ≡ address_of self.now }
