@@ -136,7 +136,14 @@ fn run<S: Store>(
         Command::ReportLuns { select, allocation } => {
             Ok(lun_list(alloc, listed_luns(select, &facts.luns), allocation)?)
         }
-        Command::Wide(command) => wide(alloc, store, facts.format_told(), &command, bytes),
+        Command::Wide(command) => wide(
+            alloc,
+            store,
+            facts.format_told(),
+            facts.cache_told(),
+            &command,
+            bytes,
+        ),
         Command::Bad { .. } => Err(Failure::Refused(Sense::INVALID_FIELD_IN_CDB)),
         Command::Unknown => Err(Failure::Refused(Sense::INVALID_OPCODE)),
     }

@@ -52,4 +52,14 @@ impl UnitFacts {
             Profile::Wide => self.identity.sense_format,
         }
     }
+
+    /// Returns true if the unit tells of a volatile write cache: one of the narrow profile never does.
+    pub fn cache_told(&self) -> bool
+        ensures { result ≡ (told_by self.now.profile self.now.identity).write_cache }
+    {
+        match self.profile {
+            Profile::Narrow => false,
+            Profile::Wide => self.identity.write_cache,
+        }
+    }
 }

@@ -2,7 +2,7 @@
 
 ghost use Rattle.std.specs.Prelude.{◌≡◌, ◌≤◌, ◌+◌, ◌*◌, ◌/◌, ◌%◌, ◌<◌, ◌++◌, length, nat_lt, take, IfOk, OnErr, IsTrue};
 ghost use Rattle.arrayvec.specs.ArrayVec.{array_vec_len};
-ghost use Rattle.command_model.specs.Inquiry.{serial, serial_of, serial_page, identification_page, naa_designator, t10_designator, extended_page, most_sense, limits_page, characteristics_page, standard_of, supported_pages, inquiry_data};
+ghost use Rattle.command_model.specs.Inquiry.{serial, serial_of, serial_page, identification_page, naa_designator, t10_designator, extended_page, most_sense, v_sup, limits_page, characteristics_page, standard_of, supported_pages, inquiry_data};
 ghost use Rattle.command_model.specs.StandardData.{wide_standard_data};
 
 use crate::data::cut;
@@ -57,7 +57,8 @@ pub(crate) fn inquiry(
             cut(alloc, page.as_slice(), allocation)
         }
         InquiryData::ExtendedInquiry => {
-            cut(alloc, &extended_page(identity.sense_format), allocation)
+            let page = extended_page(identity.sense_format, identity.write_cache);
+            cut(alloc, &page, allocation)
         }
         InquiryData::BlockLimits => cut(alloc, &limits_page(), allocation),
         InquiryData::BlockDeviceCharacteristics => {
@@ -136,13 +137,20 @@ fn most_sense(format: SenseFormat) -> u8
     }
 }
 
+/// Returns byte 6 of the page Extended INQUIRY Data: V_SUP where there is a volatile write cache.
+fn v_sup(write_cache: bool) -> u8
+    ensures { result ≡ v_sup write_cache }
+{
+    if write_cache { 0x01 } else { 0x00 }
+}
+
 /// Makes the page Extended INQUIRY Data.
 #[tactic(auto, unfolding(command_model::specs::Inquiry::extended_page))]
-fn extended_page(format: SenseFormat) -> [u8; 64]
-    ensures { result ≡ extended_page format }
+fn extended_page(format: SenseFormat, write_cache: bool) -> [u8; 64]
+    ensures { result ≡ extended_page format write_cache }
 {
     let mut page = [0; 64];
-    page[..6].copy_from_slice(&[0x00, 0x86, 0x00, 0x3c, 0x00, 0x07]);
+    page[..7].copy_from_slice(&[0x00, 0x86, 0x00, 0x3c, 0x00, 0x07, v_sup(write_cache)]);
     page[13] = most_sense(format);
     page
 }

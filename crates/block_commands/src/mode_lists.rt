@@ -18,8 +18,13 @@ const PAGE_HEADER_BYTES: usize = 2;
 /// Takes a parameter list that changes nothing. Refuses every other with the first cause in the order of its bytes:
 /// PARAMETER LIST LENGTH ERROR where it ends within its header, its block descriptor or a page, else INVALID FIELD IN
 /// PARAMETER LIST.
-pub(crate) fn mode_select(format: SenseFormat, form: ModeForm, list: &[u8]) -> Result<(), Sense>
-    ensures { Ends (select_answer format form list.now) result }
+pub(crate) fn mode_select(
+    format: SenseFormat,
+    write_cache: bool,
+    form: ModeForm,
+    list: &[u8],
+) -> Result<(), Sense>
+    ensures { Ends (select_answer format write_cache form list.now) result }
 {
     if list.is_empty() {
         return Ok(());
@@ -31,16 +36,22 @@ pub(crate) fn mode_select(format: SenseFormat, form: ModeForm, list: &[u8]) -> R
         return Err(Sense::INVALID_FIELD_IN_PARAMETER_LIST);
     }
     let descriptor = descriptor_of(is_long(form, list), descriptor_bytes(form, list));
-    take_described(format, descriptor, &list[header_length(form)..])
+    take_described(
+        format,
+        write_cache,
+        descriptor,
+        &list[header_length(form)..],
+    )
 }
 
 /// Takes what follows the header, where that announces this block descriptor.
 fn take_described(
     format: SenseFormat,
+    write_cache: bool,
     descriptor: Option<ModeDescriptor>,
     bytes: &[u8],
 ) -> Result<(), Sense>
-    ensures { Ends (described_answer format descriptor bytes.now) result }
+    ensures { Ends (described_answer format write_cache descriptor bytes.now) result }
 {
     let Some(descriptor) = descriptor else {
         return Err(Sense::INVALID_FIELD_IN_PARAMETER_LIST);
@@ -52,19 +63,19 @@ fn take_described(
     if !has_block_length(descriptor, bytes) {
         return Err(Sense::INVALID_FIELD_IN_PARAMETER_LIST);
     }
-    take_pages(format, bytes.len(), &bytes[end..])
+    take_pages(format, write_cache, bytes.len(), &bytes[end..])
 }
 
 /// Takes at most so many pages, in any order.
-fn take_pages(format: SenseFormat, most: usize, list: &[u8]) -> Result<(), Sense>
-    ensures { Ends (pages_answer format most list.now) result }
+fn take_pages(format: SenseFormat, write_cache: bool, most: usize, list: &[u8]) -> Result<(), Sense>
+    ensures { Ends (pages_answer format write_cache most list.now) result }
 {
     let mut rest = list;
     for taken in 0..most {
         if rest.is_empty() {
             return Ok(());
         }
-        match behind_page(format, rest) {
+        match behind_page(format, write_cache, rest) {
             Ok(later) => rest = later,
             Err(sense) => return Err(sense),
         }
@@ -73,9 +84,9 @@ fn take_pages(format: SenseFormat, most: usize, list: &[u8]) -> Result<(), Sense
 }
 
 /// Returns what stands behind the first page of a list.
-fn behind_page(format: SenseFormat, list: &[u8]) -> Result<&[u8], Sense>
-    ensures { MatchResult result (λ rest. behind_page format list.now ≡ Ok rest.now)
-        (λ sense. behind_page format list.now ≡ Err sense) }
+fn behind_page(format: SenseFormat, write_cache: bool, list: &[u8]) -> Result<&[u8], Sense>
+    ensures { MatchResult result (λ rest. behind_page format write_cache list.now ≡ Ok rest.now)
+        (λ sense. behind_page format write_cache list.now ≡ Err sense) }
 {
     if list.len() < PAGE_HEADER_BYTES {
         return Err(Sense::PARAMETER_LIST_LENGTH_ERROR);
@@ -87,7 +98,7 @@ fn behind_page(format: SenseFormat, list: &[u8]) -> Result<&[u8], Sense>
     if list.len() < end {
         return Err(Sense::PARAMETER_LIST_LENGTH_ERROR);
     }
-    if !begins_with_page(format, list) {
+    if !begins_with_page(format, write_cache, list) {
         return Err(Sense::INVALID_FIELD_IN_PARAMETER_LIST);
     }
     Ok(&list[end..])
@@ -102,12 +113,12 @@ fn is_page(code: u8) -> bool
 
 /// Returns true if a list begins with a page as MODE SENSE gives it.
 #[tactic(auto, unfolding(command_model::specs::ModeLists::begins_with_page))]
-fn begins_with_page(format: SenseFormat, list: &[u8]) -> bool
-    ensures { result ≡ begins_with_page format list.now }
+fn begins_with_page(format: SenseFormat, write_cache: bool, list: &[u8]) -> bool
+    ensures { result ≡ begins_with_page format write_cache list.now }
 {
     begins_with(list, &error_recovery())
-        || begins_with(list, &caching())
-        || begins_with(list, &control(format))
+        || begins_with(list, &caching(format, write_cache))
+        || begins_with(list, &control(format, write_cache))
         || begins_with(list, &exceptions())
 }
 

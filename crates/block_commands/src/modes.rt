@@ -1,7 +1,7 @@
 //! The data of MODE SENSE (SPC-4 §6.13, §7.5, SBC-3 §6.5).
 
-ghost use Rattle.std.specs.Prelude.{◌≡◌, ◌≤◌, ◌++◌, false, true, length, take, IfOk, OnOk};
-ghost use Rattle.command_model.specs.Modes.{block_descriptor, descriptor_length, is_mask, d_sense, is_saved, long_lba, mode_data, mode_header, page_list};
+ghost use Rattle.std.specs.Prelude.{◌≡◌, ◌≤◌, ◌++◌, Bool, false, true, length, take, IfOk, OnOk};
+ghost use Rattle.command_model.specs.Modes.{block_descriptor, descriptor_length, device_specific, is_mask, d_sense, is_saved, long_lba, mode_data, mode_header, page_list, wce};
 ghost use Rattle.sense.specs.declared.SenseFormat.{SenseFormat as ASenseFormat};
 
 use block_store::BLOCK_BYTES;
@@ -12,14 +12,17 @@ use std::alloc::{AllocError, Global};
 /// The most bytes that are returned: a header, a block descriptor and all pages.
 const MOST_BYTES: usize = 80;
 
-/// The device-specific parameter: DPOFUA.
-const DEVICE_SPECIFIC: u8 = 0x10;
+/// The device-specific parameter of a unit without a write cache: DPOFUA.
+const DPOFUA: u8 = 0x10;
 
 /// Read-Write Error Recovery.
 const ERROR_RECOVERY: [u8; 12] = [0x01, 0x0a, 0, 0, 0, 0, 0, 0, 0, 0, 0, 0];
 
-/// Caching.
-const CACHING: [u8; 20] = [
+/// WCE, in byte 2 of Caching: there is a volatile write cache.
+const WCE: u8 = 0x04;
+
+/// The mask of what can be changed of Caching.
+const CACHING_MASK: [u8; 20] = [
     0x08, 0x12, 0, 0, 0, 0, 0, 0, 0, 0, 0, 0, 0, 0, 0, 0, 0, 0, 0, 0,
 ];
 
@@ -39,15 +42,23 @@ const EXCEPTIONS_MASK: [u8; 12] = [0x1c, 0x0a, 0, 0, 0, 0, 0, 0, 0, 0, 0, 0];
 pub(crate) fn mode_data(
     alloc: Global,
     format: SenseFormat,
+    write_cache: bool,
     request: &ModeRequest,
     capacity: u64,
 ) -> Result<Vec<u8>, AllocError>
-    ensures { IfOk result (λ bytes. bytes.items ≡ take request.now.allocation (mode_data format request.now capacity)) }
+    ensures { IfOk result (λ bytes. bytes.items
+        ≡ take request.now.allocation (mode_data format write_cache request.now capacity)) }
 {
     let mut list = Vec::with_capacity(alloc, MOST_BYTES)?;
-    put_header(&mut list, format, request)?;
+    put_header(&mut list, format, write_cache, request)?;
     put_descriptor(&mut list, request.descriptor, capacity)?;
-    put_pages(&mut list, format, is_mask(request.values), request.pages)?;
+    put_pages(
+        &mut list,
+        format,
+        write_cache,
+        is_mask(request.values),
+        request.pages,
+    )?;
     list.truncate(usize::from(request.allocation));
     Ok(list)
 }
@@ -70,22 +81,31 @@ pub(crate) fn is_saved(values: ModeValues) -> bool
 fn put_header(
     list: &mut Vec<u8>,
     format: SenseFormat,
+    write_cache: bool,
     request: &ModeRequest,
 ) -> Result<(), AllocError>
     ensures { OnOk result (list.new.items ≡ list.old.items
-        ++ mode_header request.now.form request.now.descriptor (length (page_list format false request.now.pages))) }
+        ++ mode_header write_cache request.now.form request.now.descriptor
+        (length (page_list format write_cache false request.now.pages))) }
 {
-    let pages = pages_length(format, request.pages);
+    let pages = pages_length(format, write_cache, request.pages);
     match request.form {
-        ModeForm::Six => list.extend_from_slice(&header_6(request.descriptor, pages)),
-        ModeForm::Ten => list.extend_from_slice(&header_10(request.descriptor, pages)),
+        ModeForm::Six => list.extend_from_slice(&header_6(write_cache, request.descriptor, pages)),
+        ModeForm::Ten => list.extend_from_slice(&header_10(write_cache, request.descriptor, pages)),
     }
 }
 
-/// Returns how many bytes the pages have, whatever the format.
+/// Returns the device-specific parameter.
+fn device_specific(write_cache: bool) -> u8
+    ensures { result ≡ device_specific write_cache }
+{
+    if write_cache { 0x00 } else { DPOFUA }
+}
+
+/// Returns how many bytes the pages have, whatever the format and the cache.
 #[tactic(auto, unfolding(command_model::specs::Modes::page_list))]
-fn pages_length(format: SenseFormat, pages: ModePages) -> u8
-    ensures length { result ≡ length (page_list format false pages) }
+fn pages_length(_format: SenseFormat, _write_cache: bool, pages: ModePages) -> u8
+    ensures length { result ≡ length (page_list _format _write_cache false pages) }
     ensures few { result ≤ 56 }
 {
     match pages {
@@ -122,24 +142,29 @@ fn long_lba(descriptor: ModeDescriptor) -> u8
 
 /// Makes the header of 4 bytes before pages of so many bytes.
 #[tactic(auto, unfolding(command_model::specs::Modes::mode_header))]
-fn header_6(descriptor: ModeDescriptor, pages: u8) -> [u8; 4]
+fn header_6(write_cache: bool, descriptor: ModeDescriptor, pages: u8) -> [u8; 4]
     requires { pages ≤ 56 }
-    ensures { result ≡ mode_header ModeForm.Six descriptor pages }
+    ensures { result ≡ mode_header write_cache ModeForm.Six descriptor pages }
 {
     let descriptor = descriptor_length(descriptor);
-    [3 + descriptor + pages, 0x00, DEVICE_SPECIFIC, descriptor]
+    [
+        3 + descriptor + pages,
+        0x00,
+        device_specific(write_cache),
+        descriptor,
+    ]
 }
 
 /// Makes the header of 8 bytes before pages of so many bytes.
 #[tactic(auto, unfolding(command_model::specs::Modes::mode_header))]
-fn header_10(descriptor: ModeDescriptor, pages: u8) -> [u8; 8]
+fn header_10(write_cache: bool, descriptor: ModeDescriptor, pages: u8) -> [u8; 8]
     requires { pages ≤ 56 }
-    ensures { result ≡ mode_header ModeForm.Ten descriptor pages }
+    ensures { result ≡ mode_header write_cache ModeForm.Ten descriptor pages }
 {
     let length = u16::from(descriptor_length(descriptor));
     let mut header = [0; 8];
     header[..2].copy_from_slice(&(6 + length + u16::from(pages)).to_be_bytes());
-    header[3] = DEVICE_SPECIFIC;
+    header[3] = device_specific(write_cache);
     header[4] = long_lba(descriptor);
     header[6..].copy_from_slice(&length.to_be_bytes());
     header
@@ -188,53 +213,59 @@ fn long_descriptor(capacity: u64) -> [u8; 16]
 fn put_pages(
     list: &mut Vec<u8>,
     format: SenseFormat,
+    write_cache: bool,
     is_mask: bool,
     pages: ModePages,
 ) -> Result<(), AllocError>
-    ensures { OnOk result (list.new.items ≡ list.old.items ++ page_list format is_mask pages) }
+    ensures { OnOk result (list.new.items ≡ list.old.items ++ page_list format write_cache is_mask pages) }
 {
     if is_mask {
-        put_masks(list, format, pages)
+        put_masks(list, format, write_cache, pages)
     } else {
-        put_current(list, format, pages)
+        put_current(list, format, write_cache, pages)
     }
 }
 
 /// Appends the pages.
 #[tactic(auto, unfolding(command_model::specs::Modes::page_list))]
-fn put_current(list: &mut Vec<u8>, format: SenseFormat, pages: ModePages) -> Result<(), AllocError>
-    ensures { OnOk result (list.new.items ≡ list.old.items ++ page_list format false pages) }
+fn put_current(
+    list: &mut Vec<u8>,
+    format: SenseFormat,
+    write_cache: bool,
+    pages: ModePages,
+) -> Result<(), AllocError>
+    ensures { OnOk result (list.new.items ≡ list.old.items ++ page_list format write_cache false pages) }
 {
     match pages {
         ModePages::ErrorRecovery => list.extend_from_slice(&ERROR_RECOVERY),
-        ModePages::Caching => list.extend_from_slice(&CACHING),
-        ModePages::Control => list.extend_from_slice(&control(format)),
+        ModePages::Caching => list.extend_from_slice(&caching(format, write_cache)),
+        ModePages::Control => list.extend_from_slice(&control(format, write_cache)),
         ModePages::InformationalExceptions => list.extend_from_slice(&EXCEPTIONS),
-        ModePages::All => list.extend_from_slice(&all_pages(format)),
+        ModePages::All => list.extend_from_slice(&all_pages(format, write_cache)),
     }
 }
 
 /// Returns all pages, by rising code.
 #[tactic(auto, unfolding(command_model::specs::Modes::page_list))]
-fn all_pages(format: SenseFormat) -> [u8; 56]
-    ensures { result ≡ page_list format false ModePages.All }
+fn all_pages(format: SenseFormat, write_cache: bool) -> [u8; 56]
+    ensures { result ≡ page_list format write_cache false ModePages.All }
 {
     let mut pages = [0; 56];
     pages[..12].copy_from_slice(&ERROR_RECOVERY);
-    pages[12..32].copy_from_slice(&CACHING);
-    pages[32..44].copy_from_slice(&control(format));
+    pages[12..32].copy_from_slice(&caching(format, write_cache));
+    pages[32..44].copy_from_slice(&control(format, write_cache));
     pages[44..].copy_from_slice(&EXCEPTIONS);
     pages
 }
 
 /// Returns the masks of what can be changed of them.
 #[tactic(auto, unfolding(command_model::specs::Modes::page_list))]
-fn all_masks(_format: SenseFormat) -> [u8; 56]
-    ensures { result ≡ page_list _format true ModePages.All }
+fn all_masks(_format: SenseFormat, _write_cache: bool) -> [u8; 56]
+    ensures { result ≡ page_list _format _write_cache true ModePages.All }
 {
     let mut masks = [0; 56];
     masks[..12].copy_from_slice(&ERROR_RECOVERY);
-    masks[12..32].copy_from_slice(&CACHING);
+    masks[12..32].copy_from_slice(&CACHING_MASK);
     masks[32..44].copy_from_slice(&CONTROL_MASK);
     masks[44..].copy_from_slice(&EXCEPTIONS_MASK);
     masks
@@ -243,23 +274,33 @@ fn all_masks(_format: SenseFormat) -> [u8; 56]
 /// Returns the page Read-Write Error Recovery.
 #[tactic(auto, unfolding(command_model::specs::Modes::page_list))]
 pub(crate) fn error_recovery() -> [u8; 12]
-    ensures { (format : ASenseFormat) → result ≡ page_list format false ModePages.ErrorRecovery }
+    ensures { (format : ASenseFormat) (write_cache : Bool) → result ≡ page_list format write_cache false ModePages.ErrorRecovery }
 {
     ERROR_RECOVERY
 }
 
-/// Returns the page Caching.
+/// Returns the page Caching: WCE by the cache.
 #[tactic(auto, unfolding(command_model::specs::Modes::page_list))]
-pub(crate) fn caching() -> [u8; 20]
-    ensures { (format : ASenseFormat) → result ≡ page_list format false ModePages.Caching }
+pub(crate) fn caching(_format: SenseFormat, write_cache: bool) -> [u8; 20]
+    ensures { result ≡ page_list _format write_cache false ModePages.Caching }
 {
-    CACHING
+    let wce = wce(write_cache);
+    [
+        0x08, 0x12, wce, 0, 0, 0, 0, 0, 0, 0, 0, 0, 0, 0, 0, 0, 0, 0, 0, 0,
+    ]
+}
+
+/// Returns byte 2 of Caching.
+fn wce(write_cache: bool) -> u8
+    ensures { result ≡ wce write_cache }
+{
+    if write_cache { WCE } else { 0x00 }
 }
 
 /// Returns the page Control: D_SENSE by the format, and SIMPLE commands may be reordered.
 #[tactic(auto, unfolding(command_model::specs::Modes::page_list))]
-pub(crate) fn control(format: SenseFormat) -> [u8; 12]
-    ensures { result ≡ page_list format false ModePages.Control }
+pub(crate) fn control(format: SenseFormat, _write_cache: bool) -> [u8; 12]
+    ensures { result ≡ page_list format _write_cache false ModePages.Control }
 {
     [0x0a, 0x0a, d_sense(format), 0x10, 0, 0, 0, 0, 0, 0, 0, 0]
 }
@@ -277,21 +318,27 @@ fn d_sense(format: SenseFormat) -> u8
 /// Returns the page Informational Exceptions Control.
 #[tactic(auto, unfolding(command_model::specs::Modes::page_list))]
 pub(crate) fn exceptions() -> [u8; 12]
-    ensures { (format : ASenseFormat) → result ≡ page_list format false ModePages.InformationalExceptions }
+    ensures { (format : ASenseFormat) (write_cache : Bool)
+        → result ≡ page_list format write_cache false ModePages.InformationalExceptions }
 {
     EXCEPTIONS
 }
 
 /// Appends the masks of what can be changed of them: nothing.
 #[tactic(auto, unfolding(command_model::specs::Modes::page_list))]
-fn put_masks(list: &mut Vec<u8>, format: SenseFormat, pages: ModePages) -> Result<(), AllocError>
-    ensures { OnOk result (list.new.items ≡ list.old.items ++ page_list format true pages) }
+fn put_masks(
+    list: &mut Vec<u8>,
+    format: SenseFormat,
+    write_cache: bool,
+    pages: ModePages,
+) -> Result<(), AllocError>
+    ensures { OnOk result (list.new.items ≡ list.old.items ++ page_list format write_cache true pages) }
 {
     match pages {
         ModePages::ErrorRecovery => list.extend_from_slice(&ERROR_RECOVERY),
-        ModePages::Caching => list.extend_from_slice(&CACHING),
+        ModePages::Caching => list.extend_from_slice(&CACHING_MASK),
         ModePages::Control => list.extend_from_slice(&CONTROL_MASK),
         ModePages::InformationalExceptions => list.extend_from_slice(&EXCEPTIONS_MASK),
-        ModePages::All => list.extend_from_slice(&all_masks(format)),
+        ModePages::All => list.extend_from_slice(&all_masks(format, write_cache)),
     }
 }

@@ -1,5 +1,5 @@
 -- The configuration that C asks for.
-use Rattle.std.specs.Prelude.{ℕ, ◌≡◌, ◌==◌, not, List, map, Some, None, if◌then◌else◌}
+use Rattle.std.specs.Prelude.{ℕ, ◌≡◌, ◌==◌, false, not, List, map, Some, None, if◌then◌else◌}
 use Rattle.sense.specs.declared.SenseFormat.{SenseFormat}
 use Rattle.sense.specs.declared.SenseFormat.TheVariants.{Fixed, Descriptor}
 use Rattle.cdb.specs.declared.profile.Profile.{Profile}
@@ -33,6 +33,7 @@ identity_of u =
       physical_exponent = u.physical_exponent;
       rotation_rate = u.rotation_rate;
       sense_format = sense_format_of u.sense_format;
+      write_cache = false;
     }
 
 abbrev pub spec_of : WantedUnit → UnitSpec

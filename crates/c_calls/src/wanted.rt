@@ -102,6 +102,7 @@ impl WantedUnit {
             physical_exponent: self.physical_exponent,
             rotation_rate: self.rotation_rate,
             sense_format: sense_format(self.sense_format),
+            write_cache: false,
         }
     }
 

@@ -1,5 +1,6 @@
 pub mod Decoding
 pub mod Fields
+pub mod Medium
 pub mod Need
 pub mod Opcodes
 pub mod Profile

@@ -14,6 +14,7 @@ mod commands;
 mod decoding;
 mod fields;
 pub mod laws;
+mod medium;
 mod opcodes;
 mod profile;
 mod transfers;
@@ -25,6 +26,7 @@ pub use commands::{
     MOST_WRITE_SAME_BLOCKS, SelectReport,
 };
 pub use decoding::decode;
+pub use medium::asks_medium;
 pub use profile::Profile;
 pub use transfers::{Transfer, need};
 pub use wide_commands::{

@@ -1,5 +1,5 @@
 -- What a configuration may say of a disk, and what of it is told.
-use Rattle.std.specs.Prelude.{ℕ, ◌/◌, ◌==◌, ◌&&◌, ◌||◌, nat_le, Bool, true, List, take, replicate, Option, Some, None, slice_index}
+use Rattle.std.specs.Prelude.{ℕ, ◌/◌, ◌==◌, ◌&&◌, ◌||◌, nat_le, Bool, true, false, List, take, replicate, Option, Some, None, slice_index}
 use Rattle.std.specs.List.{list_all}
 use Rattle.sense.specs.declared.SenseFormat.TheVariants.{Fixed}
 use Rattle.cdb.specs.declared.profile.Profile.{Profile}
@@ -7,8 +7,8 @@ use Rattle.cdb.specs.declared.profile.Profile.TheVariants.{Narrow, Wide}
 use Rattle.command_model.specs.StandardData.{vendor, product, revision}
 use Rattle.command_model.specs.declared.identity.Identity.{Identity}
 
--- the disk of which a configuration says nothing: its serial number is made of its address, its medium doesn't rotate, and
--- it sends sense data in the fixed format
+-- the disk of which a configuration says nothing: its serial number is made of its address, its medium doesn't rotate, it
+-- sends sense data in the fixed format, and it has no volatile write cache
 abbrev pub plain_identity : Identity
 plain_identity =
     record {
@@ -21,6 +21,7 @@ plain_identity =
       physical_exponent = 0;
       rotation_rate = 1;
       sense_format = Fixed;
+      write_cache = false;
     }
 
 -- own: what a unit of this profile tells

@@ -1,6 +1,6 @@
 -- The data of INQUIRY: the standard data, and the pages of vital product data, SPC-4
 -- §7.8 and SBC-3 §6.6.
-use Rattle.std.specs.Prelude.{ℕ, ◌+◌, ◌/◌, ◌%◌, ◌^◌, ◌==◌, List, [], ◌∷◌, ◌++◌, length, map, replicate, take, codes, Option, Some, None, if◌then◌else◌}
+use Rattle.std.specs.Prelude.{ℕ, ◌+◌, ◌/◌, ◌%◌, ◌^◌, ◌==◌, Bool, true, false, List, [], ◌∷◌, ◌++◌, length, map, replicate, take, codes, Option, Some, None, if◌then◌else◌}
 use Rattle.std.specs.Int.{w16, to_be_bytes}
 use Rattle.sense.specs.declared.SenseFormat.{SenseFormat}
 use Rattle.sense.specs.declared.SenseFormat.TheVariants.{Fixed, Descriptor}
@@ -64,12 +64,17 @@ abbrev pub most_sense : SenseFormat → ℕ
 most_sense Fixed = 18
 most_sense Descriptor = 20
 
--- page 86h, Extended INQUIRY Data, SPC-4 §7.8.7, 64 bytes: byte 5 with HEADSUP, ORDSUP and SIMPSUP; byte 13, the most
--- bytes of sense data
-unfoldable pub extended_page : SenseFormat → List ℕ
-extended_page format =
-    (0x00 ∷ 0x86 ∷ 0x00 ∷ 0x3c ∷ 0x00 ∷ 0x07 ∷ [])
-    ++ replicate 7 0x00
+-- V_SUP, bit 0 of byte 6 of page 86h: there is a volatile cache
+abbrev pub v_sup : Bool → ℕ
+v_sup true = 0x01
+v_sup false = 0x00
+
+-- page 86h, Extended INQUIRY Data, SPC-4 §7.8.7, 64 bytes: byte 5 with HEADSUP, ORDSUP and SIMPSUP; byte 6, V_SUP; byte 13,
+-- the most bytes of sense data
+unfoldable pub extended_page : SenseFormat → Bool → List ℕ
+extended_page format write_cache =
+    (0x00 ∷ 0x86 ∷ 0x00 ∷ 0x3c ∷ 0x00 ∷ 0x07 ∷ v_sup write_cache ∷ [])
+    ++ replicate 6 0x00
     ++ (most_sense format ∷ [])
     ++ replicate 50 0x00
 
@@ -109,7 +114,7 @@ inquiry_data profile i SupportedPages target lun = supported_pages profile
 inquiry_data profile i SerialNumber target lun = serial_page (serial_of i target lun)
 inquiry_data profile i DeviceIdentification target lun =
     identification_page i.vendor (serial_of i target lun) i.naa
-inquiry_data profile i ExtendedInquiry target lun = extended_page i.sense_format
+inquiry_data profile i ExtendedInquiry target lun = extended_page i.sense_format i.write_cache
 inquiry_data profile i BlockLimits target lun = limits_page
 inquiry_data profile i BlockDeviceCharacteristics target lun = characteristics_page i.rotation_rate
 inquiry_data profile i LogicalBlockProvisioning target lun = provisioning_page

@@ -23,23 +23,23 @@ abbrev pub begins_with : List ℕ → List ℕ → Bool
 begins_with bytes front = nat_le (length front) (length bytes) && is_same (take (length front) bytes) front
 
 -- whether they begin with a page as MODE SENSE gives it
-unfoldable pub begins_with_page : SenseFormat → List ℕ → Bool
-begins_with_page format bytes =
-    begins_with bytes (page_list format false ErrorRecovery) || (begins_with bytes (page_list format false Caching)
-    || (begins_with bytes (page_list format false Control)
-    || begins_with bytes (page_list format false InformationalExceptions)))
+unfoldable pub begins_with_page : SenseFormat → Bool → List ℕ → Bool
+begins_with_page format write_cache bytes =
+    begins_with bytes (page_list format write_cache false ErrorRecovery) || (begins_with bytes (page_list format write_cache false Caching)
+    || (begins_with bytes (page_list format write_cache false Control)
+    || begins_with bytes (page_list format write_cache false InformationalExceptions)))
 
--- the codes of the pages that there are, whatever the format
+-- the codes of the pages that there are, whatever the format and the cache
 abbrev pub is_page : ℕ → Bool
-is_page code = list_any (λ page. page.0 == code) (pages_of Fixed All)
+is_page code = list_any (λ page. page.0 == code) (pages_of Fixed false All)
 
 -- what stands behind the first page of some bytes: a page that ends before its page length says is cut, SPC-4 §6.11
-abbrev pub behind_page : SenseFormat → List ℕ → Answer
-behind_page format bytes =
+abbrev pub behind_page : SenseFormat → Bool → List ℕ → Answer
+behind_page format write_cache bytes =
     if nat_lt (length bytes) 2 then Err parameter_list_length_error
     else (if not (is_page (slice_index bytes 0)) then Err invalid_field_in_parameter_list
     else (if nat_lt (length bytes) (2 + slice_index bytes 1) then Err parameter_list_length_error
-    else (if begins_with_page format bytes then Ok (drop (2 + slice_index bytes 1) bytes)
+    else (if begins_with_page format write_cache bytes then Ok (drop (2 + slice_index bytes 1) bytes)
     else Err invalid_field_in_parameter_list)))
 
 -- the pages behind one that was taken
@@ -48,10 +48,10 @@ in_turn (Ok rest) later = later rest
 in_turn (Err s) later = Err s
 
 -- what at most so many pages are answered, in any order: the first that is refused says why
-abbrev pub pages_answer : SenseFormat → ℕ → List ℕ → Answer
-pages_answer format zero bytes = Ok []
-pages_answer format (suc more) bytes =
-    if length bytes == 0 then Ok [] else in_turn (behind_page format bytes) (λ rest. pages_answer format more rest)
+abbrev pub pages_answer : SenseFormat → Bool → ℕ → List ℕ → Answer
+pages_answer format write_cache zero bytes = Ok []
+pages_answer format write_cache (suc more) bytes =
+    if length bytes == 0 then Ok [] else in_turn (behind_page format write_cache bytes) (λ rest. pages_answer format write_cache more rest)
 
 abbrev pub header_length : ModeForm → ℕ
 header_length Six = 4
@@ -84,19 +84,19 @@ has_block_length Short bytes = from_be_bytes w32 (slice_range bytes 4 8) == 512
 has_block_length Long bytes = from_be_bytes w64 (slice_range bytes 8 16) == 512
 
 -- what follows the header; each page has two bytes at least, so there are no more of them than bytes
-abbrev pub described_answer : SenseFormat → Option ModeDescriptor → List ℕ → Answer
-described_answer format None bytes = Err invalid_field_in_parameter_list
-described_answer format (Some descriptor) bytes =
+abbrev pub described_answer : SenseFormat → Bool → Option ModeDescriptor → List ℕ → Answer
+described_answer format write_cache None bytes = Err invalid_field_in_parameter_list
+described_answer format write_cache (Some descriptor) bytes =
     if nat_lt (length bytes) (descriptor_length descriptor) then Err parameter_list_length_error
     else (if has_block_length descriptor bytes
-    then pages_answer format (length bytes) (drop (descriptor_length descriptor) bytes)
+    then pages_answer format write_cache (length bytes) (drop (descriptor_length descriptor) bytes)
     else Err invalid_field_in_parameter_list)
 
 -- MODE SELECT: no list is no error; one that ends within its header, its block descriptor or a page is one
-abbrev pub select_answer : SenseFormat → ModeForm → List ℕ → Answer
-select_answer format form list =
+abbrev pub select_answer : SenseFormat → Bool → ModeForm → List ℕ → Answer
+select_answer format write_cache form list =
     if length list == 0 then Ok []
     else (if nat_lt (length list) (header_length form) then Err parameter_list_length_error
     else (if medium_type form list == 0
-    then described_answer format (descriptor_of (is_long form list) (descriptor_bytes form list)) (drop (header_length form) list)
+    then described_answer format write_cache (descriptor_of (is_long form list) (descriptor_bytes form list)) (drop (header_length form) list)
     else Err invalid_field_in_parameter_list))

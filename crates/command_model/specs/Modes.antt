@@ -21,9 +21,14 @@ use Rattle.command_model.specs.Data.{Answer}
 abbrev pub error_recovery : ℕ × List ℕ
 error_recovery = (0x01, replicate 10 0x00)
 
--- Caching, SBC-3 §6.5: WCE and RCD are 0; a block is kept when its WRITE ends
-abbrev pub caching : ℕ × List ℕ
-caching = (0x08, replicate 18 0x00)
+-- WCE, bit 2 of byte 2 of Caching: there is a volatile write cache
+abbrev pub wce : Bool → ℕ
+wce true = 0x04
+wce false = 0x00
+
+-- Caching, SBC-3 §6.5: RCD is 0; without a write cache a block is kept when its WRITE ends
+abbrev pub caching : Bool → ℕ × List ℕ
+caching write_cache = (0x08, wce write_cache ∷ replicate 17 0x00)
 
 -- D_SENSE, bit 2 of byte 2 of Control
 abbrev pub d_sense : SenseFormat → ℕ
@@ -38,21 +43,21 @@ control format = (0x0a, d_sense format ∷ 0x10 ∷ replicate 8 0x00)
 abbrev pub exceptions : ℕ × List ℕ
 exceptions = (0x1c, 0x08 ∷ replicate 9 0x00)
 
--- the pages of a unit that sends sense data in a format
-abbrev pub pages_of : SenseFormat → ModePages → List (ℕ × List ℕ)
-pages_of format ErrorRecovery = error_recovery ∷ []
-pages_of format Caching = caching ∷ []
-pages_of format Control = control format ∷ []
-pages_of format InformationalExceptions = exceptions ∷ []
-pages_of format All = error_recovery ∷ caching ∷ control format ∷ exceptions ∷ []
+-- the pages of a unit that sends sense data in a format, with a volatile write cache or without
+abbrev pub pages_of : SenseFormat → Bool → ModePages → List (ℕ × List ℕ)
+pages_of format write_cache ErrorRecovery = error_recovery ∷ []
+pages_of format write_cache Caching = caching write_cache ∷ []
+pages_of format write_cache Control = control format ∷ []
+pages_of format write_cache InformationalExceptions = exceptions ∷ []
+pages_of format write_cache All = error_recovery ∷ caching write_cache ∷ control format ∷ exceptions ∷ []
 
 -- a page as it is returned, SPC-4 §7.5.6: PS is 0; its bytes, or a mask of those that MODE SELECT can change
 abbrev pub page_bytes : Bool → ℕ × List ℕ → List ℕ
 page_bytes is_mask page =
     page.0 ∷ length page.1 ∷ (if is_mask then replicate (length page.1) 0x00 else page.1)
 
-unfoldable pub page_list : SenseFormat → Bool → ModePages → List ℕ
-page_list format is_mask pages = flat_map (page_bytes is_mask) (pages_of format pages)
+unfoldable pub page_list : SenseFormat → Bool → Bool → ModePages → List ℕ
+page_list format write_cache is_mask pages = flat_map (page_bytes is_mask) (pages_of format write_cache pages)
 
 -- what the field PC asks for, SPC-4 §6.13: a mask; what was saved
 abbrev pub is_mask : ModeValues → Bool
@@ -79,29 +84,31 @@ abbrev pub long_lba : ModeDescriptor → ℕ
 long_lba Long = 0x01
 long_lba _ = 0x00
 
--- the device-specific parameter of a block device, SBC-3 §6.5.1: WP 0; DPOFUA, since DPO and FUA change nothing
-abbrev pub device_specific : ℕ
-device_specific = 0x10
+-- the device-specific parameter of a block device, SBC-3 §6.5.1: WP 0; without a write cache DPOFUA, since DPO and FUA
+-- change nothing; with one FUA isn't supported, so a driver asks for SYNCHRONIZE CACHE instead
+abbrev pub device_specific : Bool → ℕ
+device_specific true = 0x00
+device_specific false = 0x10
 
 -- the header before pages of so many bytes, SPC-4 §7.5.5: the mode data length, the medium type, the device-specific
 -- parameter, LONGLBA, the block descriptor length
-unfoldable pub mode_header : ModeForm → ModeDescriptor → ℕ → List ℕ
-mode_header Six descriptor pages =
-    (3 + descriptor_length descriptor + pages) ∷ 0x00 ∷ device_specific ∷ descriptor_length descriptor ∷ []
-mode_header Ten descriptor pages =
+unfoldable pub mode_header : Bool → ModeForm → ModeDescriptor → ℕ → List ℕ
+mode_header write_cache Six descriptor pages =
+    (3 + descriptor_length descriptor + pages) ∷ 0x00 ∷ device_specific write_cache ∷ descriptor_length descriptor ∷ []
+mode_header write_cache Ten descriptor pages =
     to_be_bytes w16 (6 + descriptor_length descriptor + pages)
-    ++ (0x00 ∷ device_specific ∷ long_lba descriptor ∷ 0x00 ∷ [])
+    ++ (0x00 ∷ device_specific write_cache ∷ long_lba descriptor ∷ 0x00 ∷ [])
     ++ to_be_bytes w16 (descriptor_length descriptor)
 
 -- the mode parameter list of a unit of so many blocks; a page has as many bytes whatever values of it are asked for
-abbrev pub mode_data : SenseFormat → ModeRequest → ℕ → List ℕ
-mode_data format request blocks =
-    mode_header request.form request.descriptor (length (page_list format false request.pages))
+abbrev pub mode_data : SenseFormat → Bool → ModeRequest → ℕ → List ℕ
+mode_data format write_cache request blocks =
+    mode_header write_cache request.form request.descriptor (length (page_list format write_cache false request.pages))
     ++ block_descriptor request.descriptor blocks
-    ++ page_list format (is_mask request.values) request.pages
+    ++ page_list format write_cache (is_mask request.values) request.pages
 
 -- MODE SENSE, SPC-4 §6.13
-abbrev pub mode_answer : SenseFormat → ModeRequest → ℕ → Answer
-mode_answer format request blocks =
+abbrev pub mode_answer : SenseFormat → Bool → ModeRequest → ℕ → Answer
+mode_answer format write_cache request blocks =
     if is_saved request.values then Err saving_parameters_not_supported
-    else Ok (take request.allocation (mode_data format request blocks))
+    else Ok (take request.allocation (mode_data format write_cache request blocks))

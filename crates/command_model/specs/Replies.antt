@@ -1,6 +1,6 @@
 -- What a command is answered, by what the unit is told of itself, the data from the driver and the
 -- blocks before.
-use Rattle.std.specs.Prelude.{ℕ, ◌==◌, ◌||◌, nat_lt, List, length, take, Option, Some, None, Ok, Err, if◌then◌else◌, unwrap_or}
+use Rattle.std.specs.Prelude.{ℕ, ◌==◌, Bool, ◌||◌, nat_lt, List, length, take, Option, Some, None, Ok, Err, if◌then◌else◌, unwrap_or}
 use Rattle.sense.specs.declared.Sense.{Sense}
 use Rattle.sense.specs.declared.SenseFormat.{SenseFormat}
 use Rattle.sense.specs.Conditions.{no_sense, parameter_list_length_error, invalid_opcode, lba_out_of_range, invalid_field_in_cdb, invalid_field_in_parameter_list}
@@ -41,6 +41,10 @@ identity_told facts = told_by facts.profile facts.identity
 abbrev pub format_told : Facts → SenseFormat
 format_told facts = (identity_told facts).sense_format
 
+-- WCE
+abbrev pub cache_told : Facts → Bool
+cache_told facts = (identity_told facts).write_cache
+
 -- the answer of a command that no attention stops
 abbrev pub answer_of : Facts → Command → List ℕ → Blocks → Answer
 -- SPC-4 §6.47
@@ -69,7 +73,8 @@ answer_of facts (CompareAndWrite lba count) bytes blocks =
 -- SPC-4 §6.33
 answer_of facts (ReportLuns select allocation) bytes blocks =
     Ok (take allocation (lun_list (listed select facts.luns)))
-answer_of facts (Wide command) bytes blocks = wide_answer (format_told facts) facts.capacity command bytes blocks
+answer_of facts (Wide command) bytes blocks =
+    wide_answer (format_told facts) (cache_told facts) facts.capacity command bytes blocks
 -- SPC-4 §4.5
 answer_of facts (Bad opcode) bytes blocks = Err invalid_field_in_cdb
 answer_of facts Unknown bytes blocks = Err invalid_opcode

@@ -30,6 +30,8 @@ pub struct Identity {
     pub rotation_rate: u16,
     /// The format of the sense data that it sends beside a status: D_SENSE (SPC-4 §7.5.8).
     pub sense_format: SenseFormat,
+    /// True if the unit has a volatile write cache: WCE (SBC-3 §6.5).
+    pub write_cache: bool,
 }
 
 impl Identity {
@@ -44,6 +46,7 @@ impl Identity {
         physical_exponent: 0,
         rotation_rate: 1,
         sense_format: SenseFormat::Fixed,
+        write_cache: false,
     };
 
     /// Returns true if a unit may have it: its texts are printable, its NAA, exponent and rotation rate the standards'.

@@ -14,6 +14,7 @@ use Rattle.unit_model.specs.Asking.{IsOf}
 use Rattle.task_mgmt.specs.declared.kind.MarkBy.TheVariants.{Abort, Reset}
 use Rattle.device_model.specs.Parts.{Hand, Slot}
 use Rattle.device_model.specs.World.{PlainQueue, PlainWorld, Opens}
+use Rattle.command_model.specs.Identity.{told_by}
 use Rattle.device_model.specs.Addressed.{IsAddressed, AreAddressed}
 use Rattle.device_model.specs.Transitions.{Transition}
 use Rattle.device_model.specs.Happens.{May, Occurrence, Reached, occurrence_of, world_of, Leads}
@@ -74,13 +75,14 @@ never_lost k x w m h =
           })
     ]) refl
 
--- each unit has the address and the profile that stand in the inventory at its place
+-- each unit has what stands in the inventory at its place
 addressed_where : (old : PlainWorld) (ds : List Transition) (w : PlainWorld) → Opens old → w.inventory ≡ old.inventory → Says old ds w
     → AreAddressed w
 addressed_where old ds w o e h k u at =
     let told = (h.units k u at).0 in
     subst (λ inventory. IsAddressed inventory k u) (sym e)
-    (subst (λ z. (slice_get old.inventory.addresses k ≡ Some (unit_address z)) × (slice_get old.inventory.profiles k ≡ Some z.profile))
+    (subst (λ z. (slice_get old.inventory.addresses k ≡ Some (unit_address z)) × (slice_get old.inventory.profiles k ≡ Some z.profile)
+    × (slice_get old.inventory.caches k ≡ Some (told_by z.profile z.identity).write_cache))
     (sym told.opening) (o.addressed k told.opened told.there))
 
 -- each request that arrived names the unit that it is for

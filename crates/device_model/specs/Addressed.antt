@@ -1,17 +1,20 @@
--- At which address a unit stands, and of which profile its commands are.
+-- At which address a unit stands, of which profile its commands are, and whether it has a volatile write cache.
 use Rattle.std.specs.Prelude.{ℕ, ◌≡◌, List, Some, slice_get}
+use Rattle.command_model.specs.Identity.{told_by}
 use Rattle.request_intake.specs.Inventory.{PlainInventory}
 use Rattle.unit_model.specs.Receipts.{unit_address}
 use Rattle.unit_model.specs.Unit.{PlainUnit}
 use Rattle.device_model.specs.World.{PlainWorld, Everywhere}
 
--- the unit has the address that stands in the inventory at this place, and the profile: so a command is answered as that
--- of the profile by which it was decoded
+-- the unit has the address that stands in the inventory at this place, the profile, and a volatile write cache where one
+-- stands there: so a command is answered as that of the profile by which it was decoded, and none that asks for the medium
+-- comes to a unit with such a cache
 abbrev pub IsAddressed : PlainInventory → ℕ → PlainUnit → Type 0
 IsAddressed inventory place u =
     (slice_get inventory.addresses place ≡ Some (unit_address u.opening))
     × (slice_get inventory.profiles place ≡ Some u.opening.profile)
+    × (slice_get inventory.caches place ≡ Some (told_by u.opening.profile u.opening.identity).write_cache)
 
--- each unit has the address and the profile that stand in the inventory at its place
+-- each unit has what stands in the inventory at its place
 abbrev pub AreAddressed : PlainWorld → Type 0
 AreAddressed w = Everywhere (IsAddressed w.inventory) w.units

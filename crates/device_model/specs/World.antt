@@ -2,6 +2,7 @@
 use Rattle.std.specs.Prelude.{ℕ, Bool, false, zero, suc, ◌≡◌, ◌-◌, ◌%◌, ◌+◌, ◌<◌, ◌≤◌, ◌⊎◌, List, [], ◌∷◌, ◌++◌, length, Option, Some, None, slice_get}
 use Rattle.scsi_codec.specs.declared.event_queue.Event.{Event as EventRecord}
 use Rattle.ring_core.specs.State.{RingState, PlainChain}
+use Rattle.command_model.specs.Identity.{told_by}
 use Rattle.request_intake.specs.Inventory.{PlainInventory}
 use Rattle.unit_model.specs.Jobs.{PlainJob}
 use Rattle.unit_model.specs.Unit.{PlainUnit}
@@ -32,7 +33,7 @@ pub record PlainWorld : Type 0 where
   -- the guest may write into memory at any time, also between an answer and the look whether a notice of it is wanted;
   -- else it does so between two steps alone
   pub shared : Bool
-  -- the addresses and profiles of the units, in their order
+  -- the addresses and profiles of the units, and which have a volatile write cache, in their order
   pub inventory : PlainInventory
   pub queues : List PlainQueue
   pub units : List PlainUnit
@@ -102,7 +103,8 @@ pub record Opens (w : PlainWorld) : Type 0 where
   pub units : Everywhere (λ i u. IsNewUnit u) w.units
   pub there : length w.units ≡ length w.inventory.addresses
   pub addressed : Everywhere (λ i u. (slice_get w.inventory.addresses i ≡ Some (unit_address u.opening))
-      × (slice_get w.inventory.profiles i ≡ Some u.opening.profile)) w.units
+      × (slice_get w.inventory.profiles i ≡ Some u.opening.profile)
+      × (slice_get w.inventory.caches i ≡ Some (told_by u.opening.profile u.opening.identity).write_cache)) w.units
   pub seats : Everywhere (λ i s. IsNewSeat s) w.seats
   pub working : 1 ≤ w.workers
   pub seated : length w.seats ≡ w.workers + 1

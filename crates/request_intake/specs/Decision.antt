@@ -2,8 +2,12 @@
 use Rattle.std.specs.Prelude.{ℕ, ◌-◌, ◌==◌, ◌&&◌, ◌||◌, nat_lt, Bool, List, [], drop, Option, Some, None, Result, Ok, Err, if◌then◌else◌}
 use Rattle.sense.specs.Conditions.{invalid_message_error}
 use Rattle.cdb.specs.Decoding.{command}
+use Rattle.cdb.specs.Fields.{byte}
+use Rattle.cdb.specs.Medium.{asks_medium}
 use Rattle.cdb.specs.Need.{need_of}
 use Rattle.cdb.specs.declared.commands.Command.{Command}
+use Rattle.cdb.specs.declared.commands.Command.TheVariants.{Bad}
+use Rattle.cdb.specs.declared.profile.Profile.{Profile}
 use Rattle.scsi_codec.specs.Requests.{reading}
 use Rattle.scsi_codec.specs.declared.requests.Request.{Request}
 use Rattle.scsi_codec.specs.declared.requests.CodecFault.{CodecFault}
@@ -14,7 +18,7 @@ use Rattle.command_model.specs.Absent.{absent_reply}
 use Rattle.command_model.specs.PlainReply.{PlainReply, refusal}
 use Rattle.command_model.specs.Data.{data_of}
 use Rattle.request_intake.specs.Answers.{failed, answer_of_reply}
-use Rattle.request_intake.specs.Inventory.{PlainInventory, has_target, place_of, profile_of}
+use Rattle.request_intake.specs.Inventory.{PlainInventory, has_target, is_cached, place_of, profile_of}
 use Rattle.request_intake.specs.declared.answer.ChainLengths.{ChainLengths}
 use Rattle.request_intake.specs.declared.attribute.TaskAttribute.{TaskAttribute}
 use Rattle.request_intake.specs.declared.attribute.TaskAttribute.TheVariants.{Simple, Ordered, HeadOfQueue}
@@ -33,6 +37,11 @@ goes_both_ways n = nat_lt 51 n.readable && nat_lt 108 n.writable
 -- more bytes are needed, one way or the other, than there are
 abbrev pub overruns : ChainLengths → Command → Bool
 overruns n c = nat_lt (n.readable - 51) (need_of c).out || nat_lt (n.writable - 108) (need_of c).into
+
+-- the command of a CDB for a unit of a profile: one that asks for the medium is bad where the unit has a volatile write
+-- cache, since what it asks for isn't promised there
+abbrev pub command_for : Bool → Profile → List ℕ → Command
+command_for cached profile cdb = if cached && asks_medium cdb then Bad (byte 0 cdb) else command profile cdb
 
 -- The answers that need no unit, and the request that goes to one
 
@@ -58,11 +67,12 @@ abbrev pub decide_command : Option ℕ → ChainLengths → List ℕ → Request
 decide_command place n bytes r c =
     if overruns n c then fails code.Overrun else decide_attribute (attribute_of r.attribute) place n bytes r c
 
--- a target that isn't there; else the command is that of the unit's profile
+-- a target that isn't there; else the command is that of the unit's profile, and of its write cache
 abbrev pub decide_address : PlainInventory → ChainLengths → List ℕ → Request → Decision
 decide_address units n bytes r =
     if has_target units.addresses r.address.target
-    then decide_command (place_of units.addresses r.address) n bytes r (command (profile_of units r.address) r.cdb)
+    then decide_command (place_of units.addresses r.address) n bytes r
+    (command_for (is_cached units r.address) (profile_of units r.address) r.cdb)
     else fails code.BadTarget
 
 -- too few writable bytes for a response; too few readable ones for a request, or data both ways; an address that isn't

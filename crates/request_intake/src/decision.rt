@@ -1,9 +1,8 @@
 //! The decision on a request when it is fetched.
 
 ghost use Rattle.std.specs.Prelude.{◌≡◌, ◌+◌, ◌<◌, ◌≤◌, ◌^◌, ℕ, length, min, IfSome};
-ghost use Rattle.cdb.specs.Decoding.{command};
 ghost use Rattle.request_intake.specs.Inventory.{place_of};
-ghost use Rattle.request_intake.specs.Decision.{decided, goes_both_ways, decide_command, decide_address, fails};
+ghost use Rattle.request_intake.specs.Decision.{command_for, decided, goes_both_ways, decide_command, decide_address, fails};
 ghost use Rattle.request_intake.specs.Inner.Decision.{IfDirect, Suits};
 
 use crate::answer::ChainLengths;
@@ -11,7 +10,7 @@ use crate::attribute::attribute_of;
 use crate::direct::DirectAnswer;
 use crate::inventory::Inventory;
 use crate::unit_request::UnitRequest;
-use cdb::{Profile, decode, need};
+use cdb::{CDB_BYTES, Command, Profile, asks_medium, decode, need};
 use scsi_codec::{CodecFault, REQUEST_BYTES, RESPONSE_BYTES, Request, ResponseCode, read_request};
 use sense::Sense;
 
@@ -41,11 +40,25 @@ fn fail(code: ResponseCode) -> Decision
     Decision::Direct(DirectAnswer::failed(code))
 }
 
-/// Returns the decision on a request whose target is there, and whose unit, of this profile, is at this place of the
-/// inventory, if it is anywhere. It is inlined, so that a request to a unit that is there costs no further call.
+/// Returns the command of a CDB for a unit of this profile. Where the unit has a volatile write cache, a CDB that asks for
+/// the medium is `Bad`. A unit without one pays a test.
+#[inline(always)]
+fn command_for(is_cached: bool, profile: Profile, cdb: &[u8; CDB_BYTES]) -> Command
+    ensures meaning { result ≡ command_for is_cached profile cdb.now }
+    ensures data_out { (need_of result).out ≤ 1048576 }
+{
+    if is_cached && asks_medium(cdb) {
+        return Command::Bad { opcode: cdb[0] };
+    }
+    decode(profile, cdb)
+}
+
+/// Returns the decision on a request whose target is there, and whose unit, of this profile, with a volatile write cache
+/// or without, is at this place of the inventory, if it is anywhere. It is inlined, so that a request to a unit that is there costs no further call.
 #[inline(always)]
 fn decide_by_command(
     place: Option<usize>,
+    is_cached: bool,
     profile: Profile,
     bytes: &mut Vec<u8>,
     lengths: &ChainLengths,
@@ -56,10 +69,10 @@ fn decide_by_command(
     requires sum { lengths.now.readable + lengths.now.writable ≤ 2 ^ 32 }
     requires room { RESPONSE_BYTES ≤ lengths.now.writable }
     ensures decision { result
-        ≡ decide_command place lengths.now bytes.old.items request.now (command profile request.now.cdb) }
+        ≡ decide_command place lengths.now bytes.old.items request.now (command_for is_cached profile request.now.cdb) }
     ensures suits { (units : ℕ) → IfSome place (λ at. at < units) → Suits units lengths.now result }
 {
-    let command = decode(profile, &request.cdb);
+    let command = command_for(is_cached, profile, &request.cdb);
     let need = need(&command);
     let sent = lengths.readable.saturating_sub(REQUEST_BYTES as u64);
     let room = lengths.writable.saturating_sub(RESPONSE_BYTES as u64);
@@ -96,11 +109,12 @@ fn decide_by_address(
 {
     match inventory.find(&request.address) {
         Some(place) => {
+            let is_cached = inventory.has_cache_at(place);
             let profile = inventory.profile_at(place);
-            decide_by_command(Some(place), profile, bytes, lengths, request)
+            decide_by_command(Some(place), is_cached, profile, bytes, lengths, request)
         }
         None if inventory.has_target(request.address.target) => {
-            decide_by_command(None, Profile::Narrow, bytes, lengths, request)
+            decide_by_command(None, false, Profile::Narrow, bytes, lengths, request)
         }
         None => fail(ResponseCode::BadTarget),
     }

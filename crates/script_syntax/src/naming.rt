@@ -1,6 +1,6 @@
 //! The words by which a header names a disk.
 
-ghost use Rattle.std.specs.Prelude.{◌≡◌, ◌+◌, ◌-◌, ◌≤◌, ◌++◌, ◌⊎◌, [], Ok, replicate, length, codes, IfOk, IfErr};
+ghost use Rattle.std.specs.Prelude.{◌≡◌, ◌+◌, ◌-◌, ◌≤◌, ◌++◌, ◌⊎◌, [], false, true, Ok, replicate, length, codes, IfOk, IfErr};
 ghost use Rattle.command_model.specs.Identity.{plain_identity};
 
 use crate::fault::LineFault;
@@ -10,8 +10,8 @@ use hex::FromHex;
 use sense::SenseFormat;
 
 /// The words that name a disk, each with a value behind it.
-const WORDS: [&str; 8] = [
-    "vendor", "product", "revision", "serial", "naa", "exponent", "rotation", "sense",
+const WORDS: [&str; 9] = [
+    "vendor", "product", "revision", "serial", "naa", "exponent", "rotation", "sense", "cache",
 ];
 
 /// Returns true if a word names a disk by the value behind it.
@@ -48,6 +48,19 @@ pub(crate) fn sense_format(word: &str) -> Result<SenseFormat, LineFault>
     }
 }
 
+/// Reads whether there is a volatile write cache.
+pub(crate) fn write_cache(word: &str) -> Result<bool, LineFault>
+    ensures volatile { IfOk result (λ cached. cached ≡ true → word.now ≡ codes "volatile") }
+    ensures none { IfOk result (λ cached. cached ≡ false → word.now ≡ codes "none") }
+    ensures fault { IfErr result (λ fault. fault ≡ LineFault.BadValue) }
+{
+    match word {
+        "none" => Ok(false),
+        "volatile" => Ok(true),
+        _ => Err(LineFault::BadValue),
+    }
+}
+
 /// Returns what a disk says of itself once a word with its value is added to it. `BadValue` where no name has that word,
 /// or the value isn't one of it. It isn't known here which texts and numbers the device takes.
 pub(crate) fn named(identity: Identity, word: &str, value: &str) -> Result<Identity, LineFault>
@@ -69,6 +82,9 @@ pub(crate) fn named(identity: Identity, word: &str, value: &str) -> Result<Ident
         i.sense_format ≡ SenseFormat.Descriptor → value.now ≡ codes "descriptor") }
     ensures fixed { word.now ≡ codes "sense" → IfOk result (λ i.
         i.sense_format ≡ SenseFormat.Fixed → value.now ≡ codes "fixed") }
+    ensures cache { word.now ≡ codes "cache" → IfOk result (λ i. i ≡ record identity { write_cache = i.write_cache }) }
+    ensures volatile { word.now ≡ codes "cache" → IfOk result (λ i. i.write_cache ≡ true → value.now ≡ codes "volatile") }
+    ensures uncached { word.now ≡ codes "cache" → IfOk result (λ i. i.write_cache ≡ false → value.now ≡ codes "none") }
     ensures fault { IfErr result (λ fault. fault ≡ LineFault.BadValue) }
 {
     match word {
@@ -123,6 +139,13 @@ pub(crate) fn named(identity: Identity, word: &str, value: &str) -> Result<Ident
             let sense_format = sense_format(value)?;
             Ok(Identity {
                 sense_format,
+                ..identity
+            })
+        }
+        "cache" => {
+            let write_cache = write_cache(value)?;
+            Ok(Identity {
+                write_cache,
                 ..identity
             })
         }

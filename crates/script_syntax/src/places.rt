@@ -6,7 +6,7 @@ use crate::command::notify;
 use crate::fault::Stop;
 use crate::guest_line::{attribute, command_block};
 use crate::header::{Features, LARGEST_SIZE, profile};
-use crate::naming::{is_naming, named, sense_format};
+use crate::naming::{is_naming, named, sense_format, write_cache};
 use crate::ring_place::ring_place;
 use crate::values::{Bytes, LAST_LUN, capacity, name, number, ordinal, unit_pair};
 use command_model::Identity;
@@ -71,6 +71,8 @@ enum Place {
     Naa,
     /// The name of a format of sense data.
     SenseFormat,
+    /// `volatile` or `none`.
+    WriteCache,
     /// `live`, if anything.
     Live,
     /// `before`.
@@ -121,6 +123,7 @@ impl Place {
             Place::Serial => named(Identity::PLAIN, "serial", word).is_ok(),
             Place::Naa => named(Identity::PLAIN, "naa", word).is_ok(),
             Place::SenseFormat => sense_format(word).is_ok(),
+            Place::WriteCache => write_cache(word).is_ok(),
             Place::Live => word == "live",
             Place::Before => word == "before",
             Place::OutOrIn => word == "out" || word == "in",
@@ -198,6 +201,7 @@ fn naming_place(before: &str, index: usize) -> Place {
         "naa" => Place::Naa,
         "exponent" => Place::Number8,
         "sense" => Place::SenseFormat,
+        "cache" => Place::WriteCache,
         _ => Place::Number16,
     }
 }

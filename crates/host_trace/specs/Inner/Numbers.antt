@@ -81,7 +81,7 @@ bare =
     record {
       memory = [];
       shared = false;
-      inventory = record { addresses = []; profiles = [] };
+      inventory = record { addresses = []; profiles = []; caches = [] };
       queues = [];
       units = [];
       seats = [];

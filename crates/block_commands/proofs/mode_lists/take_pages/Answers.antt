@@ -8,11 +8,11 @@ returns-in-Err c =
     let test = sym c.is_empty.ensures ∙ c.if-is_empty.false in
     let some : 0 < length c.loop-taken.rest.now = grind (arith, nat_tests) in
     sym c.loop-taken.invariant
-    ∙ pages-refused c.args.format c.args.most c.loop-taken.taken c.loop-taken.rest.now c.loop-taken-test.true c.in-Err.sense some c.in-Err.ensures
+    ∙ pages-refused c.args.format c.args.write_cache c.args.most c.loop-taken.taken c.loop-taken.rest.now c.loop-taken-test.true c.in-Err.sense some c.in-Err.ensures
 
 pub loop-taken-preserved : goal.loop-taken-preserved
 loop-taken-preserved c =
     let test = sym c.is_empty.ensures ∙ c.if-is_empty.false in
     let some : 0 < length c.loop-taken.rest.now = grind (arith, nat_tests) in
-    sym (pages-later c.args.format c.args.most c.loop-taken.taken c.loop-taken.rest.now c.loop-taken-test.true c.in-Ok.later.now some c.in-Ok.ensures)
+    sym (pages-later c.args.format c.args.write_cache c.args.most c.loop-taken.taken c.loop-taken.rest.now c.loop-taken-test.true c.in-Ok.later.now some c.in-Ok.ensures)
     ∙ c.loop-taken.invariant
