@@ -117,8 +117,8 @@ fn begins_with_page(format: SenseFormat, write_cache: bool, list: &[u8]) -> bool
     ensures { result ≡ begins_with_page format write_cache list.now }
 {
     begins_with(list, &error_recovery())
-        || begins_with(list, &caching(write_cache))
-        || begins_with(list, &control(format))
+        || begins_with(list, &caching(format, write_cache))
+        || begins_with(list, &control(format, write_cache))
         || begins_with(list, &exceptions())
 }
 

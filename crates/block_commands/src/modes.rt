@@ -238,8 +238,8 @@ fn put_current(
 {
     match pages {
         ModePages::ErrorRecovery => list.extend_from_slice(&ERROR_RECOVERY),
-        ModePages::Caching => list.extend_from_slice(&caching(write_cache)),
-        ModePages::Control => list.extend_from_slice(&control(format)),
+        ModePages::Caching => list.extend_from_slice(&caching(format, write_cache)),
+        ModePages::Control => list.extend_from_slice(&control(format, write_cache)),
         ModePages::InformationalExceptions => list.extend_from_slice(&EXCEPTIONS),
         ModePages::All => list.extend_from_slice(&all_pages(format, write_cache)),
     }
@@ -252,8 +252,8 @@ fn all_pages(format: SenseFormat, write_cache: bool) -> [u8; 56]
 {
     let mut pages = [0; 56];
     pages[..12].copy_from_slice(&ERROR_RECOVERY);
-    pages[12..32].copy_from_slice(&caching(write_cache));
-    pages[32..44].copy_from_slice(&control(format));
+    pages[12..32].copy_from_slice(&caching(format, write_cache));
+    pages[32..44].copy_from_slice(&control(format, write_cache));
     pages[44..].copy_from_slice(&EXCEPTIONS);
     pages
 }
@@ -281,8 +281,8 @@ pub(crate) fn error_recovery() -> [u8; 12]
 
 /// Returns the page Caching: WCE by the cache.
 #[tactic(auto, unfolding(command_model::specs::Modes::page_list))]
-pub(crate) fn caching(write_cache: bool) -> [u8; 20]
-    ensures { (format : ASenseFormat) → result ≡ page_list format write_cache false ModePages.Caching }
+pub(crate) fn caching(_format: SenseFormat, write_cache: bool) -> [u8; 20]
+    ensures { result ≡ page_list _format write_cache false ModePages.Caching }
 {
     let wce = wce(write_cache);
     [
@@ -299,8 +299,8 @@ fn wce(write_cache: bool) -> u8
 
 /// Returns the page Control: D_SENSE by the format, and SIMPLE commands may be reordered.
 #[tactic(auto, unfolding(command_model::specs::Modes::page_list))]
-pub(crate) fn control(format: SenseFormat) -> [u8; 12]
-    ensures { (write_cache : Bool) → result ≡ page_list format write_cache false ModePages.Control }
+pub(crate) fn control(format: SenseFormat, _write_cache: bool) -> [u8; 12]
+    ensures { result ≡ page_list format _write_cache false ModePages.Control }
 {
     [0x0a, 0x0a, d_sense(format), 0x10, 0, 0, 0, 0, 0, 0, 0, 0]
 }

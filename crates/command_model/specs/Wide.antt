@@ -31,7 +31,7 @@ wide_answer format write_cache capacity (ReportTaskManagement extended allocatio
 wide_answer format write_cache capacity (GetLbaStatus allocation lba) bytes blocks =
     if nat_lt lba capacity then Ok (take allocation (lba_status capacity lba blocks)) else Err lba_out_of_range
 wide_answer format write_cache capacity (ReportOperationCodes asked timeouts allocation) bytes blocks =
-    codes_answer asked timeouts allocation
+    codes_answer write_cache asked timeouts allocation
 -- SBC-3 §5.29
 wide_answer format write_cache capacity (Verify sent count lba) bytes blocks =
     within capacity lba count (compared (first_unequal (run (to_verify sent bytes) 0 count) (run blocks lba count)))
