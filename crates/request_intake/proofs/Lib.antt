@@ -1,4 +1,5 @@
 pub mod Data
 pub mod Found
 pub mod Lengths
+pub mod Medium
 pub mod Numbers

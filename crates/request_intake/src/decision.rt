@@ -2,7 +2,6 @@
 
 ghost use Rattle.std.specs.Prelude.{◌≡◌, ◌+◌, ◌<◌, ◌≤◌, ◌^◌, ℕ, length, min, IfSome};
 ghost use Rattle.cdb.specs.Need.{need_of};
-ghost use Rattle.request_intake.specs.Inventory.{place_of};
 ghost use Rattle.request_intake.specs.Decision.{command_for, decided, goes_both_ways, decide_command, decide_address, fails};
 ghost use Rattle.request_intake.specs.Inner.Decision.{IfDirect, Suits};
 

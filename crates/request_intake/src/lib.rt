@@ -12,6 +12,7 @@ mod attribute;
 mod decision;
 mod direct;
 mod inventory;
+pub mod laws;
 mod unit_request;
 
 pub use answer::{ChainLengths, put_response_ok, response_ok};
