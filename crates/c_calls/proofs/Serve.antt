@@ -1,5 +1,5 @@
 -- A call where there is a device, and one where there is none.
-use Rattle.std.proofs.Common.{◌≡◌, refl, sym, ap, subst}
+use Rattle.std.proofs.Common.{◌≡◌, ◌≤◌, refl, sym, ap, subst}
 use Rattle.std.specs.Prelude.{ℕ, true, false, List, Option, Some, None, is_some}
 use Rattle.unit_model.specs.Contents.{is_capacity}
 use Rattle.config.specs.declared.config.Config.{Config}
@@ -7,7 +7,7 @@ use Rattle.c_calls.specs.Wanted.{Asks}
 use Rattle.block_store.specs.Blocks.{Blocks}
 use Rattle.backed_store.specs.Disks.{size_of, blocks_of, storage_of}
 use Rattle.backed_store.specs.declared.disk.Disk.{Disk as UnitDisk}
-use Rattle.c_calls.specs.Disks.{OnDisk, CreatesDisk, IsBlank, IsUnchanged}
+use Rattle.c_calls.specs.Disks.{OnDisk, CreatesDisk, IsBlank, CreatesBacked, IsBackedOver, IsUnchanged}
 use Rattle.c_calls.specs.Calls.{Serving, Creates, Makes, Refuses}
 use Rattle.c_calls.specs.declared.answer.Answer.{Answer}
 use Rattle.c_calls.specs.declared.answer.Answer.TheVariants as answer
@@ -40,6 +40,12 @@ pub created : (blocks : ℕ) (old after : Option UnitDisk) (s : UnitDisk) → is
     → after ≡ Some s → CreatesDisk blocks old answer.Done after
 created blocks None after s none fits blank is = (fits, s, blank, is)
 created blocks (Some x) after s none fits blank is = cc
+
+pub created_backed : (content : List ℕ) (blocks most_pages : ℕ) (old after : Option UnitDisk) (s : UnitDisk) → is_some old ≡ false
+    → is_capacity blocks ≡ true → 8448 ≤ most_pages → IsBackedOver content blocks most_pages s → after ≡ Some s
+    → CreatesBacked content blocks most_pages old answer.Done after
+created_backed content blocks most_pages None after s none fits many over is = (fits, many, s, over, is)
+created_backed content blocks most_pages (Some x) after s none fits many over is = cc
 
 module _ (pages features : ℕ) (queues : List WantedQueue) (units : List WantedUnit) (fault told : Fault) (old after : Option Served) (c : Config) (none : old ≡ None) (asks : Asks pages features queues units c) where
   pub made : (d : Served) → Makes c d → after ≡ Some d → told ≡ fault → Creates pages features queues units fault told old answer.Done after
