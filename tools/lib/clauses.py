@@ -11,7 +11,7 @@ NAME = re.compile(r"[A-Za-z_]\w*")
 GHOST_USE = re.compile(r"ghost use ([\w.]+?)(?:\.\{([^}]*)\}| as (\w+))?;")
 USE = re.compile(r"(?<!ghost )\b(pub )?use ([^;]+);")
 MODULE = re.compile(r"^ *(pub )?mod (\w+);", re.M)
-CLAUSE = re.compile(r"(?:requires|ensures)\*?(?: \w+)? ?$")
+CLAUSE = re.compile(r"(?:(?:requires|ensures)\*?(?: \w+)?|ghost \w+:) ?$")
 BEGIN = re.compile(
     r"(?<![\w.])(?:(?P<ghost_use>ghost use\b)|(?P<public>pub(?P<within>\([^)]*\))? )?"
     r"(?:ghost (?P<ghost>\w+) ?[:=] ?\{|(?:final |const |unsafe |extern \"\" )*(?P<kind>fn|struct|enum|trait) |(?P<impl>impl\b)))"

@@ -1,22 +1,18 @@
 //! The calls on disks: each takes the disk out of where C keeps it, does one thing with it, and puts it back.
 
-ghost use Rattle.std.specs.Prelude.{ℕ, List, ◌≡◌, ◌≤◌, ◌<◌, ◌+◌, true, false, IsTrue};
+ghost use Rattle.std.specs.Prelude.{ℕ, ◌≡◌, ◌≤◌, ◌<◌, ◌+◌, true, false, IsTrue};
 ghost use Rattle.block_store.specs.Blocks.{is_within};
 ghost use Rattle.block_store.specs.Inner.Pages.{is_beside};
 ghost use Rattle.backed_store.specs.Disks.{size_of, blocks_of, storage_of, holds, has_room};
 ghost use Rattle.c_calls.specs.Kept.{disk_at};
-ghost use Rattle.c_calls.specs.Disks.{CreatesBacked, has_backed, CreatesDisk, DestroysDisk, OnDisk, HasBlocks, IsUnchanged, LoadsBlocks, SavesBlocks, Saves};
+ghost use Rattle.c_calls.specs.Disks.{CreatesDisk, DestroysDisk, OnDisk, HasBlocks, IsUnchanged, LoadsBlocks, SavesBlocks, Saves};
 
 use crate::answer::Answer;
 use crate::disk::Disk;
-use backed_store::{BackedStore, Disk as UnitDisk};
+use backed_store::Disk as UnitDisk;
 use block_store::{PagedStore, Readiness, Store};
-use foundation::Record;
 use std::alloc::Global;
 use unit_history::is_capacity;
-
-/// The least number of pages that a backed disk may have in memory: some more than the largest command needs.
-const LEAST_PAGES: usize = 8448;
 
 /// Makes a disk of zeros where there is none.
 pub fn create_disk(disk: &mut Disk, alloc: Global, blocks: u64) -> Answer
@@ -35,44 +31,6 @@ pub fn create_disk(disk: &mut Disk, alloc: Global, blocks: u64) -> Answer
         }
         Err(_) => Answer::NoMemory,
     }
-}
-
-/// Makes a disk whose pages come and go where there is none, over a storage that has these bytes. C has them, and no code of
-/// the device: the clause holds of whichever they are.
-pub fn create_backed(disk: &mut Disk, alloc: Global, blocks: u64, most_pages: usize) -> Answer
-    ghost content: { List ℕ }
-    ensures { CreatesBacked content blocks most_pages (disk_at disk.old) result (disk_at disk.new) }
-{
-    if disk.is_there() {
-        return Answer::InUse;
-    }
-    if !is_capacity(blocks) {
-        return Answer::BadCapacity;
-    }
-    if most_pages < LEAST_PAGES {
-        return Answer::BadLength;
-    }
-    let store = BackedStore::new(alloc, blocks, most_pages, Record::any());
-    match Box::new(alloc, UnitDisk::Backed(store)) {
-        Ok(store) => {
-            disk.put(store);
-            Answer::Done
-        }
-        Err(_) => Answer::NoMemory,
-    }
-}
-
-/// Returns true if there is a disk whose pages come and go.
-pub fn is_backed(disk: &mut Disk, alloc: Global) -> bool
-    ensures told { result ≡ has_backed (disk_at disk.old) }
-    ensures same { disk_at disk.new ≡ disk_at disk.old }
-{
-    let Some(store) = disk.take(alloc) else {
-        return false;
-    };
-    let resident = store.is_resident();
-    disk.put(store);
-    !resident
 }
 
 /// Lets go of a disk and of all its memory.

@@ -12,6 +12,7 @@
 #![tactic(auto)]
 
 mod answer;
+pub mod backed;
 pub mod calls;
 mod changes;
 mod counts;

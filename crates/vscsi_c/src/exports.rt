@@ -12,7 +12,7 @@ ghost use Rattle.c_calls.specs.Disks.{CreatesBacked, has_backed, CreatesDisk, De
 
 use c_calls::{
     BlockRange, Device, Disk, Fault, RingPosition, Told, UnitCounts, WantedQueue, WantedUnit,
-    calls, disks, handing,
+    backed, calls, disks, handing,
 };
 use std::alloc::Global;
 
@@ -255,7 +255,7 @@ pub extern "C" fn vscsi_raw_disk_create_backed(
     ghost content: { List ℕ }
     ensures { Tells result (λ a. CreatesBacked content blocks most_pages (disk_at disk.old) a (disk_at disk.new)) }
 {
-    disks::create_backed(disk, alloc, blocks, most_pages).code()
+    backed::create(disk, alloc, blocks, most_pages).code()
 }
 
 /// Returns true if there is a disk whose pages come and go.
@@ -264,7 +264,7 @@ pub extern "C" fn vscsi_raw_disk_is_backed(disk: &mut Disk, alloc: Global) -> bo
     ensures told { result ≡ has_backed (disk_at disk.old) }
     ensures same { disk_at disk.new ≡ disk_at disk.old }
 {
-    disks::is_backed(disk, alloc)
+    backed::is_backed(disk, alloc)
 }
 
 /// Lets go of a disk and of all its memory.

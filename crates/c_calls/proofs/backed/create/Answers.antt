@@ -2,7 +2,7 @@ use Rattle.std.proofs.Common.{Some, [], refl, sym, ap, ◌∙◌, subst, arith}
 use Rattle.block_store.specs.Pages.{blocks_in}
 use Rattle.c_calls.specs.Disks.{IsBackedOver}
 use Rattle.c_calls.proofs.Serve.{created_backed}
-use Rattle.c_calls.proofs.disks.create_backed.Goals as goal
+use Rattle.c_calls.proofs.backed.create.Goals as goal
 
 pub returns-in-Ok : goal.returns-in-Ok
 returns-in-Ok g c =
