@@ -67,6 +67,15 @@ static inline int open_file(const char *folder) {
   return file;
 }
 
+// How many pages of the file have what the guest flushed.
+static inline unsigned kept(int file) {
+  uint8_t bytes[VSCSI_PAGE];
+  unsigned count = 0;
+  for (uint64_t page = 0; page < PAGES; page++)
+    count += pread(file, bytes, size_of(page), (off_t)(page * VSCSI_PAGE)) == (ssize_t)size_of(page) && is_kept(page, bytes);
+  return count;
+}
+
 // Makes the device. At most VSCSI_LEAST_PAGES pages of its disk are in memory.
 static inline void open_device(void) {
   static const uint8_t profile = VSCSI_PROFILE_WIDE;

@@ -145,15 +145,6 @@ static void turn(void) {
   } while (waiting > 0 && waiting < before);
 }
 
-// How many pages of the file have what the guest flushed.
-static unsigned kept(void) {
-  uint8_t bytes[VSCSI_PAGE];
-  unsigned count = 0;
-  for (uint64_t page = 0; page < PAGES; page++)
-    count += pread(file, bytes, size_of(page), (off_t)(page * VSCSI_PAGE)) == (ssize_t)size_of(page) && is_kept(page, bytes);
-  return count;
-}
-
 int main(int argc, char **argv) {
   pthread_t pool[THREADS];
   struct vscsi_disk disk = {0};
@@ -167,7 +158,7 @@ int main(int argc, char **argv) {
   while (has_guest()) turn();
   pthread_join(guest, NULL);
   printf("host: %u in flight, %u reads failed, %u writes failed\n", in_flight, reads_failed, writes_failed);
-  printf("file: %u of %u pages as they were flushed\n", kept(), (unsigned)PAGES);
+  printf("file: %u of %u pages as they were flushed\n", kept(file), (unsigned)PAGES);
 
   // before a device is closed, what was begun ends, and what is changed is written
   while (in_flight) turn();
