@@ -15,8 +15,12 @@ enum { BASE = 0x100000, PER_PAGE = VSCSI_PAGE / VSCSI_BLOCK, BLOCKS = 131077, PA
 // The guest writes pieces of 8 blocks, from the middle of a page into the next one: one in each 3 pages, and one at the disk's end.
 enum { PIECE = 8, APART = 24, PIECES = 5462 };
 
+// The status BUSY (SAM-5, 5.3.1).
+enum { BUSY = 8 };
+
 static _Alignas(4096) uint8_t memory[MEMORY];
 static struct vscsi_live device;
+static struct vscsi_disk disk;
 static int bell = -1, notice = -1; // to the host, and to the guest
 static int guest_runs = 1;
 
@@ -76,6 +80,12 @@ static inline unsigned kept(int file) {
   return count;
 }
 
+// Leaves no memory behind, wherever the example ends.
+static void end(void) {
+  vscsi_live_destroy(&device);
+  vscsi_disk_destroy(&disk);
+}
+
 // Makes the device. At most VSCSI_LEAST_PAGES pages of its disk are in memory.
 static inline void open_device(void) {
   static const uint8_t profile = VSCSI_PROFILE_WIDE;
@@ -83,7 +93,7 @@ static inline void open_device(void) {
   const struct vscsi_region region = {.guest = BASE, .size = MEMORY, .host = memory};
   struct vscsi_ring rings[QUEUES] = {{0}};
   struct vscsi_live_config config = live_config_of(&unit, 1, rings, BASE);
-  struct vscsi_disk disk = {0};
+  atexit(end);
   config.profiles = &profile;
   must("disk", vscsi_disk_create_backed(&disk, BLOCKS, VSCSI_LEAST_PAGES));
   must("create", vscsi_live_create(&device, &config, &disk, NULL));
@@ -102,11 +112,13 @@ static inline void serve(void) {
 
 // The guest.
 
-// Has a command served. Returns whether that went well.
+// Has a command served, again where the device was BUSY, as it is where it is refused memory. Returns whether that went well.
 static inline bool ask(struct guest *guest, const uint8_t *block, size_t length, uint32_t out, uint32_t in) {
-  request(guest, 0, block, length, out, in);
-  ring(bell);
-  while (!is_used(guest)) await(notice);
+  do {
+    request(guest, 0, block, length, out, in);
+    ring(bell);
+    while (!is_used(guest)) await(notice);
+  } while (response_of(guest).status == BUSY);
   return is_good(guest);
 }
 

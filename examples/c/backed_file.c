@@ -147,7 +147,6 @@ static void turn(void) {
 
 int main(int argc, char **argv) {
   pthread_t pool[THREADS];
-  struct vscsi_disk disk = {0};
 
   file = open_file(argc > 1 ? argv[1] : "/tmp");
   open_device();

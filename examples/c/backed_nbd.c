@@ -149,8 +149,6 @@ static unsigned kept_there(void) {
 }
 
 int main(int argc, char **argv) {
-  struct vscsi_disk disk = {0};
-
   must_nbd((nbd = nbd_create()));
   must_nbd(argc > 1 && nbd_connect_unix(nbd, argv[1]) == 0);
   if (nbd_get_size(nbd) != (int64_t)BLOCKS * VSCSI_BLOCK || nbd_can_flush(nbd) != 1) return 1;

@@ -148,8 +148,6 @@ static void turn(void) {
 }
 
 int main(int argc, char **argv) {
-  struct vscsi_disk disk = {0};
-
   file = open_file(argc > 1 ? argv[1] : "/tmp");
   if (io_uring_queue_init(ENTRIES, &uring, 0)) return 77;
   open_device();
