@@ -5,6 +5,7 @@
 #define BACKED_H
 #include <pthread.h>
 #include <sys/eventfd.h>
+#include <time.h>
 #include <unistd.h>
 
 #include "guest.h"
@@ -35,18 +36,19 @@ static inline void await(int at) {
   if (read(at, &count, sizeof count) != sizeof count) exit(1);
 }
 
-// How many bytes of a page are the disk's. Behind them a page has zeros.
+// Returns how many bytes of a page are the disk's. Behind them a page has zeros.
 static inline size_t size_of(uint64_t page) { return page == PAGES - 1 ? (BLOCKS - page * PER_PAGE) * VSCSI_BLOCK : VSCSI_PAGE; }
 
-// The first block of a piece.
+// Returns the first block of a piece.
 static inline uint32_t first_of(unsigned piece) { return piece < PIECES - 1 ? APART * piece + PER_PAGE / 2 : BLOCKS - PIECE; }
 
+// Returns true if the guest writes a block.
 static inline bool is_written(uint64_t block) {
   uint64_t piece = block / APART;
   return block >= BLOCKS - PIECE || (piece < PIECES - 1 && block >= first_of((unsigned)piece) && block < first_of((unsigned)piece) + PIECE);
 }
 
-// What the guest writes into blocks.
+// Fills blocks with what the guest writes there.
 static inline void fill(uint8_t *bytes, uint64_t first, unsigned count) {
   for (unsigned k = 0; k < count; k++) {
     memset(bytes + k * VSCSI_BLOCK, (int)((first + k) % 251 + 1), VSCSI_BLOCK);
@@ -54,7 +56,7 @@ static inline void fill(uint8_t *bytes, uint64_t first, unsigned count) {
   }
 }
 
-// Returns whether a page has what the guest wrote there, and zeros elsewhere.
+// Returns true if a page has what the guest wrote there, and zeros elsewhere.
 static inline bool is_kept(uint64_t page, const uint8_t *bytes) {
   uint8_t wanted[VSCSI_PAGE] = {0};
   for (uint64_t k = 0; k < PER_PAGE; k++)
@@ -71,7 +73,7 @@ static inline int open_file(const char *folder) {
   return file;
 }
 
-// How many pages of the file have what the guest flushed.
+// Returns how many pages of a file have what the guest flushed.
 static inline unsigned kept(int file) {
   uint8_t bytes[VSCSI_PAGE];
   unsigned count = 0;
@@ -100,6 +102,9 @@ static inline void open_device(void) {
   must("map", vscsi_map(&device, &region, 1));
 }
 
+// Lets some time pass, before something is tried again that failed.
+static inline void pause_shortly(void) { nanosleep(&(struct timespec){.tv_nsec = 1000000}, NULL); }
+
 // Serves until nothing is left to do, and notifies the guest.
 static inline void serve(void) {
   uint32_t owed;
@@ -112,7 +117,7 @@ static inline void serve(void) {
 
 // The guest.
 
-// Has a command served, again where the device was BUSY, as it is where it is refused memory. Returns whether that went well.
+// Has a command served, and again where it was answered BUSY, as where memory was refused. Returns true if that went well.
 static inline bool ask(struct guest *guest, const uint8_t *block, size_t length, uint32_t out, uint32_t in) {
   do {
     request(guest, 0, block, length, out, in);
@@ -122,7 +127,7 @@ static inline bool ask(struct guest *guest, const uint8_t *block, size_t length,
   return is_good(guest);
 }
 
-// Writes or reads a piece. Returns whether that went well.
+// Writes or reads a piece. Returns true if that went well, and what was read is what was written.
 static inline bool transfer(struct guest *guest, unsigned piece, bool writes) {
   uint32_t lba = first_of(piece);
   const uint8_t block[10] = {writes ? 0x2a : 0x28, 0, (uint8_t)(lba >> 24), (uint8_t)(lba >> 16), (uint8_t)(lba >> 8), (uint8_t)lba, [8] = PIECE};
@@ -134,6 +139,7 @@ static inline bool transfer(struct guest *guest, unsigned piece, bool writes) {
   return writes || memcmp(found, wanted, sizeof wanted) == 0;
 }
 
+// Plays the guest, and says how that went.
 static void *play_guest(void *unused) {
   static const uint8_t mode_sense[6] = {0x1a, 0x08, 0x08, 0, 24}, synchronize_cache[10] = {0x35};
   struct guest guest = {.memory = memory, .base = BASE};
@@ -159,5 +165,6 @@ static inline pthread_t begin_guest(void) {
   return thread;
 }
 
+// Returns true until the guest has gone.
 static inline bool has_guest(void) { return __atomic_load_n(&guest_runs, __ATOMIC_ACQUIRE); }
 #endif

@@ -1,7 +1,6 @@
 // Serves a guest over a disk that is a file. A small pool of threads reads and writes the disk's pages while the device serves.
 // The first read fails here, and so does the first write, as those of any storage may: each is tried again.
 #define _XOPEN_SOURCE 700
-#include <time.h>
 
 #define EXAMPLE "backed_file"
 #include "backed.h"
@@ -29,6 +28,7 @@ static int file;
 
 // The pool.
 
+// Reads a page, or writes it. Returns true if all of it was moved.
 static bool move_page(const struct job *job, uint64_t page, uint8_t *bytes) {
   off_t at = (off_t)(page * VSCSI_PAGE);
   ssize_t moved = job == writes ? pwrite(file, bytes, size_of(page), at) : pread(file, bytes, size_of(page), at);
@@ -49,6 +49,7 @@ static struct job *find(struct job *from, enum state state) {
   return NULL;
 }
 
+// Does what the host begins, until it has ended: one of the pool's threads.
 static void *work(void *unused) {
   pthread_mutex_lock(&lock);
   while (!ended) {
@@ -61,7 +62,7 @@ static void *work(void *unused) {
     pthread_mutex_unlock(&lock);
     job->done = !job->fails && run(job);
     // what failed is tried again at once, so some time passes before the host hears of it
-    if (!job->done) nanosleep(&(struct timespec){.tv_nsec = 1000000}, NULL);
+    if (!job->done) pause_shortly();
     pthread_mutex_lock(&lock);
     job->state = OVER;
     ring(bell);
@@ -74,7 +75,7 @@ static void *work(void *unused) {
 
 static unsigned in_flight, reads_begun, writes_begun, reads_failed, writes_failed;
 
-// Returns a job in this state, which only the host takes out of it.
+// Returns a job in this state, if there is one.
 static struct job *look(struct job *from, enum state state) {
   pthread_mutex_lock(&lock);
   struct job *job = find(from, state);
@@ -82,12 +83,14 @@ static struct job *look(struct job *from, enum state state) {
   return job;
 }
 
+// Hands a job to the pool, or takes it back.
 static void set(struct job *job, enum state state) {
   pthread_mutex_lock(&lock);
   job->state = state;
   if (state == BEGUN) pthread_cond_signal(&begun);
   pthread_mutex_unlock(&lock);
-  in_flight += state == BEGUN ? 1 : -1u;
+  if (state == BEGUN) in_flight++;
+  else in_flight--;
 }
 
 // Tells the device what is over. Returns true if anything was.
@@ -104,7 +107,7 @@ static bool tell_over(void) {
   return any;
 }
 
-// What is read of this page may be older than what is written now.
+// Notes that what is read of a page may be older than what is written now.
 static void outdate(uint64_t page) {
   for (struct job *job = jobs + 1; job < jobs + JOBS; job++) job->is_stale |= job->count && job->pages[0] == page;
 }
@@ -143,6 +146,8 @@ static void turn(void) {
     before = waiting;
     must("wake", vscsi_live_wake(&device, &waiting));
   } while (waiting > 0 && waiting < before);
+  // nothing is on its way that commands could wait for: they were refused memory
+  if (waiting > 0 && in_flight == 0) pause_shortly(), ring(bell);
 }
 
 int main(int argc, char **argv) {

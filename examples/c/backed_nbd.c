@@ -3,7 +3,6 @@
 #define _XOPEN_SOURCE 700
 #include <libnbd.h>
 #include <poll.h>
-#include <time.h>
 
 #define EXAMPLE "backed_nbd"
 #include "backed.h"
@@ -32,7 +31,7 @@ static void must_nbd(bool done) {
   exit(1);
 }
 
-// Called by libnbd where a request is over, and in the middle of its work: so it calls nothing there.
+// Notes that a request is over. libnbd calls it in the middle of its own work, so it calls nothing there.
 static int note_over(void *at, int *error) {
   struct job *job = at;
   job->failed |= *error != 0;
@@ -40,6 +39,7 @@ static int note_over(void *at, int *error) {
   return 1;
 }
 
+// Begins a job's reads, or its writes.
 static void begin(struct job *job) {
   const nbd_completion_callback over = {.callback = note_over, .user_data = job};
   job->is_begun = true;
@@ -48,7 +48,8 @@ static void begin(struct job *job) {
     uint64_t at = job->pages[i] * VSCSI_PAGE;
     size_t size = size_of(job->pages[i]);
     job->left++;
-    must_nbd((job == writes ? nbd_aio_pwrite(nbd, job->bytes[i], size, at, over, 0) : nbd_aio_pread(nbd, job->bytes[i], size, at, over, 0)) >= 0);
+    int64_t number = job == writes ? nbd_aio_pwrite(nbd, job->bytes[i], size, at, over, 0) : nbd_aio_pread(nbd, job->bytes[i], size, at, over, 0);
+    must_nbd(number >= 0);
   }
 }
 
@@ -63,7 +64,7 @@ static void begin_flush(void) {
 // Tells the device of a job that is over.
 static void tell(struct job *job) {
   // what failed is tried again at once, so some time passes before the device hears of it
-  if (job->failed) nanosleep(&(struct timespec){.tv_nsec = 1000000}, NULL);
+  if (job->failed) pause_shortly();
   for (unsigned i = 0; i < job->count; i++)
     if (job == writes) must("written", vscsi_live_written(&device, 0, 0, job->pages[i], !job->failed));
     else if (!job->failed && !job->is_stale) must("load", vscsi_live_load(&device, 0, 0, job->pages[i], job->bytes[i]));
@@ -73,7 +74,7 @@ static void tell(struct job *job) {
   in_flight--;
 }
 
-// Returns true if a job was over.
+// Tells the device of the jobs that are over, once writes were flushed. Returns true if there was any.
 static bool tell_over(void) {
   bool any = false;
   for (struct job *job = jobs; job < jobs + JOBS; job++) {
@@ -84,7 +85,7 @@ static bool tell_over(void) {
   return any;
 }
 
-// What is read of this page may be older than what is written now.
+// Notes that what is read of a page may be older than what is written now.
 static void outdate(uint64_t page) {
   for (struct job *job = jobs + 1; job < jobs + JOBS; job++) job->is_stale |= job->is_begun && job->pages[0] == page;
 }
@@ -135,9 +136,11 @@ static void turn(void) {
     before = waiting;
     must("wake", vscsi_live_wake(&device, &waiting));
   } while (waiting > 0 && waiting < before);
+  // nothing is on its way that commands could wait for: they were refused memory
+  if (waiting > 0 && in_flight == 0) pause_shortly(), ring(bell);
 }
 
-// How many pages of the server's disk have what the guest flushed.
+// Returns how many pages of the server's disk have what the guest flushed.
 static unsigned kept_there(void) {
   uint8_t bytes[VSCSI_PAGE];
   unsigned count = 0;

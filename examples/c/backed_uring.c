@@ -32,11 +32,13 @@ static struct io_uring_sqe *next_entry(void) {
   return entry;
 }
 
+// Counts an entry among those of a job.
 static void add(struct job *job, struct io_uring_sqe *entry) {
   io_uring_sqe_set_data(entry, job);
   job->left++;
 }
 
+// Begins the read of a page.
 static void begin_read(struct job *job) {
   struct io_uring_sqe *entry = next_entry();
   io_uring_prep_read(entry, reads_begun++ ? file : -1, job->bytes[0], (unsigned)size_of(job->pages[0]), job->pages[0] * VSCSI_PAGE);
@@ -44,7 +46,7 @@ static void begin_read(struct job *job) {
   in_flight++;
 }
 
-// Begins a chain: a write that fails or is short cancels those behind it, and the fsync.
+// Begins a chain of writes: one that fails or is short cancels those behind it, and the fsync.
 static void begin_write(void) {
   for (unsigned i = 0; i < writes->count; i++) {
     struct io_uring_sqe *entry = next_entry();
@@ -59,7 +61,7 @@ static void begin_write(void) {
   in_flight++;
 }
 
-// What failed is tried again at once, so some time passes before the device hears of it.
+// Lets some time pass before the device hears of a job that failed, since it is tried again at once.
 static void pause_job(struct job *job) {
   static struct __kernel_timespec some = {.tv_nsec = 1000000};
   struct io_uring_sqe *entry = next_entry();
@@ -104,7 +106,7 @@ static bool take_completed(void) {
   return any;
 }
 
-// What is read of this page may be older than what is written now.
+// Notes that what is read of a page may be older than what is written now.
 static void outdate(uint64_t page) {
   for (struct job *job = jobs + 1; job < jobs + JOBS; job++) job->is_stale |= job->left && job->pages[0] == page;
 }
@@ -145,11 +147,14 @@ static void turn(void) {
     before = waiting;
     must("wake", vscsi_live_wake(&device, &waiting));
   } while (waiting > 0 && waiting < before);
+  // nothing is on its way that commands could wait for: they were refused memory
+  if (waiting > 0 && in_flight == 0) pause_shortly(), ring(bell);
 }
 
 int main(int argc, char **argv) {
   file = open_file(argc > 1 ? argv[1] : "/tmp");
-  if (io_uring_queue_init(ENTRIES, &uring, 0)) return 77;
+  int refused = io_uring_queue_init(ENTRIES, &uring, 0);
+  if (refused) return refused == -ENOSYS || refused == -EPERM ? 77 : 1; // 77: the kernel has no io_uring for us
   open_device();
   pthread_t guest = begin_guest();
   hear();

@@ -572,6 +572,8 @@ enum vscsi_answer vscsi_live_destroy(struct vscsi_live *device);
  *    begin these reads.
  * 4. If commands wait, vscsi_live_wake and vscsi_live_serve once more; and again from 2 where fewer wait than before. A command
  *    may wait for room that another had, and then no page that comes wakes it.
+ * 5. If commands wait, and the host reads and writes nothing, malloc refused what they need, and no call may have answered so. After
+ *    some time again from 4.
  * Before it closes a device the host waits for its reads and writes to end, and writes what vscsi_live_give still finds: pages that
  * were changed stay with the disk, and are lost with it.
  *
