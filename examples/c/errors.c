@@ -633,6 +633,143 @@ static void disks_handed_on(void) {
   IS(vscsi_disk_destroy(&third), VSCSI_DONE);
 }
 
+// A backed disk alone: made, but with too few pages, and its blocks aren't in memory.
+static void backed_alone(void) {
+  struct vscsi_disk disk = {0};
+  uint8_t bytes[512] = {5};
+  uint64_t blocks = 5;
+  IS(vscsi_disk_create_backed(0, 0, 0), VSCSI_NULL);
+  IS(vscsi_disk_create_backed(&disk, 0, 0), VSCSI_BAD_CAPACITY);
+  IS(vscsi_disk_create_backed(&disk, VSCSI_MOST_BLOCKS + 1, VSCSI_LEAST_PAGES), VSCSI_BAD_CAPACITY);
+  IS(vscsi_disk_create_backed(&disk, 1, VSCSI_LEAST_PAGES - 1), VSCSI_BAD_LENGTH);
+  IS(vscsi_disk_blocks(&disk, &blocks), VSCSI_NO_DISK);
+  IS(vscsi_disk_create_backed(&disk, VSCSI_MOST_BLOCKS, SIZE_MAX), VSCSI_DONE);
+  IS(vscsi_disk_create_backed(&disk, 0, 0), VSCSI_IN_USE);
+  IS(vscsi_disk_create(&disk, 0), VSCSI_IN_USE);
+  IS(vscsi_disk_blocks(&disk, &blocks), VSCSI_DONE);
+  IS(blocks, (long long)VSCSI_MOST_BLOCKS);
+  IS(vscsi_disk_load(&disk, 0, 1, bytes, 511), VSCSI_BAD_LENGTH);
+  IS(vscsi_disk_load(&disk, VSCSI_MOST_BLOCKS, 1, bytes, 512), VSCSI_OUTSIDE);
+  IS(vscsi_disk_load(&disk, 0, 1, bytes, 512), VSCSI_NO_MEMORY);
+  IS(vscsi_disk_save(&disk, 0, 1, bytes, 512), VSCSI_NO_MEMORY);
+  IS(vscsi_disk_save(&disk, 0, 0, 0, 0), VSCSI_DONE);
+  IS(bytes[0], 5);
+  IS(vscsi_disk_destroy(&disk), VSCSI_DONE);
+  IS(vscsi_disk_destroy(&disk), VSCSI_NO_DISK);
+}
+
+// The calls by which a host has a disk's storage, where there is no device.
+static void no_storage(void) {
+  struct vscsi_live device = {0};
+  uint8_t bytes[VSCSI_PAGE] = {5};
+  uint64_t n = 5;
+  bool found = true;
+  IS(vscsi_live_wanted(0, 0, 0, &n, &found), VSCSI_NULL);
+  IS(vscsi_live_wanted(&device, 0, 0, 0, &found), VSCSI_NULL);
+  IS(vscsi_live_wanted(&device, 0, 0, &n, 0), VSCSI_NULL);
+  IS(vscsi_live_wanted(&device, 0, 0, &n, &found), VSCSI_NO_DEVICE);
+  IS(vscsi_live_load(0, 0, 0, 0, bytes), VSCSI_NULL);
+  IS(vscsi_live_load(&device, 0, 0, 0, 0), VSCSI_NULL);
+  IS(vscsi_live_load(&device, 0, 0, 0, bytes), VSCSI_NO_DEVICE);
+  IS(vscsi_live_load_failed(0, 0, 0, 0), VSCSI_NULL);
+  IS(vscsi_live_load_failed(&device, 0, 0, 0), VSCSI_NO_DEVICE);
+  IS(vscsi_live_give(0, 0, 0, &n, bytes, &found), VSCSI_NULL);
+  IS(vscsi_live_give(&device, 0, 0, 0, bytes, &found), VSCSI_NULL);
+  IS(vscsi_live_give(&device, 0, 0, &n, 0, &found), VSCSI_NULL);
+  IS(vscsi_live_give(&device, 0, 0, &n, bytes, 0), VSCSI_NULL);
+  IS(vscsi_live_give(&device, 0, 0, &n, bytes, &found), VSCSI_NO_DEVICE);
+  IS(vscsi_live_written(0, 0, 0, 0, true), VSCSI_NULL);
+  IS(vscsi_live_written(&device, 0, 0, 0, true), VSCSI_NO_DEVICE);
+  IS(vscsi_live_wake(0, &n), VSCSI_NULL);
+  IS(vscsi_live_wake(&device, 0), VSCSI_NO_DEVICE);
+  IS(vscsi_live_wake(&device, &n), VSCSI_NO_DEVICE);
+  IS(n, 5);
+  IS(bytes[0], 5);
+  IS(found, true);
+}
+
+// That no unit of this device has these pages: none is told, none is given, and what the host says of one changes nothing.
+static void no_page(int line, struct vscsi_live *device, uint8_t target) {
+  uint8_t bytes[VSCSI_PAGE] = {5};
+  uint64_t n = 5;
+  bool found = true;
+  check(line, vscsi_live_wanted(device, target, 0, &n, &found), VSCSI_DONE);
+  check(line, found, false);
+  found = true;
+  check(line, vscsi_live_give(device, target, 0, &n, bytes, &found), VSCSI_DONE);
+  check(line, found, false);
+  check(line, (long long)n, 5);
+  check(line, bytes[0], 5);
+  for (uint64_t page = 0; page < UINT64_MAX / 2; page = 2 * page + 1) {
+    check(line, vscsi_live_load(device, target, 0, page, bytes), VSCSI_DONE);
+    check(line, vscsi_live_load_failed(device, target, 0, page), VSCSI_DONE);
+    check(line, vscsi_live_written(device, target, 0, page, true), VSCSI_DONE);
+    check(line, vscsi_live_written(device, target, 0, page, false), VSCSI_DONE);
+  }
+  check(line, vscsi_live_wake(device, &n), VSCSI_DONE);
+  check(line, (long long)n, 0);
+}
+
+// That these calls know the device's units.
+static void storage(struct vscsi_live *device) {
+  uint8_t bytes[VSCSI_PAGE] = {5};
+  uint64_t n = 5;
+  bool found = true;
+  IS(vscsi_live_wanted(device, 4, 1, &n, &found), VSCSI_NO_UNIT);
+  IS(vscsi_live_load(device, 4, 1, 0, bytes), VSCSI_NO_UNIT);
+  IS(vscsi_live_load_failed(device, 4, 1, 0), VSCSI_NO_UNIT);
+  IS(vscsi_live_give(device, 4, 1, &n, bytes, &found), VSCSI_NO_UNIT);
+  IS(vscsi_live_written(device, 4, 1, 0, true), VSCSI_NO_UNIT);
+  IS(n, 5);
+  IS(bytes[0], 5);
+  IS(found, true);
+  no_page(__LINE__, device, 0);
+  no_page(__LINE__, device, 4);
+}
+
+// Which devices take a backed disk, here that of the second unit: those on live memory whose unit is wide.
+static void backed_refused(void) {
+  struct vscsi_live device = {0};
+  struct vscsi copies = {0};
+  struct vscsi_disk disks[2] = {{0}, {0}};
+  struct vscsi_ring rings[QUEUES] = {0};
+  struct vscsi_fault fault = {77, 77, 77};
+  uint64_t blocks;
+  begin();
+  struct vscsi_live_config live = live_config_of(units, 2, rings, 0);
+  IS(vscsi_disk_create(&disks[0], 1000), VSCSI_DONE);
+  IS(vscsi_disk_create_backed(&disks[1], 1, VSCSI_LEAST_PAGES), VSCSI_DONE);
+  for (int round = 0; round < 2; round++) {
+    const uint8_t *profile = round ? wide : NULL;
+    config.profiles = profile;
+    fault = (struct vscsi_fault){77, 77, 77};
+    IS(vscsi_create_with(&copies, &config, disks, &fault), VSCSI_BAD_CONFIG);
+    IS(fault.cause, VSCSI_CAUSE_UNIT_DISK);
+    IS(fault.place, 1);
+    IS(fault.detail, 0);
+    IS(vscsi_create_with(&copies, &config, disks, 0), VSCSI_BAD_CONFIG);
+    IS(vscsi_disk_blocks(&disks[1], &blocks), VSCSI_DONE);
+  }
+  fault = (struct vscsi_fault){77, 77, 77};
+  IS(vscsi_live_create(&device, &live, disks, &fault), VSCSI_BAD_CONFIG);
+  IS(fault.cause, VSCSI_CAUSE_UNIT_DISK);
+  IS(fault.place, 1);
+  IS(fault.detail, 0);
+  live.profiles = wide, units[1].blocks = 2;
+  fault = (struct vscsi_fault){77, 77, 77};
+  IS(vscsi_live_create(&device, &live, disks, &fault), VSCSI_BAD_CONFIG);
+  IS(fault.cause, VSCSI_CAUSE_UNIT_DISK);
+  IS(fault.place, 1);
+  units[1].blocks = 1;
+  IS(vscsi_live_create(&device, &live, disks, &fault), VSCSI_DONE);
+  IS(vscsi_live_create(&device, &live, disks, &fault), VSCSI_IN_USE);
+  IS(vscsi_disk_blocks(&disks[1], &blocks), VSCSI_NO_DISK);
+  storage(&device);
+  IS(vscsi_live_close(&device, disks, 2), VSCSI_DONE);
+  IS(vscsi_disk_destroy(&disks[0]), VSCSI_DONE);
+  IS(vscsi_disk_destroy(&disks[1]), VSCSI_DONE);
+}
+
 // Each number has a text, a different one where it means something.
 static void texts(void) {
   for (uint32_t i = 0; i < 20; i++) {
@@ -676,6 +813,9 @@ int main(void) {
   portions();
   disk_alone();
   disks_handed_on();
+  backed_alone();
+  no_storage();
+  backed_refused();
   texts();
   for (int round = 0; round < 2; round++) {
     begin();

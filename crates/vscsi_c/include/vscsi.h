@@ -562,6 +562,8 @@ enum vscsi_answer vscsi_live_destroy(struct vscsi_live *device);
  *
  * What the host owes, and nothing checks: what it hands in by vscsi_live_load is what its storage had of the page when the disk
  * was made, or what it last said by vscsi_live_written that it kept. All that is promised of the unit's blocks rests on that.
+ * Before vscsi_live_resize of such a unit it waits for its reads and writes to end, and behind it cuts its storage off at the lesser
+ * capacity: where the disk grows again, what it reads there is zeros.
  *
  * The host's loop, behind each kick and each read or write of its own that is over:
  * 1. vscsi_live_load, vscsi_live_load_failed or vscsi_live_written for what is over; if there was any, vscsi_live_wake.
@@ -570,6 +572,8 @@ enum vscsi_answer vscsi_live_destroy(struct vscsi_live *device);
  *    begin these reads.
  * 4. If commands wait, vscsi_live_wake and vscsi_live_serve once more; and again from 2 where fewer wait than before. A command
  *    may wait for room that another had, and then no page that comes wakes it.
+ * 5. If commands wait, and the host reads and writes nothing, malloc refused what they need, and no call may have answered so. After
+ *    some time again from 4.
  * Before it closes a device the host waits for its reads and writes to end, and writes what vscsi_live_give still finds: pages that
  * were changed stay with the disk, and are lost with it.
  *
