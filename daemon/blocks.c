@@ -260,7 +260,7 @@ static RARE void tell(struct disk *disk) {
   if (disk->error && is_due) {
     log_say(LOG_ERROR, disk, "can't be written, and is tried again: %s", strerror(disk->error));
     disk->told = now;
-  } else if (disk->told && !disk->backlog.count) {
+  } else if (disk->told && !disk->error && !disk->backlog.count) {
     log_say(LOG_ERROR, disk, "can be written again");
     disk->told = 0;
   }

@@ -3,6 +3,7 @@
 #include <errno.h>
 #include <fcntl.h>
 #include <linux/fs.h>
+#include <poll.h>
 #include <stdio.h>
 #include <string.h>
 #include <sys/file.h>
@@ -51,6 +52,18 @@ static bool lock(const struct disk *disk, char *why, size_t room) {
   return true;
 }
 
+// Locks an image as the daemon begins. What the system reads and writes for a daemon that was killed keeps a file locked a moment longer, so
+// that of a backed disk is tried for a second.
+static bool lock_first(const struct disk *disk, char *why, size_t room) {
+  enum { TRIES = 20, PAUSE = 50 };
+  bool locked = lock(disk, why, room);
+  for (unsigned tries = 0; !locked && disk->is_backed && tries < TRIES; tries++) {
+    poll(NULL, 0, PAUSE);
+    locked = lock(disk, why, room);
+  }
+  return locked;
+}
+
 static void unlock(const struct disk *disk) {
   struct flock lock = {.l_type = F_UNLCK, .l_whence = SEEK_SET, .l_start = USED, .l_len = UNSHARED + PERMISSIONS - USED};
   fcntl(disk->file, F_OFD_SETLK, &lock);
@@ -95,7 +108,7 @@ static bool open_image(struct disk *disk, bool is_locked_now, char *why, size_t 
   disk->file = open(disk->path, (disk->read_only ? O_RDONLY : O_RDWR) | O_NONBLOCK | O_NOCTTY | O_CLOEXEC);
   if (disk->file < 0 && errno == ENOENT && disk->blocks && !disk->read_only) return true;
   if (disk->file < 0) return refuse(disk, NULL, why, room);
-  return measure(disk, why, room) && (!is_locked_now || lock(disk, why, room)) && fits(disk, why, room) && make_direct(disk, why, room);
+  return measure(disk, why, room) && (!is_locked_now || lock_first(disk, why, room)) && fits(disk, why, room) && make_direct(disk, why, room);
 }
 
 bool images_open(struct disks *disks, char *why, size_t room) {

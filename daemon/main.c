@@ -135,13 +135,14 @@ static int write_rest(struct daemon *daemon) {
   bool has_device = daemon->connected && daemon->session.backend.device.live;
   if (has_device || !blocks_are_left(disks)) return -1;
   enum kept kept = blocks_keep(&none, disks, false);
+  bool is_left = paging_write_rest(disks);
   blocks_tell(disks);
   if (kept == KEEPING) return 0;
   if (kept == STUCK) {
     int64_t left = (int64_t)blocks_due(disks) - now();
     return left > 0 ? (int)left : 1;
   }
-  if (paging_write_rest(disks)) return blocks_tell(disks), -1;
+  if (is_left) return -1;
   if (daemon->connected) session_release(&daemon->session);
   else images_release(disks);
   return -1;
