@@ -83,11 +83,11 @@ class Room:
                 run.stderr.close()
 
 
-def wait_for(is_so, what, seconds=10):
+def wait_for(is_so, what, seconds=10, pause=0.02):
     end = time.monotonic() + seconds
     while not is_so():
         assert time.monotonic() < end, f"waited for {what}"
-        time.sleep(0.02)
+        time.sleep(pause)
 
 
 def listens(path):
@@ -1053,7 +1053,7 @@ def run_cached(front, requests):
             front.read(8 * page, 4096)
         else:
             front.flush()
-    wait_for(lambda: front.answered() == front.count & 0xFFFF, "requests of a disk with a cache")
+    wait_for(lambda: front.answered() == front.count & 0xFFFF, "requests of a disk with a cache", pause=0.0005)
     assert not any(front.status(number) for number in numbers), [front.status(number) for number in numbers]
     return numbers
 
@@ -1062,14 +1062,11 @@ def test_cached(room):
     """A disk that is larger than its memory is read back as it was written, within all limits and within its memory."""
     if not has_ring(room):
         return NO_RING
-    choose = random.Random(5)
+    choose, image, pages = random.Random(5), room.folder / "image", {}
     for turn, more in enumerate(("", ",direct=on", ",detect-zeroes=unmap")):
-        image, pages = room.folder / f"image{turn}", {}
-        probe = image.open("wb")
-        probe.close()
-        with driven(room, "--disk", f"0:0=1G,file={image},grow{CACHED}{more}", ends=0) as (run, front, log):
-            for version in range(700):
-                batch = [("write", choose.randrange(1 << 18), version) for _ in range(16)]
+        with driven(room, "--disk", f"0:0=1G,file={image}{CACHED}{more}", ends=0) as (run, front, log):
+            for version in range(1000 * turn, 1000 * turn + 700):
+                batch = [("write", choose.randrange(1 << 15) + 65536, version) for _ in range(16)]
                 run_cached(front, batch)
                 pages.update({page: version for _, page, version in batch})
             run_cached(front, [("flush", 0, 0)])
@@ -1088,7 +1085,6 @@ def test_cached(room):
             run_cached(front, [("write", page, 9999) for page in range(16)])
         assert all(has(image, 4096 * page, stamped(page, 9999)) for page in range(16)), log.read_text()
         log.unlink()
-        image.unlink()
     return None
 
 
