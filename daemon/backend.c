@@ -207,9 +207,17 @@ static enum ran settle(struct backend *backend) {
 
 // Has the device told of what is over of reads and writes. Returns whether there was any.
 static bool take_pages(struct backend *backend) {
-  bool came = backend->pages && paging_take(backend->disks, &backend->device);
+  if (!backend->pages) return false;
+  bool came = paging_take(backend->disks, &backend->device) || backend->came;
   if (came) device_wake(&backend->device);
+  backend->came = false;
   return came;
+}
+
+void backend_settle(struct backend *backend) {
+  if (!backend->pages) return;
+  paging_settle(backend->disks, &backend->device);
+  backend->came = true;
 }
 
 // Has pages read and written, and commands that wait go on as far as that helps. While reads are under way that isn't known: they are tried

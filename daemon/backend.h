@@ -56,6 +56,7 @@ struct backend {
   bool keeps;   // disks are kept on files, for which answers wait
   bool pages;   // disks are backed: pages of them come and go
   bool waits;   // commands may wait for pages, for room, or for what was written before them
+  bool came;    // the device was told something of its pages outside of a round
   bool mapped;  // the device has the guest's memory as it is
   bool logs;    // each page that is written is marked in the log
   bool left;    // something was left of the queues
@@ -117,6 +118,9 @@ void backend_count(const struct backend *backend, size_t disk, struct vscsi_coun
 // Returns whether a driver made something available on one of these queues, which have no device yet. Drivers that weren't asked to
 // notify since their queues began are asked first.
 bool backend_has(struct backend *backend, uint32_t queues);
+
+// Waits until nothing of backed disks is under way, for another size of one of them. What waits goes on in the next call.
+void backend_settle(struct backend *backend);
 
 // Returns whether what a backend waits for may come by paging_wait.
 bool backend_waits(const struct backend *backend);

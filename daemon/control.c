@@ -13,6 +13,7 @@
 #include "names.h"
 #include "options.h"
 #include "paging.h"
+#include "storage.h"
 
 #ifdef DAEMON_CONTROL
 #include <jansson.h>
@@ -117,10 +118,12 @@ static json_t *resize(const struct controlled *controlled, json_t *arguments) {
   bool is_kept = disk->file >= 0 && !disk->read_only, shrinks = blocks < disk->blocks;
   if (controlled->disks->moves && !controlled->disks->held) return error("NoDevice", "another daemon may have the file");
   if (!backend && !is_kept) return error("NoDevice", "what isn't kept on a file has another size only while a guest uses it");
+  if (disk->is_direct && bytes % PAGE_BYTES) return error("BadSize", "with direct=on a size is a multiple of 4096 bytes");
   bool lacks = disk->backlog.count || (!backend && paging_is_left(disk));
   if (must_wait(controlled) || lacks) return error("Busy", "what the guest wrote isn't on the file yet");
   // No write of what the disk loses comes behind it, and no read of that is handed in.
-  if (backend && disk->is_backed) paging_settle(controlled->disks, &backend->device);
+  if (backend && disk->is_backed) backend_settle(backend);
+  if (backend) controlled->session->more = true;
   // A file is longer before the disk is, and shorter behind it.
   if (!shrinks && !image_resize(disk, blocks, why, sizeof why)) return error("File", why);
   if (backend && !device_resize(&backend->device, disk->target, disk->lun, blocks)) {
@@ -129,7 +132,6 @@ static json_t *resize(const struct controlled *controlled, json_t *arguments) {
   }
   disk->blocks = blocks;
   if (!backend) store_drop(&controlled->disks->stores[which]);
-  else controlled->session->more = true;
   return shrinks && !image_resize(disk, blocks, why, sizeof why) ? error("File", why) : done();
 }
 
