@@ -63,6 +63,7 @@ struct disks {
   bool moves;  // images are locked and loaded only while a queue is started, since the guest may move to another host
   bool held;   // they are
   struct storage *storage;  // of backed disks, or NULL
+  size_t turn;              // which disk has its reads and writes begun first
   struct device rest;       // the daemon's own, which gives what front ends left of these disks in memory
   size_t rest_disks[DEVICE_MOST_UNITS], rest_count;
 };

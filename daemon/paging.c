@@ -316,7 +316,10 @@ static bool is_put_off(const struct disk *disk) {
 
 void paging_give(struct disks *disks, struct device *device, enum wait waits) {
   bool passes = false;
-  for (size_t i = 0; i < disks->count; i++) {
+  // Each is the first one some time: the last ones may find no transfer left.
+  disks->turn = (disks->turn + 1) % disks->count;
+  for (size_t n = 0; n < disks->count; n++) {
+    size_t i = (disks->turn + n) % disks->count;
     struct paging *paging = disks->disks[i].paging;
     if (!paging) continue;
     paging->starves = false;

@@ -1200,6 +1200,29 @@ def test_cached_migratable(room):
     return None
 
 
+def test_cached_device(room):
+    """A block device has what a guest flushed, zeros that are to become holes too."""
+    if not has_ring(room):
+        return NO_RING
+    disk = room.file("disk.img", 64 * MIB)
+    made = subprocess.run(["losetup", "--find", "--show", disk], capture_output=True, text=True) if shutil.which("losetup") else None
+    if made is None or made.returncode:
+        return "no loop device can be had"
+    device = Path(made.stdout.strip())
+    try:
+        for version, more in enumerate(("", ",direct=on", ",detect-zeroes=unmap"), 1):
+            with driven(room, "--disk", f"0:0=file={device}{CACHED}{more}", ends=0) as (_, front, _):
+                run_cached(front, [("write", page, version) for page in range(16)])
+                front.write(8 * 3, bytes(4096))
+                run_cached(front, [("flush", 0, 0), ("read", 16383, 0)])
+                assert front.data(front.count - 1, 4096) == b"\x5a" * 4096
+            for page in range(16):
+                assert has(device, 4096 * page, bytes(4096) if page == 3 else stamped(page, version)), (page, version)
+    finally:
+        subprocess.run(["losetup", "--detach", device], check=True)
+    return None
+
+
 def test_cached_control(room):
     """A disk with a cache gets another size while a guest writes it, and tells of its pages. It has to be there from the start."""
     if not room.client or not has_ring(room):
