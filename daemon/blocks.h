@@ -9,7 +9,8 @@
 #include "disks.h"
 #include "library.h"
 
-// Makes the blocks of each disk that has none in memory, from its file; of a backed disk none of them. Returns false, and says why, where it couldn't.
+// Makes the blocks of each disk that has none in memory, from its file; of a backed disk none of them. Returns false, and says why, where it
+// couldn't.
 bool blocks_load(struct disks *disks, char *why, size_t room);
 
 // Returns whether a disk in memory was lost for want of memory, so that it can't be made by a later call either.

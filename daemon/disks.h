@@ -69,8 +69,8 @@ struct disks {
 };
 
 // Adds the disk of words T:L=SIZE[,file=PATH][,grow][,snapshot][,detect-zeroes=unmap][,write-cache=on|off][,cache-size=SIZE][,direct=on|off]
-// [,profile=narrow|wide][,NAMES] or T:L=file=PATH[,..], in its place of the order. A comma of the path stands there twice. Opens nothing: images_open does that. Returns false, and says
-// why, where the words name no disk.
+// [,profile=narrow|wide][,NAMES] or T:L=file=PATH[,..], in its place of the order. A comma of the path stands there twice. Opens nothing:
+// images_open does that. Returns false, and says why, where the words name no disk.
 bool disks_add(struct disks *disks, const char *words, char *why, size_t room);
 
 // Takes a size in bytes, with K, M, G or T behind it or none: whole blocks. `at` stands behind it then.

@@ -3,6 +3,7 @@
 #include <errno.h>
 #include <fcntl.h>
 #include <stdio.h>
+#include <stdlib.h>
 #include <string.h>
 #include <sys/stat.h>
 #include <unistd.h>
@@ -374,5 +375,79 @@ void test_backed_beside(void) {
     work_beside(&front, 4);
     load_end(&front, &disks);
     go_beside_memory(number);
+  }
+}
+
+// Pages that are written and read among faults, more than there is memory for; the version of each that was written last, and rounds.
+enum { USED_PAGES = 12000, ROUNDS = 60, AGAIN = 6 };
+static unsigned versions[USED_PAGES];
+
+static bool is_last(const uint8_t *at, unsigned which) {
+  static const uint8_t zeros[BUFFER];
+  return versions[which] ? is_filled(at, page_at(which), versions[which]) : !memcmp(at, zeros, BUFFER);
+}
+
+static void set_faults(void) {
+  unsigned which = (unsigned)rand() % 8;
+  faults.write_error = which == 1 || which == 2 ? EIO : 0;
+  faults.writes = (unsigned)rand() % 20;
+  faults.sync_error = which == 2 || which == 3 ? EIO : 0;
+  faults.bad_syncs = 1 + (unsigned)rand() % 2;
+  faults.read_error = which == 4 ? EIO : 0;
+  faults.held = which == 5;
+}
+
+// Has pages that follow one another in this order written or read at once, and the disk flushed or not, while faults come and go.
+static void do_anything(struct front *front, unsigned version) {
+  unsigned first = (unsigned)rand() % USED_PAGES, count = 1 + (unsigned)rand() % AT_ONCE, writes = 0;
+  bool written[AT_ONCE], flushes = rand() % 3 == 0;
+  for (unsigned i = 0; i < count; i++) {
+    unsigned which = (first + i) % USED_PAGES;
+    written[i] = rand() % 4;
+    writes += written[i];
+    if (written[i]) put_page(front, Q, i, page_at(which), versions[which] = version);
+    else put_read_of(front, 0, Q, i, page_at(which) * 8);
+  }
+  set_faults();
+  driver_kick(front, Q);
+  go_on(front, (unsigned)rand() % 30);
+  faults_clear();
+  MUST(await(front, Q, count, PATIENCE) == count);
+  for (unsigned i = 0; i < count; i++) MUST(is_good(front, i) && (written[i] || is_last(buffer_of(front, i), (first + i) % USED_PAGES)));
+  if (!flushes) return;
+  set_faults();
+  put_sync(front, 3, MANY);
+  go_on(front, (unsigned)rand() % 30);
+  faults_clear();
+  MUST(await(front, 3, 1, PATIENCE) == 1 && is_good(front, MANY));
+  int file = open(paths[0], O_RDONLY | O_CLOEXEC);
+  for (unsigned i = 0; i < 4 * AT_ONCE; i++) {
+    unsigned which = i < count ? (first + i) % USED_PAGES : (unsigned)rand() % USED_PAGES;
+    uint8_t found[BUFFER];
+    MUST(pread(file, found, BUFFER, (off_t)page_at(which) * BUFFER) == BUFFER && is_last(found, which));
+  }
+  close(file);
+}
+
+void test_backed_anything(void) {
+  if (is_left_out()) return;
+  srand(11);
+  for (unsigned number = 0; number < WAYS; number += 3) {
+    struct disks disks;
+    struct front front;
+    load_make(&disks, "128M", number % 2 ? ",write-cache=on,cache-size=33M,detect-zeroes=unmap" : cached);
+    memset(versions, 0, sizeof versions);
+    load_begin(&front, &disks, number);
+    for (unsigned round = 1; round <= ROUNDS; round++) {
+      do_anything(&front, round);
+      if (rand() % AGAIN) continue;
+      set_faults();
+      faults.held = false;
+      front_end(&front);
+      faults_clear();
+      load_begin(&front, &disks, number);
+    }
+    MUST(sync_disk(&front));
+    load_end(&front, &disks);
   }
 }

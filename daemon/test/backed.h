@@ -24,6 +24,9 @@ void test_backed_stops(void);
 // A page that is written while it is being read.
 void test_backed_stale(void);
 
+// Anything, among any of these faults: each READ finds what was written last, and the file what was flushed.
+void test_backed_anything(void);
+
 // A backed disk beside one in memory, and beside one whose answers wait for its file.
 void test_backed_beside(void);
 
