@@ -5,6 +5,7 @@
 
 #include "clock.h"
 #include "images.h"
+#include "paging.h"
 #include "rings.h"
 
 // The most steps of one call of the library's, where answers wait and where they don't: the ranges of so few are never more
@@ -93,10 +94,13 @@ static bool make(struct backend *backend, char *why, size_t room) {
                                            .identities = identities};
   memset(backend->noted, 0, sizeof backend->noted);
   memset(backend->idle, 0, sizeof backend->idle);
+  paging_end_rest(backend->disks);
   // Another daemon may have the files still, or memory is refused, or the system can't read one now.
   bool has_blocks = images_hold(backend->disks, why, room) && blocks_load(backend->disks, why, room);
   backend->starved = !has_blocks && !blocks_are_lost(backend->disks);
-  return has_blocks && device_create(&backend->device, config, rings, backend->disks->stores, &backend->starved, why, room);
+  bool is_made = has_blocks && device_create(&backend->device, config, rings, backend->disks->stores, &backend->starved, why, room);
+  if (is_made) paging_begin(backend->disks);
+  return is_made;
 }
 
 enum served backend_begin(struct backend *backend, char *why, size_t room) {
@@ -201,6 +205,52 @@ static enum ran settle(struct backend *backend) {
   return run(backend, NO_QUEUES, UINT64_MAX);
 }
 
+// Has the device told of what is over of reads and writes. Returns whether there was any.
+static bool take_pages(struct backend *backend) {
+  if (!backend->pages) return false;
+  bool came = paging_take(backend->disks, &backend->device) || backend->came;
+  if (came) device_wake(&backend->device);
+  backend->came = false;
+  return came;
+}
+
+void backend_settle(struct backend *backend) {
+  if (!backend->pages) return;
+  paging_settle(backend->disks, &backend->device);
+  backend->came = true;
+}
+
+// Has pages read and written, and commands that wait go on as far as that helps. While reads are under way that isn't known: they are tried
+// again behind each. A command may wait for room that another had, so they are tried again while fewer wait.
+static enum ran give_pages(struct backend *backend, enum ran ran) {
+  struct disks *disks = backend->disks;
+  bool took = backend->took, helps = true;
+  paging_give(disks, &backend->device, took || backend->waits ? WAITS_PERHAPS : WAITS_NOT);
+  backend->waits = true;
+  for (uint64_t before = UINT64_MAX; helps && ran == RAN && !paging_reads(disks);) {
+    uint64_t waiting = device_wake(&backend->device);
+    backend->waits = waiting;
+    if (!waiting) break;
+    helps = waiting < before;
+    before = waiting;
+    ran = run(backend, NO_QUEUES, UINT64_MAX);
+    paging_give(disks, &backend->device, WAITS_SURELY);
+  }
+  // What was tried in vain isn't the guest's work.
+  backend->took = took;
+  return ran;
+}
+
+// Has the device end what it began. Where commands wait all the same, `waits` is true.
+static enum ran settle_pages(struct backend *backend) {
+  take_pages(backend);
+  enum ran ran = settle(backend);
+  if (!backend->pages) return ran;
+  ran = give_pages(backend, ran);
+  if (ran == RAN) backend->waits = device_wake(&backend->device);
+  return ran;
+}
+
 // Learns which queues the guest broke.
 static void note_faults(struct backend *backend) {
   if (!device_is_broken(&backend->device)) return;
@@ -262,21 +312,24 @@ static enum served wait_round(struct backend *backend, uint32_t queues, uint32_t
     backend->phase = RUNNING;
     ran = run_all(backend, queues);
     backend->left = ran == RUNS;
-    if (ran != REFUSED) backend->phase = ran == RUNS ? SETTLING : WRITING;
+    if (ran != REFUSED) backend->phase = ran == RUNS || backend->pages ? SETTLING : WRITING;
   }
   if (backend->phase == SETTLING) {
-    ran = settle(backend);
-    if (ran == RAN) backend->phase = WRITING;
+    ran = settle_pages(backend);
+    if (ran == RAN && !backend->waits) backend->phase = WRITING;
   }
   *owed |= device_owed(&backend->device) & (ring_waits(backend, EVENT_QUEUE) ? 0 : EVENTS);
   if (ran == REFUSED) return put_off(backend);
   backend->pause = 0;
+  if (ran == RAN && backend->phase == SETTLING) return backend->due = clock_now() + HASTE, LATER;
   return backend->phase == WRITING ? keep(backend, false, owed) : BUSY;
 }
 
 // Serves queues whose answers are shown as the device gives them.
 static enum served serve_at_once(struct backend *backend, uint32_t queues, uint32_t *owed) {
+  bool came = take_pages(backend);
   enum ran ran = run_all(backend, queues);
+  if (backend->pages && (came || backend->took)) ran = give_pages(backend, ran);
   backend->left = ran == RUNS;
   backend->phase = ran == RAN ? IDLE : RUNNING;
   *owed |= device_owed(&backend->device);
@@ -308,7 +361,11 @@ enum served backend_serve(struct backend *backend, uint32_t queues, uint32_t *ow
   return backend->kicked & queues ? MORE : SERVED;
 }
 
-bool backend_is_busy(const struct backend *backend) { return backend->device.live && backend->phase != IDLE; }
+bool backend_is_busy(const struct backend *backend) {
+  return backend->device.live && (backend->phase != IDLE || backend->waits);
+}
+
+bool backend_waits(const struct backend *backend) { return backend->pages && backend_is_busy(backend); }
 
 void backend_count(const struct backend *backend, size_t disk, struct vscsi_counts *counts) {
   const struct disk *its = &backend->disks->disks[disk];
@@ -330,8 +387,13 @@ void backend_end(struct backend *backend) {
   backend->unasked = UINT32_MAX;
   backend->silent = 0;
   backend->phase = IDLE;
+  backend->waits = false;
   backend->pause = 0;
-  if (!device_end(&backend->device, backend->disks->stores, backend->disks->count)) backend->disks->lost = true;
+  if (backend->pages && backend->device.live) paging_end(backend->disks, &backend->device);
+  if (device_end(&backend->device, backend->disks->stores, backend->disks->count)) return;
+  backend->disks->lost = true;
+  for (size_t i = 0; i < backend->disks->count; i++)
+    if (backend->disks->disks[i].paging) paging_lose(&backend->disks->disks[i]);
 }
 
 // Waits for a time, or until backend_stop goes on to what it does next.
@@ -348,12 +410,14 @@ enum served backend_stop(struct backend *backend, uint64_t passed, uint32_t *owe
   if (backend->keeps && is_late) return backend_end(backend), SERVED;
   if (!is_late && backend->pause && clock_now() < backend->due) return wait_for(backend, passed);
   if (backend->phase != WRITING) {
-    enum ran ran = backend->mapped ? settle(backend) : REFUSED;
+    enum ran ran = backend->mapped ? settle_pages(backend) : REFUSED;
     *owed |= device_owed(&backend->device) & (!backend->keeps ? UINT32_MAX : ring_waits(backend, EVENT_QUEUE) ? 0 : EVENTS);
-    if (ran != RAN && is_late) return snprintf(why, room, "the device doesn't end what it began"), FAILED;
+    bool waits = ran == RAN && backend->waits;
+    if ((ran != RAN || waits) && is_late) return snprintf(why, room, "the device doesn't end what it began"), FAILED;
     if (ran == REFUSED) return put_off(backend), wait_for(backend, passed);
     if (ran == RUNS) return BUSY;
     backend->pause = 0;
+    if (waits) return backend->due = UINT64_MAX, wait_for(backend, passed);
     backend->phase = backend->keeps ? WRITING : IDLE;
   }
   if (!backend->keeps) return SERVED;

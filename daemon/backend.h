@@ -40,7 +40,8 @@ struct backend_queue {
 enum { FAULT_UNMAPPED = 11 };
 
 // A round of answers that wait: the device runs requests, and ends what it began; then what they changed is written to the
-// files, and all answers are shown. A backend whose answers don't wait is RUNNING while the device has begun requests.
+// files, and all answers are shown. A backend whose answers don't wait is RUNNING while the device has begun requests. Where disks are backed
+// commands may wait besides: a round ends once none does.
 enum phase { IDLE, RUNNING, SETTLING, WRITING };
 
 struct backend {
@@ -53,6 +54,9 @@ struct backend {
   unsigned made;  // how many of them the device has: none behind these is ready and whole
   bool packed, event_index, indirect, change;
   bool keeps;   // disks are kept on files, for which answers wait
+  bool pages;   // disks are backed: pages of them come and go
+  bool waits;   // commands may wait for pages, for room, or for what was written before them
+  bool came;    // the device was told something of its pages outside of a round
   bool mapped;  // the device has the guest's memory as it is
   bool logs;    // each page that is written is marked in the log
   bool left;    // something was left of the queues
@@ -114,6 +118,12 @@ void backend_count(const struct backend *backend, size_t disk, struct vscsi_coun
 // Returns whether a driver made something available on one of these queues, which have no device yet. Drivers that weren't asked to
 // notify since their queues began are asked first.
 bool backend_has(struct backend *backend, uint32_t queues);
+
+// Waits until nothing of backed disks is under way, for another size of one of them. What waits goes on in the next call.
+void backend_settle(struct backend *backend);
+
+// Returns whether what a backend waits for may come by paging_wait.
+bool backend_waits(const struct backend *backend);
 
 // Serves these queues, which are ready and whole, for some 20 milliseconds at the most. Sets the bits of those whose driver
 // wants to be notified.

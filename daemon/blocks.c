@@ -5,8 +5,10 @@
 #include <stdlib.h>
 #include <string.h>
 
+#include "caches.h"
 #include "clock.h"
 #include "log.h"
+#include "paging.h"
 #include "rare.h"
 
 // How many blocks are moved at once; the ranges that a backlog has room for at the most; and milliseconds, of blocks_keep, of
@@ -38,7 +40,9 @@ bool blocks_load(struct disks *disks, char *why, size_t room) {
     if (store_stands(store)) continue;
     bool has_file = disk->file >= 0;
     if (disks->lost && !has_file) return snprintf(why, room, "a disk in memory was lost for want of memory"), false;
-    if (store_make(store, disk->blocks) && (!has_file || load(store, disk))) continue;
+    if (disk->is_backed ? store_make_backed(store, disk->blocks, caches_pages(disk))
+                        : store_make(store, disk->blocks) && (!has_file || load(store, disk)))
+      continue;
     store_drop(store);
     return snprintf(why, room, "a disk couldn't be loaded"), false;
   }
@@ -51,7 +55,7 @@ bool blocks_are_lost(const struct disks *disks) {
   return false;
 }
 
-static bool is_kept(const struct disk *disk) { return disk->file >= 0 && !disk->read_only; }
+static bool is_kept(const struct disk *disk) { return disk->file >= 0 && !disk->read_only && !disk->is_backed; }
 
 bool blocks_are_kept(const struct disks *disks) {
   for (size_t i = 0; i < disks->count; i++)
@@ -246,7 +250,7 @@ bool blocks_are_stuck(const struct disks *disks) {
 
 bool blocks_are_left(const struct disks *disks) {
   for (size_t i = 0; i < disks->count; i++)
-    if (disks->disks[i].backlog.count) return true;
+    if (disks->disks[i].backlog.count || paging_is_left(&disks->disks[i])) return true;
   return false;
 }
 
@@ -256,7 +260,7 @@ static RARE void tell(struct disk *disk) {
   if (disk->error && is_due) {
     log_say(LOG_ERROR, disk, "can't be written, and is tried again: %s", strerror(disk->error));
     disk->told = now;
-  } else if (disk->told && !disk->backlog.count) {
+  } else if (disk->told && !disk->error && !disk->backlog.count) {
     log_say(LOG_ERROR, disk, "can be written again");
     disk->told = 0;
   }

@@ -9,13 +9,14 @@
 #include "disks.h"
 #include "library.h"
 
-// Makes the blocks of each disk that has none in memory, from its file. Returns false, and says why, where it couldn't.
+// Makes the blocks of each disk that has none in memory, from its file; of a backed disk none of them. Returns false, and says why, where it
+// couldn't.
 bool blocks_load(struct disks *disks, char *why, size_t room);
 
 // Returns whether a disk in memory was lost for want of memory, so that it can't be made by a later call either.
 bool blocks_are_lost(const struct disks *disks);
 
-// Returns whether a disk has a file that is written.
+// Returns whether a disk is in memory whole, and has a file that is written.
 bool blocks_are_kept(const struct disks *disks);
 
 // Of a disk: the place of its history up to which changes were noted, and what it had counted there.
@@ -40,7 +41,7 @@ enum kept blocks_keep(struct device *device, struct disks *disks, bool at_once);
 // Returns whether a file couldn't be written when that was last tried.
 bool blocks_are_stuck(const struct disks *disks);
 
-// Returns whether a file lacks something that was noted.
+// Returns whether a file lacks something that was noted, or may lack something of a backed disk.
 bool blocks_are_left(const struct disks *disks);
 
 // Says once a minute of each file that can't be written why, and once that it has all again.

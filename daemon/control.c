@@ -12,6 +12,8 @@
 #include "images.h"
 #include "names.h"
 #include "options.h"
+#include "paging.h"
+#include "storage.h"
 
 #ifdef DAEMON_CONTROL
 #include <jansson.h>
@@ -54,10 +56,18 @@ static struct backend *live(const struct controlled *controlled) {
   return session && session->backend.device.live ? &session->backend : NULL;
 }
 
-// Returns whether a request has to wait, since answers do.
+// Returns whether a request has to wait, since answers do, or since files lack what a front end left.
 static bool must_wait(const struct controlled *controlled) {
   const struct backend *backend = live(controlled);
-  return backend && backend->keeps && backend_is_busy(backend);
+  return backend ? backend->keeps && backend_is_busy(backend) : paging_are_left(controlled->disks);
+}
+
+// Adds what a backed disk did with its file.
+static void add_pages(json_t *told, const struct paging *paging) {
+  if (!paging) return;
+  json_object_set_new(told, "pages-read", json_integer((json_int_t)paging->pages_read));
+  json_object_set_new(told, "pages-written", json_integer((json_int_t)paging->pages_written));
+  json_object_set_new(told, "flushes", json_integer((json_int_t)paging->syncs_done));
 }
 
 static json_t *stats_of(const struct controlled *controlled, size_t which) {
@@ -67,11 +77,13 @@ static json_t *stats_of(const struct controlled *controlled, size_t which) {
   char name[20];
   if (backend) backend_count(backend, which, &counts);
   snprintf(name, sizeof name, "%u:%u", disk->target, disk->lun);
-  return json_pack("{s:s,s:I,s:o,s:s?,s:I,s:I,s:I,s:I,s:I,s:I,s:I}", "disk", name, "bytes", (json_int_t)(disk->blocks * DEVICE_BLOCK),
+  json_t *told = json_pack("{s:s,s:I,s:o,s:s?,s:I,s:I,s:I,s:I,s:I,s:I,s:I}", "disk", name, "bytes", (json_int_t)(disk->blocks * DEVICE_BLOCK),
                    "file", text_of(disk->path), "error", disk->error ? strerror(disk->error) : NULL, "requests", (json_int_t)counts.left,
                    "task-set-full", (json_int_t)counts.full, "good", (json_int_t)counts.good, "check-condition",
                    (json_int_t)counts.check_conditions, "busy", (json_int_t)counts.busy, "data-out", (json_int_t)counts.data_out,
                    "data-in", (json_int_t)counts.data_in);
+  add_pages(told, disk->paging);
+  return told;
 }
 
 static json_t *stats(const struct controlled *controlled, json_t *arguments) {
@@ -106,7 +118,12 @@ static json_t *resize(const struct controlled *controlled, json_t *arguments) {
   bool is_kept = disk->file >= 0 && !disk->read_only, shrinks = blocks < disk->blocks;
   if (controlled->disks->moves && !controlled->disks->held) return error("NoDevice", "another daemon may have the file");
   if (!backend && !is_kept) return error("NoDevice", "what isn't kept on a file has another size only while a guest uses it");
-  if (must_wait(controlled) || disk->backlog.count) return error("Busy", "what the guest wrote isn't on the file yet");
+  if (disk->is_direct && bytes % PAGE_BYTES) return error("BadSize", "with direct=on a size is a multiple of 4096 bytes");
+  bool lacks = disk->backlog.count || (!backend && paging_is_left(disk));
+  if (must_wait(controlled) || lacks) return error("Busy", "what the guest wrote isn't on the file yet");
+  // No write of what the disk loses comes behind it, and no read of that is handed in.
+  if (backend && disk->is_backed) backend_settle(backend);
+  if (backend) controlled->session->more = true;
   // A file is longer before the disk is, and shorter behind it.
   if (!shrinks && !image_resize(disk, blocks, why, sizeof why)) return error("File", why);
   if (backend && !device_resize(&backend->device, disk->target, disk->lun, blocks)) {
@@ -115,7 +132,6 @@ static json_t *resize(const struct controlled *controlled, json_t *arguments) {
   }
   disk->blocks = blocks;
   if (!backend) store_drop(&controlled->disks->stores[which]);
-  else controlled->session->more = true;
   return shrinks && !image_resize(disk, blocks, why, sizeof why) ? error("File", why) : done();
 }
 
@@ -139,12 +155,15 @@ static json_t *attach(const struct controlled *controlled, json_t *arguments, in
   if (json_unpack(arguments, "{s:s,s?s}", "disk", &words, "naa", &naa))
     return error("BadRequest", "its argument disk is T:L=SIZE[,..], and naa digits");
   if (controlled->session) return error("InUse", "a front end is there");
+  // Those that are there get other places.
+  if (!paging_end_rest(disks)) return error("NoMemory", "memory was refused");
   if (!disks_add(disks, words, why, sizeof why)) return error("BadDisk", why);
   disks_find(disks, words, &which);
   struct disk *disk = &disks->disks[which];
   bool taken = disks_are_whole(disks) || (snprintf(why, sizeof why, "its target has no LUN 0"), false);
   if (taken && disks->moves && (!disk->path || disk->read_only))
     taken = (snprintf(why, sizeof why, "--migratable: each disk has to be kept on a file"), false);
+  if (taken && disk->is_backed) taken = (snprintf(why, sizeof why, "write-cache=on: the daemon has to begin with such a disk"), false);
   if (taken && !disk->path != (*file < 0)) taken = (snprintf(why, sizeof why, "a file, and only that, comes with its descriptor"), false);
   if (taken && disk->path) {
     disk->file = *file;
@@ -162,7 +181,8 @@ static json_t *detach(const struct controlled *controlled, json_t *arguments) {
   json_t *missing = no_disk(controlled, arguments, &which);
   if (missing) return missing;
   if (controlled->session) return error("InUse", "a front end is there");
-  if (disks->disks[which].backlog.count) return error("Busy", "its file can't be written");
+  if (!paging_end_rest(disks) || disks->disks[which].backlog.count || paging_is_left(&disks->disks[which]))
+    return error("Busy", "its file can't be written");
   bool is_needed = !disks->disks[which].lun && which + 1 < disks->count && disks->disks[which + 1].target == disks->disks[which].target;
   if (is_needed || disks->count == 1) return error("BadDisk", "each target has a LUN 0, and there is a disk");
   disks_remove(disks, which);

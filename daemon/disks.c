@@ -7,8 +7,10 @@
 #include <string.h>
 #include <unistd.h>
 
+#include "caches.h"
 #include "log.h"
 #include "names.h"
+#include "paging.h"
 #include "signals.h"
 
 // Takes a number and what ends it. The number is at most `most`.
@@ -23,8 +25,7 @@ static bool number(const char **at, uint64_t most, char behind, uint64_t *found)
   return true;
 }
 
-// Takes a size in bytes, with K, M, G or T behind it or none: whole blocks.
-static bool size(const char **at, uint64_t *blocks) {
+bool disks_size(const char **at, uint64_t *blocks) {
   static const char units[] = "KMGT";
   uint64_t bytes, shift = 0;
   if (!number(at, VSCSI_MOST_BLOCKS * DEVICE_BLOCK, 0, &bytes)) return false;
@@ -71,6 +72,9 @@ static bool take_word(const char **at, struct disk *disk, char *why, size_t room
   enum named named = names_take(disk, *at, length, why, room);
   if (named == NAMED_WELL) *at += length;
   if (named != NAMED_NOT) return named == NAMED_WELL;
+  enum cached cached = caches_take(disk, *at, length, why, room);
+  if (cached == CACHED_WELL) *at += length;
+  if (cached != CACHED_NOT) return cached == CACHED_WELL;
   bool is_grow = length == 4 && !strncmp(*at, "grow", length), is_snapshot = length == 8 && !strncmp(*at, "snapshot", length);
   bool is_punching = length == sizeof punching - 1 && !strncmp(*at, punching, length);
   bool is_narrow = length == sizeof narrow - 1 && !strncmp(*at, narrow, length);
@@ -92,11 +96,13 @@ static const char no_read_only[] = "ro: no command is answered DATA PROTECT yet.
 static bool take_disk(struct disk *disk, const char *at, char *why, size_t room) {
   uint64_t target, lun;
   snprintf(why, room,
-           "%s: not T:L=SIZE[,file=PATH][,grow][,snapshot][,detect-zeroes=unmap][,profile=narrow|wide][,NAMES], or T:L=file=PATH[,..]", at);
+           "%s: not T:L=SIZE[,file=PATH][,grow][,snapshot][,detect-zeroes=unmap][,write-cache=on][,cache-size=SIZE][,direct=on]"
+           "[,profile=narrow|wide][,NAMES], or T:L=file=PATH[,..]",
+           at);
   if (!number(&at, 255, ':', &target) || !number(&at, 16383, '=', &lun)) return false;
   disk->target = (uint8_t)target;
   disk->lun = (uint16_t)lun;
-  bool has_size = *at >= '0' && *at <= '9', stands = has_size ? size(&at, &disk->blocks) : take_word(&at, disk, why, room);
+  bool has_size = *at >= '0' && *at <= '9', stands = has_size ? disks_size(&at, &disk->blocks) : take_word(&at, disk, why, room);
   while (stands && *at == ',') {
     at++;
     if (!strcmp(at, "ro") || !strncmp(at, "ro,", 3)) return snprintf(why, room, "%s", no_read_only), false;
@@ -115,7 +121,7 @@ bool disks_add(struct disks *disks, const char *words, char *why, size_t room) {
     stands = false;
     snprintf(why, room, "%s: there already, or one disk too many", words);
   }
-  stands = stands && names_suit(disks, &disk, why, room);
+  stands = stands && names_suit(disks, &disk, why, room) && caches_suit(&disk, why, room);
   if (!stands) return free(disk.path), false;
   size_t place = disks->count;
   for (const struct disk *it = disks->disks; place; place--)
@@ -145,6 +151,7 @@ bool disks_find(const struct disks *disks, const char *words, size_t *which) {
 static void close_disk(struct disks *disks, size_t which) {
   if (disks->disks[which].file >= 0) close(disks->disks[which].file);
   free(disks->disks[which].backlog.ranges);
+  free(disks->disks[which].paging);
   store_drop(&disks->stores[which]);
   free(disks->disks[which].path);
 }
@@ -158,6 +165,7 @@ void disks_remove(struct disks *disks, size_t which) {
 }
 
 void disks_close(struct disks *disks) {
+  paging_close(disks);
   for (size_t i = 0; i < disks->count; i++) close_disk(disks, i);
   disks->count = 0;
 }

@@ -40,6 +40,12 @@ struct disk {
   struct vscsi_identity names;
   bool has_new_naa; // the file that keeps its NAA wasn't there
   uint64_t length;  // of the image when it was opened, in bytes
+  bool has_cache;   // its words say whether it has a write cache
+  bool is_backed;   // it has: its blocks are on its file, and a part of them in memory (paging.h)
+  uint64_t cache_blocks;  // how many of them are in memory at most, or 0 where no word says that
+  bool has_direct;  // its words say whether its file is read and written with no cache of the system's
+  bool is_direct;   // it is
+  struct paging *paging;  // of a backed disk, or NULL
   bool dirty;       // written since disk_sync
   int error;        // the error number by which the image can't be written now, or 0
   unsigned pause;   // milliseconds between two tries then, and the time of the next one
@@ -56,12 +62,19 @@ struct disks {
   bool lost;   // a device couldn't give its disks back
   bool moves;  // images are locked and loaded only while a queue is started, since the guest may move to another host
   bool held;   // they are
+  struct storage *storage;  // of backed disks, or NULL
+  size_t turn;              // which disk has its reads and writes begun first
+  struct device rest;       // the daemon's own, which gives what front ends left of these disks in memory
+  size_t rest_disks[DEVICE_MOST_UNITS], rest_count;
 };
 
-// Adds the disk of words T:L=SIZE[,file=PATH][,grow][,snapshot][,detect-zeroes=unmap][,profile=narrow|wide][,NAMES] or T:L=file=PATH[,..],
-// in its place of the order. A comma of the path stands there twice. Opens nothing: images_open does that. Returns false, and says
-// why, where the words name no disk.
+// Adds the disk of words T:L=SIZE[,file=PATH][,grow][,snapshot][,detect-zeroes=unmap][,write-cache=on|off][,cache-size=SIZE][,direct=on|off]
+// [,profile=narrow|wide][,NAMES] or T:L=file=PATH[,..], in its place of the order. A comma of the path stands there twice. Opens nothing:
+// images_open does that. Returns false, and says why, where the words name no disk.
 bool disks_add(struct disks *disks, const char *words, char *why, size_t room);
+
+// Takes a size in bytes, with K, M, G or T behind it or none: whole blocks. `at` stands behind it then.
+bool disks_size(const char **at, uint64_t *blocks);
 
 // Finds the disk that words T:L=.. name, which disks_add took. Takes a disk out, and closes its image.
 bool disks_find(const struct disks *disks, const char *words, size_t *which);

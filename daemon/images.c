@@ -3,6 +3,7 @@
 #include <errno.h>
 #include <fcntl.h>
 #include <linux/fs.h>
+#include <poll.h>
 #include <stdio.h>
 #include <string.h>
 #include <sys/file.h>
@@ -12,6 +13,7 @@
 
 #include "blocks.h"
 #include "folders.h"
+#include "storage.h"
 
 // Where QEMU's locks are (block/file-posix.c): who uses a permission has a byte of the first run locked for reading, and who doesn't
 // share it one of the second. WRITE_UNCHANGED (2) is shared by all.
@@ -50,6 +52,18 @@ static bool lock(const struct disk *disk, char *why, size_t room) {
   return true;
 }
 
+// Locks an image as the daemon begins. What the system reads and writes for a daemon that was killed keeps a file locked a moment longer, so
+// that of a backed disk is tried for a second.
+static bool lock_first(const struct disk *disk, char *why, size_t room) {
+  enum { TRIES = 20, PAUSE = 50 };
+  bool locked = lock(disk, why, room);
+  for (unsigned tries = 0; !locked && disk->is_backed && tries < TRIES; tries++) {
+    poll(NULL, 0, PAUSE);
+    locked = lock(disk, why, room);
+  }
+  return locked;
+}
+
 static void unlock(const struct disk *disk) {
   struct flock lock = {.l_type = F_UNLCK, .l_whence = SEEK_SET, .l_start = USED, .l_len = UNSHARED + PERMISSIONS - USED};
   fcntl(disk->file, F_OFD_SETLK, &lock);
@@ -64,6 +78,14 @@ static bool measure(struct disk *disk, char *why, size_t room) {
   if (!S_ISREG(stat.st_mode)) return refuse(disk, "no file and no block device", why, room);
   disk->length = (uint64_t)stat.st_size;
   return true;
+}
+
+// Has an image read and written with no cache of the system's, where its words say so. Whole pages alone can be, then.
+static bool make_direct(const struct disk *disk, char *why, size_t room) {
+  if (!disk->is_direct || disk->file < 0) return true;
+  if (disk->blocks * DEVICE_BLOCK % PAGE_BYTES) return refuse(disk, "direct=on: the disk has no multiple of 4096 bytes", why, room);
+  if (!fcntl(disk->file, F_SETFL, O_DIRECT | fcntl(disk->file, F_GETFL))) return true;
+  return refuse(disk, errno == EINVAL ? "direct=on: its file system has no O_DIRECT" : NULL, why, room);
 }
 
 // Tests that an image is as long as its disk, or can be made so. A disk without a size gets the image's.
@@ -86,7 +108,7 @@ static bool open_image(struct disk *disk, bool is_locked_now, char *why, size_t 
   disk->file = open(disk->path, (disk->read_only ? O_RDONLY : O_RDWR) | O_NONBLOCK | O_NOCTTY | O_CLOEXEC);
   if (disk->file < 0 && errno == ENOENT && disk->blocks && !disk->read_only) return true;
   if (disk->file < 0) return refuse(disk, NULL, why, room);
-  return measure(disk, why, room) && (!is_locked_now || lock(disk, why, room)) && fits(disk, why, room);
+  return measure(disk, why, room) && (!is_locked_now || lock_first(disk, why, room)) && fits(disk, why, room) && make_direct(disk, why, room);
 }
 
 bool images_open(struct disks *disks, char *why, size_t room) {
@@ -134,6 +156,7 @@ bool image_resize(struct disk *disk, uint64_t blocks, char *why, size_t room) {
   struct stat stat;
   uint64_t bytes = blocks * DEVICE_BLOCK;
   if (disk->file < 0 || disk->read_only) return true;
+  if (disk->is_direct && bytes % PAGE_BYTES) return refuse(disk, "direct=on: no multiple of 4096 bytes", why, room);
   if (fstat(disk->file, &stat) || !measure(disk, why, room)) return refuse(disk, NULL, why, room);
   if (S_ISREG(stat.st_mode)) return (!ftruncate(disk->file, (off_t)bytes) && !fdatasync(disk->file)) || refuse(disk, NULL, why, room);
   if (bytes > disk->length) return refuse(disk, "the block device is shorter", why, room);
@@ -165,6 +188,7 @@ static bool make(struct disk *disk, bool is_locked_now, uid_t user, gid_t group,
   if (disk->file < 0) return refuse(disk, NULL, why, room);
   disk->made = true;
   if (fchown(disk->file, user, group)) return refuse(disk, NULL, why, room);
+  if (!make_direct(disk, why, room)) return false;
   if (is_locked_now && !lock(disk, why, room)) return false;
   bool stands = !ftruncate(disk->file, (off_t)(disk->blocks * DEVICE_BLOCK)) && !fsync(disk->file) && sync_folder(disk->path);
   return stands || refuse(disk, NULL, why, room);

@@ -1,8 +1,13 @@
 #include "library.h"
 
+#include <poll.h>
 #include <stdio.h>
 
 bool store_make(struct vscsi_disk *store, uint64_t blocks) { return vscsi_disk_create(store, blocks) == VSCSI_DONE; }
+
+bool store_make_backed(struct vscsi_disk *store, uint64_t blocks, size_t pages) {
+  return vscsi_disk_create_backed(store, blocks, pages) == VSCSI_DONE;
+}
 
 bool store_load(struct vscsi_disk *store, uint64_t first, uint32_t count, const void *bytes) {
   return vscsi_disk_load(store, first, count, bytes, (size_t)count * DEVICE_BLOCK) == VSCSI_DONE;
@@ -46,7 +51,12 @@ bool device_create(struct device *device, struct vscsi_live_config config, const
 }
 
 bool device_end(struct device *device, struct vscsi_disk *stores, size_t count) {
+  enum { TRIES = 100 };
   bool ended = !device->live || vscsi_live_close(&device->vscsi, stores, count) == VSCSI_DONE;
+  for (unsigned tries = 1; !ended && tries < TRIES; tries++) {
+    poll(NULL, 0, 1);
+    ended = vscsi_live_close(&device->vscsi, stores, count) == VSCSI_DONE;
+  }
   if (!ended) vscsi_live_destroy(&device->vscsi);
   device->live = false;
   return ended;
@@ -89,4 +99,27 @@ bool device_resize(struct device *device, uint8_t target, uint16_t lun, uint64_t
 
 bool device_blocks(struct device *device, uint8_t target, uint16_t lun, uint64_t first, uint32_t count, void *into) {
   return vscsi_live_blocks(&device->vscsi, target, lun, first, count, into, (size_t)count * DEVICE_BLOCK) == VSCSI_DONE;
+}
+
+bool device_wanted(struct device *device, uint8_t target, uint16_t lun, uint64_t *page) {
+  bool found = false;
+  return vscsi_live_wanted(&device->vscsi, target, lun, page, &found) == VSCSI_DONE && found;
+}
+
+bool device_load(struct device *device, uint8_t target, uint16_t lun, uint64_t page, const void *bytes) {
+  return vscsi_live_load(&device->vscsi, target, lun, page, bytes) != VSCSI_NO_MEMORY;
+}
+
+void device_load_failed(struct device *device, uint8_t target, uint16_t lun, uint64_t page) {
+  vscsi_live_load_failed(&device->vscsi, target, lun, page);
+}
+
+enum given device_give(struct device *device, uint8_t target, uint16_t lun, uint64_t *page, void *bytes) {
+  bool found = false;
+  enum vscsi_answer answer = vscsi_live_give(&device->vscsi, target, lun, page, bytes, &found);
+  return answer == VSCSI_NO_MEMORY ? GIVEN_REFUSED : answer == VSCSI_DONE && found ? GIVEN_PAGE : GIVEN_NONE;
+}
+
+bool device_written(struct device *device, uint8_t target, uint16_t lun, uint64_t page, bool kept) {
+  return vscsi_live_written(&device->vscsi, target, lun, page, kept) != VSCSI_NO_MEMORY;
 }

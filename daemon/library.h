@@ -35,6 +35,9 @@ bool store_make(struct vscsi_disk *store, uint64_t blocks);
 bool store_load(struct vscsi_disk *store, uint64_t first, uint32_t count, const void *bytes);
 bool store_save(struct vscsi_disk *store, uint64_t first, uint32_t count, void *into);
 void store_drop(struct vscsi_disk *store);
+
+// Makes a disk whose blocks are the storage's, of which at most so many pages are in memory.
+bool store_make_backed(struct vscsi_disk *store, uint64_t blocks, size_t pages);
 bool store_stands(const struct vscsi_disk *store);
 
 // Makes a device of a configuration, whose rings are these, over disks, which are the device's then. Returns false where it
@@ -42,7 +45,8 @@ bool store_stands(const struct vscsi_disk *store);
 bool device_create(struct device *device, struct vscsi_live_config config, const struct ring *rings, struct vscsi_disk *stores,
                    bool *starved, char *why, size_t room);
 
-// Ends a device, if there is one, and takes its disks back. Returns false where memory was refused: they are lost.
+// Ends a device, if there is one, and takes its disks back. Returns false where memory was refused, a hundred times in as many milliseconds:
+// they are lost.
 bool device_end(struct device *device, struct vscsi_disk *stores, size_t count);
 
 // Returns where the device stands in a queue: what it takes next, and what it gives back next.
@@ -87,6 +91,25 @@ bool device_counts(struct device *device, uint8_t target, uint16_t lun, struct v
 // Has the operator reset a unit, or give it another capacity. Returns false where memory was refused.
 bool device_reset(struct device *device, uint8_t target, uint16_t lun);
 bool device_resize(struct device *device, uint8_t target, uint16_t lun, uint64_t blocks);
+
+// Of a unit with a backed disk: finds the next page that is to be read; hands one in, of which `bytes` has 4,096, or says that it doesn't
+// come. device_load returns false where memory was refused.
+bool device_wanted(struct device *device, uint8_t target, uint16_t lun, uint64_t *page);
+bool device_load(struct device *device, uint8_t target, uint16_t lun, uint64_t page, const void *bytes);
+void device_load_failed(struct device *device, uint8_t target, uint16_t lun, uint64_t page);
+
+// Finds the next page that is to be written, and copies its bytes out, if memory isn't refused; and says whether one that was given is kept.
+// device_written returns false where memory was refused.
+enum given { GIVEN_NONE, GIVEN_PAGE, GIVEN_REFUSED };
+enum given device_give(struct device *device, uint8_t target, uint16_t lun, uint64_t *page, void *bytes);
+bool device_written(struct device *device, uint8_t target, uint16_t lun, uint64_t page, bool kept);
+
+// Has commands that wait tried again by the next device_serve. Returns how many these are.
+static inline uint64_t device_wake(struct device *device) {
+  uint64_t waiting = 0;
+  vscsi_live_wake(&device->vscsi, &waiting);
+  return waiting;
+}
 
 // Copies blocks of a unit out. `into` has room for `count` blocks.
 bool device_blocks(struct device *device, uint8_t target, uint16_t lun, uint64_t first, uint32_t count, void *into);

@@ -16,6 +16,7 @@
 #include "log.h"
 #include "names.h"
 #include "options.h"
+#include "paging.h"
 #include "sandbox.h"
 #include "session.h"
 #include "signals.h"
@@ -51,6 +52,12 @@ static int64_t now(void) {
 static bool watch(int epoll, int fd, uint32_t what) {
   struct epoll_event event = {.events = EPOLLIN, .data.u32 = what};
   return fd >= 0 && !epoll_ctl(epoll, EPOLL_CTL_ADD, fd, &event);
+}
+
+// Watches a descriptor that isn't read.
+static bool watch_edges(int epoll, int fd, uint32_t what) {
+  struct epoll_event event = {.events = EPOLLIN | EPOLLET, .data.u32 = what};
+  return !epoll_ctl(epoll, EPOLL_CTL_ADD, fd, &event);
 }
 
 static void end_session(struct daemon *daemon, const char *why) {
@@ -121,19 +128,21 @@ static void serve_client(struct daemon *daemon) {
 }
 
 // Writes what devices that ended left to the files, while there is no device, and lets go of the files then. Returns in how many
-// milliseconds it is to be called again, or -1 where nothing is left.
+// milliseconds it is to be called again, or -1 where nothing is left, or what is under way says by an event that it is over.
 static int write_rest(struct daemon *daemon) {
   struct device none = {0};
   struct disks *disks = &daemon->disks;
   bool has_device = daemon->connected && daemon->session.backend.device.live;
   if (has_device || !blocks_are_left(disks)) return -1;
   enum kept kept = blocks_keep(&none, disks, false);
+  bool is_left = paging_write_rest(disks);
   blocks_tell(disks);
   if (kept == KEEPING) return 0;
   if (kept == STUCK) {
     int64_t left = (int64_t)blocks_due(disks) - now();
     return left > 0 ? (int)left : 1;
   }
+  if (is_left) return -1;
   if (daemon->connected) session_release(&daemon->session);
   else images_release(disks);
   return -1;
@@ -195,11 +204,13 @@ static bool serve(struct daemon *daemon) {
   return true;
 }
 
-// Watches what somebody may connect to. A front end's own connection is its session's.
+// Watches what somebody may connect to, and the storage of backed disks. A front end's own connection is its session's.
 static bool watch_all(struct daemon *daemon, char *why, size_t room) {
   const struct listener *listener = &daemon->listener, *operators = &daemon->operators;
+  int storage = paging_descriptor(&daemon->disks);
   bool watched = (listener->connected || watch(daemon->epoll, listener->fd, EVENT_LISTENER)) &&
-                 (operators->fd < 0 || watch(daemon->epoll, operators->fd, EVENT_CONTROL));
+                 (operators->fd < 0 || watch(daemon->epoll, operators->fd, EVENT_CONTROL)) &&
+                 (storage < 0 || watch_edges(daemon->epoll, storage, EVENT_STORAGE));
   if (!watched) snprintf(why, room, "the socket can't be watched: %s", strerror(errno));
   return watched;
 }
@@ -215,7 +226,7 @@ static bool open_all(struct daemon *daemon, char *why, size_t room) {
   if (options->control && !listener_can_bind(options->control, why, room)) return false;
   if (!images_open(&daemon->disks, why, room) || !names_read(&daemon->disks, why, room)) return false;
   bool stands = images_make(&daemon->disks, owner.user, owner.group, why, room) &&
-                (daemon->disks.moves || blocks_load(&daemon->disks, why, room)) &&
+                paging_open(&daemon->disks, why, room) && (daemon->disks.moves || blocks_load(&daemon->disks, why, room)) &&
                 (!has_path || listener_bind(&daemon->listener, options->path, options->mode, owner.user, owner.group, why, room)) &&
                 (!options->control || listener_bind(&daemon->operators, options->control, 0600, owner.user, owner.group, why, room)) &&
                 watch_all(daemon, why, room) && (names_keep(&daemon->disks, owner.user, owner.group), true) &&
@@ -251,7 +262,7 @@ static int run(struct daemon *daemon) {
   bool served = serve(daemon);
   control_end(&daemon->control);
   if (daemon->connected) end_session(daemon, "the daemon ends");
-  if (!blocks_finish(&daemon->disks, why, sizeof why)) return refuse(why);
+  if (!blocks_finish(&daemon->disks, why, sizeof why) || !paging_finish(&daemon->disks, why, sizeof why)) return refuse(why);
   return served ? 0 : REFUSED;
 }
 

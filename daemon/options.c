@@ -12,6 +12,7 @@
 #include "backend.h"
 #include "control.h"
 #include "sandbox.h"
+#include "storage.h"
 
 #ifndef VSCSI_DAEMON_VERSION
 #define TEXT_OF(number) #number
@@ -23,7 +24,7 @@
 
 static const char usage[] =
     "vscsi-vhost-user --socket PATH|--fd N --disk T:L=SIZE[,file=PATH][,grow][,snapshot][,detect-zeroes=unmap]"
-    "[,profile=narrow|wide][,NAMES] ..\n"
+    "[,write-cache=on][,cache-size=SIZE][,direct=on][,profile=narrow|wide][,NAMES] ..\n"
     "A virtio SCSI device for a vhost-user front end.\n"
     "\n"
     "  --socket PATH        listen there (also --socket-path)\n"
@@ -35,6 +36,10 @@ static const char usage[] =
     "      grow             make a shorter file as long as SIZE\n"
     "      snapshot         never write the file; what the guest writes is lost at the end\n"
     "      detect-zeroes=unmap  zeros that the guest writes become holes of the file\n"
+    "      write-cache=on   read and write the file while the guest runs, and have a part of it in memory alone.\n"
+    "                       What the guest hasn't flushed is lost where the daemon is killed\n"
+    "      cache-size=SIZE  have at most SIZE bytes of it in memory, 33M or more; 64M is the default\n"
+    "      direct=on        read and write it with no cache of the system's (O_DIRECT)\n"
     "      profile=narrow   know the commands of the narrow profile alone, in place of profile=wide\n"
     "      serial=TEXT, naa=HEX, vendor=TEXT, product=TEXT, revision=TEXT, physical-block-exp=N, rotation-rate=N,\n"
     "      sense=fixed or sense=descriptor\n"
@@ -173,7 +178,8 @@ enum wanted options_read(struct options *options, struct disks *disks, int count
     if (word == CAPABILITIES) return print(CAPABILITIES_OF) ? WANTED_NOTHING : WANTED_WRONG;
     if (word == VERSION_WORD) {
       const char *built = sandbox_has_seccomp() ? "with seccomp" : "without seccomp";
-      return printf("vscsi-vhost-user %s\n%s\n", VSCSI_DAEMON_VERSION, built) > 0 && !fflush(stdout) ? WANTED_NOTHING : WANTED_WRONG;
+      const char *ring = storage_is_built() ? "with io_uring" : "without io_uring";
+      return printf("vscsi-vhost-user %s\n%s\n%s\n", VSCSI_DAEMON_VERSION, built, ring) > 0 && !fflush(stdout) ? WANTED_NOTHING : WANTED_WRONG;
     }
     if (word == '?' || !take(options, disks, word, optarg)) return fputs("--help says the words\n", stderr), WANTED_WRONG;
   }

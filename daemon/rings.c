@@ -283,9 +283,11 @@ void ring_ask(struct backend *backend, unsigned q, bool notify) {
   struct backend_queue *queue = &backend->queues[q];
   bool is_whole = queue->ready && !queue->fault, names = backend->event_index && !backend->packed;
   if (!is_whole) return;
-  // All that it took of a queue but the events' the device gave back.
+  // All that it took of a queue but the events' the device gave back, unless commands may wait for pages.
   bool is_told = backend->keeps || !backend->device.live;
+  bool has_more = backend->pages && backend->device.live;
   uint16_t taken = q == EVENT_QUEUE ? load(memory_at(&backend->memory, queue->ring.driver + 2, 2))
+                   : has_more       ? device_position(&backend->device, q).available
                    : is_told        ? queue->ring.first.available
                                     : load(queue->device_at + 2);
   size_t at = names ? 4 + 8 * (size_t)queue->ring.size : backend->packed ? 2 : 0;

@@ -14,6 +14,7 @@
 #include "guard.h"
 #include "images.h"
 #include "log.h"
+#include "paging.h"
 #include "rare.h"
 #include "rings.h"
 #include "space.h"
@@ -55,6 +56,7 @@ bool session_begin(struct session *session, int socket, int epoll, struct disks 
   session->window = polling.is_fixed ? polling.most : 0;
   session->backend.disks = disks;
   session->backend.keeps = blocks_are_kept(disks);
+  session->backend.pages = paging_is_there(disks);
   session->backend.count = FIXED_QUEUES + request_queues;
   reader_begin(&session->reader);
   queues_begin(session);
@@ -397,7 +399,8 @@ static RARE enum served make_device(struct session *session) {
 
 // Notes how a session that was served goes on. Returns false where it has to end.
 static inline bool note_served(struct session *session, enum served served) {
-  if (session->backend.keeps) blocks_tell(session->backend.disks);
+  if (session->backend.keeps || session->backend.pages) blocks_tell(session->backend.disks);
+  if (session->backend.pages) paging_tell(session->backend.disks);
   if (session->backend.broken) tell_broken(session);
   if (served == FAILED) return false;
   session->more = served == MORE || served == BUSY;
@@ -488,7 +491,12 @@ static void leave(struct session *session) {
   uint32_t owed = 0;
   uint64_t begun = clock_now();
   enum served served = BUSY;
-  while (served == BUSY && clock_now() - begun < LEAVING) served = backend_stop(&session->backend, 0, &owed, why, sizeof why);
+  while (served == BUSY && clock_now() - begun < LEAVING) {
+    served = backend_stop(&session->backend, 0, &owed, why, sizeof why);
+    if (served != LATER || !backend_waits(&session->backend)) continue;
+    paging_wait(session->backend.disks, (unsigned)(LEAVING / 10));
+    served = BUSY;
+  }
   notify(session, owed);
 }
 

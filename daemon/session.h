@@ -45,8 +45,9 @@ struct session {
   uint64_t waiting_since;
 };
 
-// What an epoll event of this session's is about: its socket, its timer, or a queue's kick.
-enum { EVENT_SOCKET = 1000, EVENT_TIMER = 1001 };
+// What an epoll event of this session's is about: its socket, its timer, or a queue's kick. Or that something is over of the reads and
+// writes of backed disks, whose descriptor is the daemon's.
+enum { EVENT_SOCKET = 1000, EVENT_TIMER = 1001, EVENT_STORAGE = 1002 };
 
 // Begins over a connected socket, which is the session's from then on. Returns false, without it, where epoll doesn't take it.
 bool session_begin(struct session *session, int socket, int epoll, struct disks *disks, unsigned request_queues,
@@ -61,7 +62,7 @@ bool session_read(struct session *session);
 // Returns whether the front end owes a message: it has sent none yet, or a part of one.
 bool session_is_owed(const struct session *session);
 
-// Takes a queue's kick, or the timer's.
+// Takes a queue's kick, or the timer's or the storage's event.
 void session_kicked(struct session *session, unsigned what);
 
 // Serves what the driver made available. Returns false where the connection has to end. Sets `more` where another call is

@@ -9,6 +9,8 @@
 #include <unistd.h>
 
 #include "../library.h"
+#include "../storage.h"
+#include "../uring.h"
 
 enum { MOST_WRITTEN = 4096 };
 
@@ -26,7 +28,7 @@ static unsigned written_count;
 static bool is_serving;
 
 void faults_clear(void) {
-  faults = (struct faults){.passed = faults.passed};
+  faults = (struct faults){.passed = faults.passed, .storage = faults.storage};
   written_count = 0;
 }
 
@@ -37,6 +39,20 @@ int clock_gettime(clockid_t clock, struct timespec *now) {
   return status;
 }
 
+// Notes what was written.
+static void note_written(off_t at, size_t count) {
+  if (written_count == MOST_WRITTEN) return;
+  written[written_count].at = at;
+  written[written_count++].count = count;
+}
+
+// Has a file have something else than what was written.
+static void spoil(int fd, off_t at, size_t count) {
+  static char garbage[1 << 18];
+  memset(garbage, 0xdd, sizeof garbage);
+  syscall(SYS_pwrite64, fd, garbage, count, at);
+}
+
 ssize_t pwrite(int fd, const void *bytes, size_t count, off_t at) {
   bool fails = faults.write_error && (!faults.only || faults.only == fd);
   if (fails && !faults.writes) return errno = faults.write_error, -1;
@@ -44,21 +60,16 @@ ssize_t pwrite(int fd, const void *bytes, size_t count, off_t at) {
   if (faults.slow) usleep(faults.slow);
   ssize_t here = (ssize_t)syscall(SYS_pwrite64, fd, bytes, count, at);
   if (here > 0) faults.bytes += (uint64_t)here;
-  if (here > 0 && written_count < MOST_WRITTEN) {
-    written[written_count].at = at;
-    written[written_count++].count = (size_t)here;
-  }
+  if (here > 0) note_written(at, (size_t)here);
   return here;
 }
 
 int fdatasync(int fd) {
-  static char garbage[1 << 16];
   if (!faults.sync_error || !faults.bad_syncs) {
     written_count = 0;
     return (int)syscall(SYS_fdatasync, fd);
   }
-  memset(garbage, 0xdd, sizeof garbage);
-  for (unsigned i = 0; i < written_count; i++) syscall(SYS_pwrite64, fd, garbage, written[i].count, written[i].at);
+  for (unsigned i = 0; i < written_count; i++) spoil(fd, written[i].at, written[i].count);
   written_count = 0;
   faults.bad_syncs--;
   return errno = faults.sync_error, -1;
@@ -133,4 +144,51 @@ enum vscsi_answer __wrap_vscsi_live_serve(struct vscsi_live *device, uint32_t qu
   *more = *more || faults.endless;
   if (faults.endless) usleep(100);
   return answer;
+}
+
+bool __real_uring_next(struct uring *uring, void **what, int *result);
+bool __wrap_uring_next(struct uring *uring, void **what, int *result);
+
+// READs that are over and held back, with their results.
+static struct {
+  void *what;
+  int result;
+} held[MOST_TRANSFERS];
+static unsigned held_count;
+
+// Returns the result of a transfer of pages as the fault has it.
+static int result_of(const struct transfer *transfer, int result) {
+  off_t at = (off_t)(transfer->first * PAGE_BYTES);
+  bool writes = transfer->kind == TRANSFER_WRITE || transfer->kind == TRANSFER_HOLE, is_its = !faults.only || faults.only == transfer->file;
+  if (transfer->kind == TRANSFER_READ && faults.read_error && is_its) return -faults.read_error;
+  if (writes && faults.write_error && is_its && !faults.writes--) {
+    faults.writes = 0;
+    spoil(transfer->file, at, (size_t)transfer->bytes);
+    return -faults.write_error;
+  }
+  if (writes && result > 0) faults.bytes += (uint64_t)result, note_written(at, (size_t)result);
+  if (transfer->kind != TRANSFER_SYNC) return result;
+  bool fails = faults.sync_error && faults.bad_syncs;
+  for (unsigned i = 0; fails && i < written_count; i++) spoil(transfer->file, written[i].at, written[i].count);
+  written_count = 0;
+  faults.bad_syncs -= fails;
+  faults.syncs++;
+  return fails ? -faults.sync_error : result;
+}
+
+bool __wrap_uring_next(struct uring *uring, void **what, int *result) {
+  if (!faults.held && held_count) {
+    *what = held[--held_count].what;
+    *result = held[held_count].result;
+    return true;
+  }
+  while (__real_uring_next(uring, what, result)) {
+    if (*what == faults.storage) return true;
+    const struct transfer *transfer = *what;
+    *result = result_of(transfer, *result);
+    if (!faults.held || transfer->kind != TRANSFER_READ) return true;
+    held[held_count].what = *what;
+    held[held_count++].result = *result;
+  }
+  return false;
 }

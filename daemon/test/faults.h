@@ -1,5 +1,5 @@
 // Files that can't be written, memory that is refused, and time that passes: the tests' own pwrite, fdatasync, clock_gettime,
-// vscsi_live_serve, vscsi_live_create and vscsi_disk_load, which fail where they are told to. And what serving costs. Calls of the
+// vscsi_live_serve, vscsi_live_create, vscsi_disk_load and uring_next, which fail where they are told to. And what serving costs. Calls of the
 // library's, of malloc and the like and of snprintf come here by the linker's word --wrap.
 #ifndef DAEMON_TEST_FAULTS_H
 #define DAEMON_TEST_FAULTS_H
@@ -10,7 +10,10 @@
 
 struct faults {
   int only;             // the descriptor whose writes fail, or 0 where all do
-  int write_error;      // by which pwrite fails, or 0
+  const void *storage;  // of backed disks: of it no transfer is over where the time of storage_pass is
+  int read_error;       // by which READs of pages fail, or 0
+  bool held;            // no READ of a page is over
+  int write_error;      // by which pwrite, or a WRITE of pages, fails, or 0; such pages are garbage then
   unsigned writes;      // that go well before that
   int sync_error;       // by which fdatasync fails, or 0; then what was written since it last went well is garbage
   unsigned bad_syncs;   // how many fail
@@ -22,7 +25,8 @@ struct faults {
   void (*comes)(void);  // what the guest does before one of its calls, or NULL, and how many calls there are before that
   unsigned comes_after;
   unsigned slow;        // microseconds that pwrite takes
-  uint64_t bytes;       // that pwrite wrote
+  uint64_t bytes;       // that pwrite wrote, or WRITEs of pages
+  unsigned syncs;       // of backed disks that were done
   unsigned passed;      // seconds that passed besides, which faults_clear leaves alone
 };
 

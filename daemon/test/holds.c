@@ -16,7 +16,7 @@ static const uint8_t compare_16[16] = {0x89, 0, 0, 0, 0, 0, 0, 0, 0, 9, 0, 0, 0,
 
 // Begins with two disks, of which 0:0 can't be written.
 static void begin(struct front *front, struct disks *disks, unsigned number) {
-  load_make_two(disks, "64G");
+  load_make_two(disks, "64G", "", "");
   load_begin(front, disks, number);
   faults.only = disks->disks[0].file;
   faults.write_error = ENOSPC;

@@ -9,6 +9,7 @@
 #include "../bytes.h"
 #include "../clock.h"
 #include "../images.h"
+#include "../paging.h"
 #include "faults.h"
 
 // Where requests and their data lie in the guest's memory, and how large rings are.
@@ -22,21 +23,25 @@ static void make_file(char *path, size_t room) {
   close(mkstemp(path));
 }
 
-static void make(struct disks *disks, unsigned count, const char *size, const char *more) {
+static void make(struct disks *disks, unsigned count, const char *size, const char *const *more) {
   char words[120], why[200];
   memset(disks, 0, sizeof *disks);
   for (unsigned lun = 0; lun < count; lun++) {
     make_file(paths[lun], sizeof paths[lun]);
-    snprintf(words, sizeof words, "0:%u=%s,file=%s,grow%s", lun, size, paths[lun], more);
+    snprintf(words, sizeof words, "0:%u=%s,file=%s,grow%s", lun, size, paths[lun], more[lun]);
     MUST(disks_add(disks, words, why, sizeof why));
   }
   MUST(images_open(disks, why, sizeof why) && images_make(disks, (uid_t)-1, (gid_t)-1, why, sizeof why));
+  MUST(paging_open(disks, why, sizeof why));
   faults_clear();
+  faults.storage = disks->storage;
 }
 
-void load_make(struct disks *disks, const char *size, const char *more) { make(disks, 1, size, more); }
+void load_make(struct disks *disks, const char *size, const char *more) { make(disks, 1, size, &more); }
 
-void load_make_two(struct disks *disks, const char *size) { make(disks, 2, size, ""); }
+void load_make_two(struct disks *disks, const char *size, const char *first, const char *second) {
+  make(disks, 2, size, (const char *const[]){first, second});
+}
 
 void load_begin(struct front *front, struct disks *disks, unsigned number) {
   front_begin_sized(front, disks, way_of(number), LARGE_RING);
@@ -80,6 +85,18 @@ void put_write(struct front *front, unsigned q, unsigned i, uint32_t block) { pu
 void put_writes(struct front *front, unsigned count) {
   for (unsigned i = 0; i < count; i++) put_write(front, Q, i, i * APART);
   driver_kick(front, Q);
+}
+
+void put_read_of(struct front *front, unsigned lun, unsigned q, unsigned i, uint32_t block) {
+  uint8_t read_10[10] = {0x28, 0, 0, 0, 0, 0, 0, 0, 8, 0};
+  uint64_t request = REQUESTS + EACH * (uint64_t)i;
+  const struct part parts[] = {{request, 51, false}, {request + ANSWER, 108, true}, {BUFFERS + BUFFER * (uint64_t)i, BUFFER, true}};
+  big_put(read_10 + 2, block, 4);
+  put_request(front, request, read_10, sizeof read_10);
+  front->memory[request + LUN_LOW] = (uint8_t)lun;
+  memset(answer_of(front, i), 0xee, 108);
+  memset(buffer_of(front, i), 0xee, BUFFER);
+  driver_put(front, q, parts, 3);
 }
 
 void put_unmap(struct front *front, unsigned i, unsigned first, unsigned count) {

@@ -13,7 +13,7 @@ extern char paths[2][40];
 
 // Makes disk 0:0 of this size on a new file, with more words, or both disks.
 void load_make(struct disks *disks, const char *size, const char *more);
-void load_make_two(struct disks *disks, const char *size);
+void load_make_two(struct disks *disks, const char *size, const char *first, const char *second);
 
 // Begins a session of a way, and ends it and the disks.
 void load_begin(struct front *front, struct disks *disks, unsigned number);
@@ -24,12 +24,13 @@ uint8_t *answer_of(const struct front *front, unsigned i);
 uint8_t *buffer_of(const struct front *front, unsigned i);
 
 // Makes request i to a disk of target 0 available, with so many bytes from its buffer; or to disk 0:0 a WRITE of 4 KiB of bytes
-// that tell its number, or an UNMAP that has so many descriptors of 8 blocks each, whose first blocks are APART; or a LOGICAL
+// that tell its number; or a READ of 4 KiB; or an UNMAP that has so many descriptors of 8 blocks each, whose first blocks are APART; or a LOGICAL
 // UNIT RESET.
 void put(struct front *front, unsigned q, unsigned i, const uint8_t *block, size_t length, uint32_t bytes);
 void put_to(struct front *front, unsigned lun, unsigned q, unsigned i, const uint8_t *block, size_t length, uint32_t bytes);
 void put_write(struct front *front, unsigned q, unsigned i, uint32_t block);
 void put_write_to(struct front *front, unsigned lun, unsigned q, unsigned i, uint32_t block);
+void put_read_of(struct front *front, unsigned lun, unsigned q, unsigned i, uint32_t block);
 void put_writes(struct front *front, unsigned count);
 void put_unmap(struct front *front, unsigned i, unsigned first, unsigned count);
 void put_reset(struct front *front, unsigned i);

@@ -83,11 +83,11 @@ class Room:
                 run.stderr.close()
 
 
-def wait_for(is_so, what, seconds=10):
+def wait_for(is_so, what, seconds=10, pause=0.02):
     end = time.monotonic() + seconds
     while not is_so():
         assert time.monotonic() < end, f"waited for {what}"
-        time.sleep(0.02)
+        time.sleep(pause)
 
 
 def listens(path):
@@ -210,7 +210,7 @@ def test_words(room):
         assert room.ends(*words, status=2) == ""
     usage = room.ends("--help", status=0)
     assert all(word in usage for word in ("--socket", "--disk", "--user", "--log", "snapshot", "grow"))
-    assert re.fullmatch(r"vscsi-vhost-user \d+\.\d+\S*\nwith(out)? seccomp\n", room.ends("--version", status=0))
+    assert re.fullmatch(r"vscsi-vhost-user \d+\.\d+\S*\nwith(out)? seccomp\nwith(out)? io_uring\n", room.ends("--version", status=0))
 
 
 def test_conventions(room):
@@ -224,7 +224,7 @@ def test_conventions(room):
 
 def test_documents(room):
     """The manual page and --help have the same words, and the page on the daemon has no other."""
-    words = r"--[a-z][a-z-]*|\b(?:grow|snapshot|detect-zeroes)\b"
+    words = r"--[a-z][a-z-]*|\b(?:grow|snapshot|detect-zeroes|write-cache|cache-size|direct)\b"
     said = [set(re.findall(words, text.replace("\\-", "-"))) for text in (
         room.ends("--help", status=0),
         (DOCS / "vscsi-vhost-user.1").read_text().split(".SH OPTIONS")[1].split(".SH ")[0],
@@ -999,6 +999,270 @@ def test_naa_of_many_starts(room):
                     front.stop()
             assert told == {kept.read_text().strip()}, told
         assert [it.name for it in room.folder.glob("*.naa*")] == [kept.name]
+
+
+# Disks that are larger than memory.
+
+# How often the daemon is killed while it writes.
+KILLS = int(os.environ.get("KILLS", "20"))
+NO_RING = "no liburing-dev"
+CACHED = ",write-cache=on,cache-size=33M"
+
+
+def has_ring(room):
+    return "with io_uring" in room.ends("--version", status=0)
+
+
+def test_cache_words(room):
+    """Words of a write cache that don't go together are refused by name."""
+    named, image = ["--socket", room.socket, "--disk"], room.folder / "image"
+    if not has_ring(room):
+        room.ends(*named, f"0:0=64M,file={image}{CACHED}", status=2, says="write-cache=on: this daemon is built without liburing")
+        return NO_RING
+    refused = {f"file={image},write-cache=maybe": "write-cache= wants on or off", f"file={image},write-cache=": "write-cache= wants on or off",
+               f"file={image},write-cache=on,write-cache=on": "write-cache= wants on or off, once",
+               f"file={image},write-cache=on,direct=1": "direct= wants on or off", f"file={image},write-cache=on,cache-size=x": "cache-size= wants a size",
+               f"file={image},write-cache=on,cache-size=64M,cache-size=64M": "cache-size= wants a size, once",
+               f"file={image},write-cache=on,cache-size=0": "cache-size= wants a size", f"file={image},write-cache=on,cache-size=32M": "cache-size= is 33M at least",
+               f"file={image},cache-size=64M": "cache-size= wants write-cache=on", f"file={image},write-cache=off,cache-size=64M": "cache-size= wants write-cache=on",
+               f"file={image},direct=on": "direct=on wants write-cache=on", "write-cache=on": "write-cache=on wants file=PATH",
+               f"file={image},write-cache=on,profile=narrow": "write-cache=on wants profile=wide",
+               f"file={image},profile=narrow,write-cache=on": "write-cache=on wants profile=wide",
+               f"file={image},write-cache=on,snapshot": "write-cache=on takes no snapshot"}
+    for words, says in refused.items():
+        room.ends(*named, f"0:0=64M,{words}", status=2, says=says)
+    room.refuses("--disk", f"0:0=1050112,file={image},write-cache=on,direct=on", says="image: direct=on: the disk has no multiple of 4096 bytes")
+    assert not image.exists()
+    for words in ("write-cache=off,direct=off", "write-cache=on,direct=off", "write-cache=on,cache-size=33M"):
+        with room.runs("--disk", f"0:0=64M,file={image},{words}"):
+            assert serves(room.socket)
+    return None
+
+
+def stamped(page, version):
+    return struct.pack("<II", page, version) * 512
+
+
+def run_cached(front, requests):
+    """Runs requests, each of which is a page's version to be written, a page to be read, or a SYNCHRONIZE CACHE. Gives their numbers."""
+    numbers = range(front.count, front.count + len(requests))
+    for kind, page, version in requests:
+        if kind == "write":
+            front.write(8 * page, stamped(page, version))
+        elif kind == "read":
+            front.read(8 * page, 4096)
+        else:
+            front.flush()
+    wait_for(lambda: front.answered() == front.count & 0xFFFF, "requests of a disk with a cache", pause=0.0005)
+    assert not any(front.status(number) for number in numbers), [front.status(number) for number in numbers]
+    return numbers
+
+
+def test_cached(room):
+    """A disk that is larger than its memory is read back as it was written, within all limits and within its memory."""
+    if not has_ring(room):
+        return NO_RING
+    choose, image, pages = random.Random(5), room.folder / "image", {}
+    for turn, more in enumerate(("", ",direct=on", ",detect-zeroes=unmap")):
+        with driven(room, "--disk", f"0:0=1G,file={image}{CACHED}{more}", ends=0) as (run, front, log):
+            for version in range(1000 * turn, 1000 * turn + 700):
+                batch = [("write", choose.randrange(1 << 15) + 65536, version) for _ in range(16)]
+                run_cached(front, batch)
+                pages.update({page: version for _, page, version in batch})
+            run_cached(front, [("flush", 0, 0)])
+            with image.open("rb") as file:
+                for page, version in pages.items():
+                    file.seek(4096 * page)
+                    assert file.read(4096) == stamped(page, version), (page, version)
+            sample = choose.sample(sorted(pages), 1600)
+            for first in range(0, 1600, 16):
+                those = sample[first : first + 16]
+                numbers = run_cached(front, [("read", page, 0) for page in those])
+                assert all(front.data(number, 4096) == stamped(page, pages[page]) for number, page in zip(numbers, those))
+            resident = int(re.search(r"VmRSS:\s+(\d+) kB", Path(f"/proc/{run.pid}/status").read_text())[1])
+            assert not room.shim or resident < (33 + 40) * 1024, resident
+            # What isn't flushed is there once the daemon has ended.
+            run_cached(front, [("write", page, 9999) for page in range(16)])
+        assert all(has(image, 4096 * page, stamped(page, 9999)) for page in range(16)), log.read_text()
+        log.unlink()
+    return None
+
+
+def test_cached_killed(room):
+    """What a guest flushed is on the file when the daemon is killed while it writes, or a later version of the same page is."""
+    if not has_ring(room):
+        return NO_RING
+    choose, image = random.Random(), room.folder / "image"
+    flushed, latest, version = {}, {}, 0
+    for _ in range(KILLS):
+        with room.runs("--quiet", "--disk", f"0:0=256M,file={image}{CACHED}", ends=-signal.SIGKILL, by=signal.SIGKILL), FrontEnd(connected(room.socket)) as front:
+            for _ in range(choose.randrange(5, 60)):
+                version += 1
+                pages = [choose.randrange(1 << choose.choice((6, 16))) for _ in range(choose.randrange(1, 15))]
+                run_cached(front, [("write", page, version) for page in pages])
+                latest.update(dict.fromkeys(pages, version))
+                if choose.randrange(3) == 0:
+                    run_cached(front, [("flush", 0, 0)])
+                    flushed = dict(latest)
+            # It is killed amid these.
+            version += 1
+            pages = {choose.randrange(1 << 16) for _ in range(14)}
+            for page in pages:
+                front.write(8 * page, stamped(page, version))
+                latest[page] = version
+            front.flush()
+        with image.open("rb") as file:
+            for page, least in flushed.items():
+                file.seek(4096 * page)
+                data = file.read(4096)
+                found = struct.unpack("<II", data[:8])
+                assert found[0] == page and least <= found[1] <= latest[page] and data == stamped(*found), (page, least, found)
+                flushed[page] = latest[page] = found[1]
+            # What was lost is no more there, or is older.
+            for page in [page for page in latest if page not in flushed]:
+                file.seek(4096 * page)
+                latest[page] = struct.unpack("<II", file.read(8))[1]
+                if not latest[page]:
+                    del latest[page]
+    return None
+
+
+def test_cached_held(room):
+    """Where a file can't be written WRITEs are answered, and SYNCHRONIZE CACHE waits. At its end the daemon says what the file lacks."""
+    if not has_ring(room):
+        return NO_RING
+    for goes_on in (True, False):
+        image = room.folder / f"image{goes_on}"
+        with driven(room, "--disk", f"0:0=64M,file={image}{CACHED}", ends=0 if goes_on else 1) as (run, front, log):
+            limit_files(run, MIB)
+            run_cached(front, [("write", page, 7) for page in (0, 5000, 5001)])
+            front.flush()
+            wait_for(lambda: "can't be written" in log.read_text(), "a line that says so")  # noqa: B023
+            before = taken(run)
+            time.sleep(1)
+            assert taken(run) - before < 100_000_000 and front.answered() == 3 and front.asks() and log.read_text().count("can't be written") == 1
+            if goes_on:
+                limit_files(run, resource.RLIM_INFINITY)
+                wait_for(lambda: front.answered() == 4, "the SYNCHRONIZE CACHE")
+        text = log.read_text()
+        assert (f"disk 0:0: {image}: WRITEs behind the last SYNCHRONIZE CACHE aren't all kept" in text) == (not goes_on), text
+        assert text.count("can be written again") == goes_on and has(image, 0, stamped(0, 7))
+        assert has(image, 4096 * 5000, stamped(5000, 7) + stamped(5001, 7)) == goes_on
+        log.unlink()
+    return None
+
+
+def test_cached_left(room):
+    """What a front end that went left unwritten reaches the file once that can be written, with no other front end."""
+    if not has_ring(room):
+        return NO_RING
+    image, log = room.folder / "image", room.folder / "log"
+    for more in ("", "--migratable"):
+        with room.runs("--log", log, "--disk", f"0:0=64M,file={image}{CACHED}", *more.split()) as run, image.open("rb") as file:
+            with FrontEnd(connected(room.socket)) as front:
+                limit_files(run, MIB)
+                run_cached(front, [("write", 5000, 7), ("write", 3, 7)])
+                wait_for(lambda: "can't be written" in log.read_text(), "a file that can't be written")
+            wait_for(lambda: "the session is over" in log.read_text(), "the end of the session")
+            wait_for(lambda: has(image, 4096 * 3, stamped(3, 7)), "the page that can be written")
+            with FrontEnd(connected(room.socket)) as front:
+                number = run_cached(front, [("read", 5000, 0)])[0]
+                assert front.data(number, 4096) == stamped(5000, 7)
+            assert not has(image, 4096 * 5000, stamped(5000, 7)) and is_locked(file, 100 + WRITES)
+            limit_files(run, resource.RLIM_INFINITY)
+            wait_for(lambda: has(image, 4096 * 5000, stamped(5000, 7)), "the other page")
+            wait_for(lambda: log.read_text().count("can be written again") == 1, "a line that says so")
+            if more:
+                wait_for(lambda: not is_locked(file, 100 + WRITES), "the file to be let go of")
+        log.unlink()
+        image.unlink()
+    return None
+
+
+def test_cached_migratable(room):
+    """Of two daemons with one file each has it while its queue runs, and finds what the other one left, though nobody flushed it."""
+    if not has_ring(room):
+        return NO_RING
+    disk, others = room.file("disk.img", 64 * MIB), room.folder / "others"
+    words = ["--disk", f"0:0=64M,file={disk}{CACHED}", "--migratable"]
+    with room.runs(*words), room.runs(*words, path=others), FrontEnd(connected(room.socket)) as one, FrontEnd(connected(others)) as two:
+        fronts = (one, two)
+        for turn in range(1, 9):
+            front = fronts[turn % 2]
+            if front.count:
+                front.start(front.count)
+            if turn > 1:
+                numbers = run_cached(front, [("read", page, 0) for page in range(8)])
+                assert all(front.data(number, 4096) == stamped(page, turn - 1) for page, number in enumerate(numbers)), turn
+            run_cached(front, [("write", page, turn) for page in range(8)])
+            assert front.stop() == front.count
+    assert has(disk, 0, b"".join(stamped(page, 8) for page in range(8)))
+    return None
+
+
+def test_cached_device(room):
+    """A block device has what a guest flushed, zeros that are to become holes too."""
+    if not has_ring(room):
+        return NO_RING
+    disk = room.file("disk.img", 64 * MIB)
+    made = subprocess.run(["losetup", "--find", "--show", disk], capture_output=True, text=True) if shutil.which("losetup") else None
+    if made is None or made.returncode:
+        return "no loop device can be had"
+    device = Path(made.stdout.strip())
+    try:
+        for version, more in enumerate(("", ",direct=on", ",detect-zeroes=unmap"), 1):
+            with driven(room, "--disk", f"0:0=file={device}{CACHED}{more}", ends=0) as (_, front, _):
+                run_cached(front, [("write", page, version) for page in range(16)])
+                front.write(8 * 3, bytes(4096))
+                run_cached(front, [("flush", 0, 0), ("read", 16383, 0)])
+                assert front.data(front.count - 1, 4096) == b"\x5a" * 4096
+            for page in range(16):
+                assert has(device, 4096 * page, bytes(4096) if page == 3 else stamped(page, version)), (page, version)
+    finally:
+        subprocess.run(["losetup", "--detach", device], check=True)
+    return None
+
+
+def test_cached_control(room):
+    """A disk with a cache gets another size while a guest writes it, and tells of its pages. It has to be there from the start."""
+    if not room.client or not has_ring(room):
+        return "no libjansson-dev or no liburing-dev"
+    path, image = room.folder / "control", room.folder / "image"
+
+    def size(bytes_):
+        return asking.ask("resize", disk="0:0", size=bytes_)
+
+    with driven(room, "--disk", f"0:0=64M,file={image}{CACHED}", "--control", path, ends=0) as (_, front, log), Asking(path) as asking:
+        run_cached(front, [("write", 16383, 1), ("write", 100, 1)])
+        assert size(128 * MIB) == {} and image.stat().st_size == 128 * MIB
+        front.put(bytes(6))
+        wait_for(lambda: front.answered() == 3 and front.status(2) == 2, "the unit attention")
+        run_cached(front, [("write", 32767, 1), ("write", 16384, 1)])
+        for page in range(200, 328):
+            front.write(8 * page, stamped(page, 2)) if page % 16 else run_cached(front, [("write", page, 2)])
+        wait_for(lambda: front.answered() == front.count, "the WRITEs")
+        # What is lost comes back as zeros, and nothing is written behind the end.
+        assert size(MIB // 2) == {} and size(64 * MIB) == {} and image.stat().st_size == 64 * MIB
+        front.put(bytes(6))
+        wait_for(lambda: front.answered() == front.count and front.status(front.count - 1) == 2, "the unit attention")
+        numbers = run_cached(front, [("read", page, 0) for page in (100, 127, 128, 200, 300, 16383)])
+        assert [front.data(number, 4096) for number in numbers] == [stamped(100, 1)] + [bytes(4096)] * 5
+        run_cached(front, [("flush", 0, 0)])
+        assert has(image, 4096 * 100, stamped(100, 1)) and has(image, 4096 * 200, bytes(4096)) and has(image, 4096 * 16383, bytes(4096))
+        told = asking.ask("stats")["disks"][0]
+        assert told["pages-written"] >= 2 and told["flushes"] and told["pages-read"] >= 0, told
+    with room.runs("--disk", f"0:0=64M,file={image}{CACHED}", "--disk", "0:1=1M", "--control", path), Asking(path) as asking, image.open("r+b") as file:
+        assert size(96 * MIB) == {} and image.stat().st_size == 96 * MIB and size(64 * MIB) == {}
+        assert asking.ask("attach", disk=f"0:2=64M,file={image}{CACHED}", files=[file.fileno()]) == "BadDisk"
+        with FrontEnd(connected(room.socket)) as front:
+            run_cached(front, [("write", 9, 3)])
+        wait_for(lambda: not asking.ask("stats")["front-end"], "the end of the session")
+        assert asking.ask("detach", disk="0:1") == {} and asking.ask("attach", disk="0:1=1M") == {}
+        assert has(image, 4096 * 9, stamped(9, 3)), log.read_text()
+        with FrontEnd(connected(room.socket)) as front:
+            number = run_cached(front, [("read", 9, 0)])[0]
+            assert front.data(number, 4096) == stamped(9, 3)
+    return None
 
 
 # Isolation.

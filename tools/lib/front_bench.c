@@ -1,6 +1,9 @@
 // A vhost-user front end with the driver of one queue, which measures a back end:
 //
-//     front_bench SOCKET scsi|blk read|write BYTES DEPTH REQUESTS PROCESS
+//     front_bench SOCKET scsi|blk read|write|read-on|write-on BYTES DEPTH REQUESTS [PROCESS [SIZE APART USED SEED]]
+//
+// Requests go to any blocks of the first 32 MiB, each of which was written before. Or they go to those of SIZE bytes of which the first USED
+// bytes of each APART are meant, as they are: an image of which other parts are holes. With read-on and write-on they follow one another.
 //
 // In each round it makes so many requests available, notifies once, and waits, with no interrupt, until all are used. It looks at every
 // status, and prints nanoseconds a request, and those that the back end's process, if one is named, took of a processor.
@@ -28,7 +31,7 @@
 enum { GET_FEATURES = 1, SET_FEATURES, SET_OWNER, SET_MEM_TABLE = 5, SET_NUM = 8, SET_ADDR, SET_BASE, SET_KICK = 12, SET_CALL,
        GET_PROTOCOL = 15, SET_PROTOCOL, SET_ENABLE = 18 };
 enum { MEMORY = 64 << 20, SIZE = 128, DESCRIPTORS = 0x1000, AVAILABLE = 0x2000, USED = 0x3000, REQUESTS = 0x10000, DATA = 0x100000,
-       EACH = 0x10000, NEXT = 1, WRITE = 2, DISK = 32 << 20 };
+       EACH = 0x10000, NEXT = 1, WRITE = 2 };
 // How often it looks before it lets others run, and seconds in which something is used, and in which one more notification helps.
 enum { LOOKS = 1000, PATIENCE = 60, AGAIN = 5 };
 #define VERSION_1 (UINT64_C(1) << 32)
@@ -36,7 +39,8 @@ enum { LOOKS = 1000, PATIENCE = 60, AGAIN = 5 };
 
 static unsigned char *memory;
 static int back, kick;
-static bool is_blk, is_write;
+static bool is_blk, is_write, follows;
+static uint64_t disk = 32 << 20, apart = 32 << 20, meant = 32 << 20, seed = 88172645463325252u;
 
 static void fail(const char *what) {
   fprintf(stderr, "front_bench: %s: %s\n", what, strerror(errno));
@@ -189,17 +193,19 @@ static void serve(const uint64_t *blocks, unsigned depth, uint32_t bytes) {
 static void fill(void) {
   bool writes = is_write;
   is_write = true;
-  for (uint64_t block = 0; block < DISK / 512; block += EACH / 512) serve(&block, 1, EACH);
+  for (uint64_t block = 0; block < disk / 512; block += EACH / 512) serve(&block, 1, EACH);
   is_write = writes;
 }
 
 static void run(uint64_t rounds, unsigned depth, uint32_t bytes) {
-  uint64_t seed = 88172645463325252u, blocks[SIZE];
+  static uint64_t next;
+  uint64_t blocks[SIZE], each = meant / bytes, count = disk / apart * each;
 
   for (uint64_t round = 0; round < rounds; round++) {
     for (unsigned i = 0; i < depth; i++) {
       seed ^= seed << 13, seed ^= seed >> 7, seed ^= seed << 17;
-      blocks[i] = seed % (DISK / bytes) * (bytes / 512);
+      uint64_t which = follows ? next++ % count : seed % count;
+      blocks[i] = which / each * (apart / 512) + which % each * (bytes / 512);
     }
     serve(blocks, depth, bytes);
   }
@@ -224,17 +230,22 @@ static uint64_t ran(const char *process) {
 }
 
 int main(int count, char **words) {
-  if (count < 7) return fputs("front_bench SOCKET scsi|blk read|write BYTES DEPTH REQUESTS [PROCESS]\n", stderr), 2;
+  if (count < 7) return fputs("front_bench SOCKET scsi|blk read|write|read-on|write-on BYTES DEPTH REQUESTS [PROCESS [SIZE APART USED SEED]]\n", stderr), 2;
   is_blk = !strcmp(words[2], "blk");
-  is_write = !strcmp(words[3], "write");
+  is_write = !strncmp(words[3], "write", 5);
+  follows = strstr(words[3], "-on");
+  bool is_as_it_is = count == 12;
+  if (is_as_it_is) {
+    disk = strtoull(words[8], NULL, 10), apart = strtoull(words[9], NULL, 10), meant = strtoull(words[10], NULL, 10);
+    seed += strtoull(words[11], NULL, 10);
+  }
   uint32_t bytes = (uint32_t)atoi(words[4]);
   unsigned depth = (unsigned)atoi(words[5]);
   uint64_t requests = strtoull(words[6], NULL, 10), rounds = requests / depth;
   const char *process = count > 7 ? words[7] : "none";
 
   begin(words[1], is_blk ? 0 : 2);
-  fill();
-  run(rounds / 10 + 1, depth, bytes);
+  if (!is_as_it_is) fill(), run(rounds / 10 + 1, depth, bytes);
   uint64_t began = now(), before = ran(process);
   run(rounds, depth, bytes);
   uint64_t took = now() - began, processor = ran(process) - before;

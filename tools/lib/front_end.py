@@ -14,6 +14,8 @@ VERSION_1 = 1 << 32
 # The guest's memory, by its own addresses, which the front end has, too: the ring's areas, requests, and their data.
 MEMORY, DESCRIPTORS, AVAILABLE, USED, REQUESTS, DATA = 1 << 20, 0x1000, 0x2000, 0x3000, 0x10000, 0x40000
 QUEUE, SIZE, BLOCK, HEAD, RESPONSE = 2, 64, 512, 51, 108
+# How many requests have a place of their own; the next one takes the first one's.
+PLACES = 192
 
 
 class FrontEnd:
@@ -64,7 +66,7 @@ class FrontEnd:
         """Makes a request of a disk of target 0 available, with these data, or room for so many bytes, and kicks. A request takes three
         descriptors.
         """
-        number, first = self.count, 3 * (self.count % (SIZE // 4))
+        number, first = self.count % PLACES, 3 * (self.count % (SIZE // 4))
         at, room = REQUESTS + 0x200 * number, DATA + 0x1000 * number
         self.memory[at : at + HEAD] = (bytes([1, 0, 0x40, lun]) + bytes(15) + block).ljust(HEAD, b"\0")
         self.memory[room : room + len(data)] = data
@@ -73,10 +75,10 @@ class FrontEnd:
             parts = ((at, HEAD, 1, first + 1), (at + 0x100, RESPONSE, 3, first + 2), (room, writable, 2, 0))
         for place, part in enumerate(parts, first):
             self.memory[DESCRIPTORS + 16 * place : DESCRIPTORS + 16 * place + 16] = struct.pack("<QIHH", *part)
-        entry = AVAILABLE + 4 + 2 * (number % SIZE)
+        entry = AVAILABLE + 4 + 2 * (self.count % SIZE)
         self.memory[entry : entry + 2] = struct.pack("<H", first)
         self.count += 1
-        self.memory[AVAILABLE + 2 : AVAILABLE + 4] = struct.pack("<H", self.count)
+        self.memory[AVAILABLE + 2 : AVAILABLE + 4] = struct.pack("<H", self.count & 0xFFFF)
         os.eventfd_write(self.kick, 1)
 
     def write(self, lba, data, lun=0):
@@ -87,13 +89,18 @@ class FrontEnd:
         """Makes a READ available."""
         self.put(struct.pack(">BBIBHB", 0x28, 0, lba, 0, length // BLOCK, 0), lun=lun, writable=length)
 
+    def flush(self, lun=0):
+        """Makes a SYNCHRONIZE CACHE available."""
+        self.put(struct.pack(">BBIBHB", 0x35, 0, 0, 0, 0, 0), lun=lun)
+
     def status(self, number):
         """The status of a request that was answered."""
-        return self.memory[REQUESTS + 0x200 * number + 0x100 + 10]
+        return self.memory[REQUESTS + 0x200 * (number % PLACES) + 0x100 + 10]
 
     def data(self, number, length):
         """The data of a READ."""
-        return self.memory[DATA + 0x1000 * number : DATA + 0x1000 * number + length]
+        at = DATA + 0x1000 * (number % PLACES)
+        return self.memory[at : at + length]
 
     def refused_unmap(self):
         """Makes an UNMAP available that has more descriptors than are taken, so that the library tells of any block."""

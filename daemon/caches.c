@@ -1,0 +1,60 @@
+#include "caches.h"
+
+#include <stdio.h>
+#include <string.h>
+
+#include "storage.h"
+
+// Blocks of a page, and of the memory that a backed disk has where no word says how much.
+enum { PAGE_BLOCKS = PAGE_BYTES / DEVICE_BLOCK, USUAL_BLOCKS = (64 << 20) / DEVICE_BLOCK };
+
+static const char *const words[] = {"write-cache=", "cache-size=", "direct="};
+enum { WRITE_CACHE, CACHE_SIZE, DIRECT, WORDS };
+
+// Takes on or off, once.
+static bool take_switch(const char *text, size_t length, bool *said, bool *is_on) {
+  bool on = length == 2 && !strncmp(text, "on", length), off = length == 3 && !strncmp(text, "off", length);
+  if (*said || (!on && !off)) return false;
+  *said = true;
+  *is_on = on;
+  return true;
+}
+
+static bool take_size(const char *text, size_t length, uint64_t *blocks) {
+  const char *end = text;
+  return !*blocks && disks_size(&end, blocks) && end == text + length;
+}
+
+enum cached caches_take(struct disk *disk, const char *word, size_t length, char *why, size_t room) {
+  int which = 0;
+  while (which < WORDS && strncmp(word, words[which], strlen(words[which]))) which++;
+  if (which == WORDS) return CACHED_NOT;
+  const char *text = word + strlen(words[which]);
+  size_t left = length - strlen(words[which]);
+  bool taken = which == WRITE_CACHE ? take_switch(text, left, &disk->has_cache, &disk->is_backed)
+               : which == DIRECT    ? take_switch(text, left, &disk->has_direct, &disk->is_direct)
+                                    : take_size(text, left, &disk->cache_blocks);
+  if (taken) return CACHED_WELL;
+  snprintf(why, room, "%s wants %s, once", words[which], which == CACHE_SIZE ? "a size" : "on or off");
+  return CACHED_WRONGLY;
+}
+
+size_t caches_pages(const struct disk *disk) {
+  return (size_t)((disk->cache_blocks ? disk->cache_blocks : USUAL_BLOCKS) / PAGE_BLOCKS);
+}
+
+static const char *fault_of(const struct disk *disk) {
+  if (!disk->is_backed && disk->cache_blocks) return "cache-size= wants write-cache=on";
+  if (!disk->is_backed) return disk->is_direct ? "direct=on wants write-cache=on" : NULL;
+  if (!storage_is_built()) return "write-cache=on: this daemon is built without liburing";
+  if (!disk->path) return "write-cache=on wants file=PATH";
+  if (!disk->wide) return "write-cache=on wants profile=wide";
+  if (disk->read_only) return "write-cache=on takes no snapshot";
+  return caches_pages(disk) < VSCSI_LEAST_PAGES ? "cache-size= is 33M at least" : NULL;
+}
+
+bool caches_suit(struct disk *disk, char *why, size_t room) {
+  const char *fault = fault_of(disk);
+  if (fault) snprintf(why, room, "%s", fault);
+  return !fault;
+}

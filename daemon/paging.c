@@ -1,0 +1,499 @@
+#include "paging.h"
+
+#include <errno.h>
+#include <stdio.h>
+#include <stdlib.h>
+#include <string.h>
+#include <sys/stat.h>
+
+#include "clock.h"
+#include "log.h"
+#include "rare.h"
+#include "storage.h"
+
+// Milliseconds: between two tries of a file that can't be read or written, and two lines that say so; for how long what was written waits for
+// a sync where nobody may wait for it, and where somebody may; and of paging_finish. And how many pages don't wait.
+enum { LEAST_PAUSE = 50, MOST_PAUSE = 5000, COMPLAINT = 60000, LAZY = 200, HASTY = 10, LAST = 1000, MANY_PAGES = 4096 };
+
+static uint64_t bytes_of(const struct disk *disk) { return disk->blocks * DEVICE_BLOCK; }
+
+bool paging_is_there(const struct disks *disks) {
+  for (size_t i = 0; i < disks->count; i++)
+    if (disks->disks[i].is_backed) return true;
+  return false;
+}
+
+static bool open_disk(struct disk *disk, char *why, size_t room) {
+  struct stat stat;
+  disk->paging = calloc(1, sizeof *disk->paging);
+  if (!disk->paging || fstat(disk->file, &stat)) return snprintf(why, room, "%s: %s", disk->path, strerror(errno)), false;
+  disk->paging->is_device = S_ISBLK(stat.st_mode);
+  return true;
+}
+
+bool paging_open(struct disks *disks, char *why, size_t room) {
+  if (!paging_is_there(disks)) return true;
+  disks->storage = storage_make(why, room);
+  bool stands = disks->storage;
+  for (size_t i = 0; stands && i < disks->count; i++)
+    if (disks->disks[i].is_backed) stands = open_disk(&disks->disks[i], why, room);
+  return stands;
+}
+
+void paging_close(struct disks *disks) {
+  if (!disks->storage) return;
+  paging_end_rest(disks);
+  for (size_t i = 0; i < disks->count; i++) {
+    free(disks->disks[i].paging);
+    disks->disks[i].paging = NULL;
+  }
+  storage_end(disks->storage);
+  disks->storage = NULL;
+}
+
+int paging_descriptor(const struct disks *disks) { return disks->storage ? storage_descriptor(disks->storage) : -1; }
+
+void paging_begin(struct disks *disks) {
+  for (size_t i = 0; i < disks->count; i++) {
+    struct disk *disk = &disks->disks[i];
+    if (!disk->paging) continue;
+    disk->paging->target = disk->target;
+    disk->paging->lun = disk->lun;
+    disk->paging->is_left = true;
+  }
+}
+
+static unsigned longer(unsigned pause) { return !pause ? LEAST_PAUSE : pause > MOST_PAUSE / 2 ? MOST_PAUSE : 2 * pause; }
+
+// Puts off what reads a file, or what writes it, each time for twice as long.
+static RARE void put_reads_off(struct trouble *reading, uint64_t page, int error) {
+  // Others that were under way with the one that failed first.
+  if (reading->error && clock_now() < reading->due) return;
+  reading->error = error;
+  reading->page = page;
+  reading->pause = longer(reading->pause);
+  reading->due = clock_now() + reading->pause;
+}
+
+static RARE void put_writes_off(struct disk *disk, int error) {
+  disk->paging->fails = true;
+  if (disk->error && clock_now() < disk->due) return;
+  disk->error = error;
+  disk->pause = longer(disk->pause);
+  disk->due = clock_now() + disk->pause;
+}
+
+// Notes pages that were written, or that couldn't be.
+static void note_run(struct paging *paging, const struct transfer *transfer, enum run_state state) {
+  paging->runs[paging->run_count++] = (struct run){transfer->first, transfer->count, state};
+  if (state != RUN_WRITTEN) return;
+  if (!paging->pages) paging->since = clock_now();
+  paging->pages += transfer->count;
+  paging->pages_written += transfer->count;
+}
+
+static void change_runs(struct paging *paging, enum run_state from, enum run_state to) {
+  for (size_t i = 0; i < paging->run_count; i++)
+    if (paging->runs[i].state == from) paging->runs[i].state = to;
+  if (from == RUN_WRITTEN) paging->pages = 0;
+}
+
+// Has reads go on as ever where the page was read that couldn't be, or no command has wanted it for long.
+static RARE void note_read(struct trouble *reading, const struct transfer *transfer) {
+  bool has_page = reading->page >= transfer->first && reading->page - transfer->first < transfer->count;
+  if (has_page || clock_now() - reading->due >= COMPLAINT) *reading = (struct trouble){.told = reading->told};
+}
+
+static void finish_read(struct disk *disk, struct device *device, const struct transfer *transfer, int error) {
+  struct paging *paging = disk->paging;
+  for (unsigned i = 0; i < transfer->count; i++) {
+    uint64_t page = transfer->first + i;
+    bool is_old = error || transfer->stale >> i & 1;
+    bool loaded = !is_old && device_load(device, paging->target, paging->lun, page, transfer->pages[i]);
+    if (!loaded) device_load_failed(device, paging->target, paging->lun, page);
+    paging->starves = paging->starves || (!is_old && !loaded);
+    paging->pages_read += loaded;
+  }
+  if (error) put_reads_off(&paging->reading, transfer->first, error);
+  else if (paging->reading.error) note_read(&paging->reading, transfer);
+}
+
+// Where a sync fails the system may have forgotten all that was written before, and won't say so again.
+static void finish_sync(struct disks *disks, struct disk *disk, int error) {
+  struct paging *paging = disk->paging;
+  paging->syncs = false;
+  change_runs(paging, RUN_COVERED, error ? RUN_FAILED : RUN_KEPT);
+  paging->syncs_done += !error;
+  if (!error) {
+    if (!paging->fails && !paging->writes) disk->error = 0, disk->pause = 0;
+    return;
+  }
+  change_runs(paging, RUN_WRITTEN, RUN_FAILED);
+  for (enum transfer_kind kind = TRANSFER_WRITE; kind <= TRANSFER_HOLE; kind++)
+    for (struct transfer *it = storage_under_way(disks->storage, kind); it; it = it->next)
+      if (&disks->disks[it->disk] == disk) it->doubtful = true;
+  put_writes_off(disk, error);
+}
+
+// Takes a transfer that is over. Returns false where it goes on.
+static bool finish(struct disks *disks, struct device *device, struct transfer *transfer, int error) {
+  struct disk *disk = &disks->disks[transfer->disk];
+  struct paging *paging = disk->paging;
+  if (transfer->kind == TRANSFER_HOLE && error && !transfer->fills) {
+    paging->has_no_holes = error == EOPNOTSUPP || error == ENOSYS || error == ENODEV;
+    return storage_fill(disks->storage, transfer, bytes_of(disk)), false;
+  }
+  paging->transfers--;
+  if (transfer->kind == TRANSFER_READ) return finish_read(disk, device, transfer, error), true;
+  if (transfer->kind == TRANSFER_SYNC) return finish_sync(disks, disk, error), true;
+  paging->writes--;
+  note_run(paging, transfer, error || transfer->doubtful ? RUN_FAILED : RUN_WRITTEN);
+  if (error) put_writes_off(disk, error);
+  return true;
+}
+
+// Tells the device of the pages of a run. Returns false where memory was refused: the run has those that are left then.
+static bool say_run(struct paging *paging, struct device *device, struct run *run) {
+  for (; run->count; run->first++, run->count--)
+    if (!device_written(device, paging->target, paging->lun, run->first, run->state == RUN_KEPT)) return !(paging->starves = true);
+  return true;
+}
+
+// Tells the device of each run of which it is known whether it stands on the file.
+static void say_runs(struct paging *paging, struct device *device) {
+  size_t left = 0;
+  for (size_t i = 0; i < paging->run_count; i++) {
+    struct run run = paging->runs[i];
+    bool is_known = run.state == RUN_KEPT || run.state == RUN_FAILED;
+    if (!is_known || !say_run(paging, device, &run)) paging->runs[left++] = run;
+  }
+  paging->run_count = left;
+}
+
+bool paging_take(struct disks *disks, struct device *device) {
+  struct transfer *transfer;
+  bool came = false;
+  int error;
+  while ((transfer = storage_next(disks->storage, &error, &came))) {
+    came = true;
+    if (finish(disks, device, transfer, error)) storage_put(disks->storage, transfer);
+  }
+  for (size_t i = 0; came && i < disks->count; i++)
+    if (disks->disks[i].paging) say_runs(disks->disks[i].paging, device);
+  return came;
+}
+
+// Pages that go into transfers as they come: those that follow one another into one.
+struct gathering {
+  struct storage *storage;
+  struct disk *disk;
+  size_t which;
+  unsigned most;  // of a transfer
+  struct transfer *now, *spare;
+};
+
+static void begin_transfer(struct gathering *gathering, struct transfer *transfer) {
+  struct paging *paging = gathering->disk->paging;
+  transfer->disk = gathering->which;
+  transfer->file = gathering->disk->file;
+  paging->transfers++;
+  paging->writes += transfer->kind == TRANSFER_WRITE || transfer->kind == TRANSFER_HOLE;
+  storage_begin(gathering->storage, transfer, bytes_of(gathering->disk));
+}
+
+// Has room for one more page, wherever it is. Returns false where there is none: no page is asked for then.
+static bool has_room(struct gathering *gathering, enum transfer_kind kind) {
+  struct transfer *now = gathering->now;
+  if (now && now->count == gathering->most) {
+    begin_transfer(gathering, now);
+    gathering->now = NULL;
+  }
+  if (!gathering->now) gathering->now = storage_take(gathering->storage, kind);
+  if (!gathering->spare) gathering->spare = storage_take(gathering->storage, kind);
+  return gathering->now && gathering->spare;
+}
+
+static void add_page(struct gathering *gathering, enum transfer_kind kind, uint64_t page, uint8_t *buffer) {
+  struct transfer *now = gathering->now;
+  if (now->count && (now->kind != kind || page != now->first + now->count)) {
+    begin_transfer(gathering, now);
+    now = gathering->now = gathering->spare;
+    gathering->spare = NULL;
+  }
+  if (!now->count) now->first = page;
+  now->kind = kind;
+  now->pages[now->count++] = buffer;
+}
+
+static void end_gathering(struct gathering *gathering) {
+  if (gathering->now && gathering->now->count) begin_transfer(gathering, gathering->now);
+  else if (gathering->now) storage_put(gathering->storage, gathering->now);
+  if (gathering->spare) storage_put(gathering->storage, gathering->spare);
+}
+
+// Begins to read the pages that commands of a disk want.
+static void begin_reads(struct disks *disks, size_t which, struct device *device) {
+  struct disk *disk = &disks->disks[which];
+  struct paging *paging = disk->paging;
+  // Beside one that can't be read others may be.
+  struct gathering gathering = {disks->storage, disk, which, paging->reading.error ? 1 : MOST_TRANSFERRED, NULL, NULL};
+  if (paging->reading.error && clock_now() < paging->reading.due) return;
+  while (has_room(&gathering, TRANSFER_READ)) {
+    uint8_t *buffer = storage_buffer(disks->storage, TRANSFER_READ);
+    uint64_t page;
+    if (!buffer) break;
+    if (!device_wanted(device, paging->target, paging->lun, &page)) {
+      storage_put_buffer(disks->storage, buffer, TRANSFER_READ);
+      break;
+    }
+    add_page(&gathering, TRANSFER_READ, page, buffer);
+  }
+  end_gathering(&gathering);
+}
+
+// What is being read of a page that is written now may be older.
+static void note_stale(struct disks *disks, size_t which, uint64_t page) {
+  for (struct transfer *it = storage_under_way(disks->storage, TRANSFER_READ); it; it = it->next)
+    if (it->disk == which && page >= it->first && page - it->first < it->count) it->stale |= UINT64_C(1) << (page - it->first);
+}
+
+static bool is_zeros(const uint8_t *page) { return !page[0] && !memcmp(page, page + 1, PAGE_BYTES - 1); }
+
+// Begins to write the pages that the guest changed.
+static void begin_writes(struct disks *disks, size_t which, struct device *device) {
+  struct disk *disk = &disks->disks[which];
+  struct paging *paging = disk->paging;
+  struct gathering gathering = {disks->storage, disk, which, disk->error ? 1 : MOST_TRANSFERRED, NULL, NULL};
+  bool punches = disk->punches && !paging->is_device && !paging->has_no_holes;
+  if (disk->error && clock_now() < disk->due) return;
+  paging->fails = false;
+  // Each transfer that is begun here takes a run, and so may those that were gathered.
+  while (paging->run_count + paging->writes + 2 <= MOST_RUNS && has_room(&gathering, TRANSFER_WRITE)) {
+    uint8_t *buffer = storage_buffer(disks->storage, TRANSFER_WRITE);
+    uint64_t page;
+    if (!buffer) break;
+    enum given given = device_give(device, paging->target, paging->lun, &page, buffer);
+    bool is_hole = given == GIVEN_PAGE && punches && is_zeros(buffer);
+    paging->starves = paging->starves || given == GIVEN_REFUSED;
+    if (given != GIVEN_PAGE || is_hole) storage_put_buffer(disks->storage, buffer, TRANSFER_WRITE);
+    if (given != GIVEN_PAGE) break;
+    note_stale(disks, which, page);
+    add_page(&gathering, is_hole ? TRANSFER_HOLE : TRANSFER_WRITE, page, buffer);
+  }
+  end_gathering(&gathering);
+}
+
+static bool begin_sync(struct disks *disks, size_t which) {
+  struct disk *disk = &disks->disks[which];
+  struct transfer *transfer = disk->paging->pages && !disk->paging->syncs ? storage_take(disks->storage, TRANSFER_SYNC) : NULL;
+  if (!transfer) return false;
+  transfer->disk = which;
+  transfer->file = disk->file;
+  transfer->first = 0;
+  change_runs(disk->paging, RUN_WRITTEN, RUN_COVERED);
+  disk->paging->syncs = true;
+  disk->paging->transfers++;
+  storage_begin(disks->storage, transfer, 0);
+  return true;
+}
+
+// Returns whether it is time to sync what was written. While more of the disk is under way that waits a little.
+static bool is_sync_due(const struct disk *disk, enum wait waits) {
+  const struct paging *paging = disk->paging;
+  if (!paging->pages || paging->syncs) return false;
+  uint64_t now = clock_now(), age = now - paging->since;
+  if (disk->error && now < disk->due) return false;
+  if (paging->pages >= MANY_PAGES || paging->run_count >= MOST_RUNS / 2 || age >= LAZY) return true;
+  return paging->transfers || waits == WAITS_PERHAPS ? age >= HASTY : waits == WAITS_SURELY;
+}
+
+// Returns whether something of a disk is to be looked at though nothing of it is over by then.
+static bool is_put_off(const struct disk *disk) {
+  const struct paging *paging = disk->paging;
+  bool waits = (paging->pages && !paging->syncs) || paging->starves;
+  return waits || (disk->error && clock_now() < disk->due) || (paging->reading.error && clock_now() < paging->reading.due);
+}
+
+void paging_give(struct disks *disks, struct device *device, enum wait waits) {
+  bool passes = false;
+  // Each is the first one some time: the last ones may find no transfer left.
+  disks->turn = (disks->turn + 1) % disks->count;
+  for (size_t n = 0; n < disks->count; n++) {
+    size_t i = (disks->turn + n) % disks->count;
+    struct paging *paging = disks->disks[i].paging;
+    if (!paging) continue;
+    paging->starves = false;
+    if (paging->run_count) say_runs(paging, device);
+    begin_writes(disks, i, device);
+    begin_reads(disks, i, device);
+    if (is_sync_due(&disks->disks[i], waits)) begin_sync(disks, i);
+    passes = passes || is_put_off(&disks->disks[i]);
+  }
+  if (passes) storage_pass(disks->storage);
+  storage_send(disks->storage);
+}
+
+bool paging_reads(const struct disks *disks) { return storage_under_way(disks->storage, TRANSFER_READ); }
+
+bool paging_is_under_way(const struct disks *disks) {
+  for (size_t i = 0; i < disks->count; i++)
+    if (disks->disks[i].paging && disks->disks[i].paging->transfers) return true;
+  return false;
+}
+
+void paging_wait(struct disks *disks, unsigned milliseconds) { storage_wait(disks->storage, milliseconds); }
+
+void paging_settle(struct disks *disks, struct device *device) {
+  for (unsigned turn = 0; turn < 2; turn++) {
+    for (size_t i = 0; turn && i < disks->count; i++)
+      if (disks->disks[i].paging) begin_sync(disks, i);
+    for (storage_send(disks->storage); paging_is_under_way(disks); paging_take(disks, device)) storage_wait(disks->storage, LAST);
+  }
+}
+
+// Finds whether memory has something of a disk that its file lacks.
+static bool find_left(struct disks *disks, struct paging *paging, struct device *device) {
+  uint8_t *buffer = storage_buffer(disks->storage, TRANSFER_WRITE);
+  uint64_t page;
+  enum given given = buffer ? device_give(device, paging->target, paging->lun, &page, buffer) : GIVEN_REFUSED;
+  if (buffer) storage_put_buffer(disks->storage, buffer, TRANSFER_WRITE);
+  if (given == GIVEN_PAGE) paging->runs[paging->run_count++] = (struct run){page, 1, RUN_FAILED};
+  say_runs(paging, device);
+  return given != GIVEN_NONE || paging->run_count;
+}
+
+void paging_end(struct disks *disks, struct device *device) {
+  paging_settle(disks, device);
+  for (size_t i = 0; i < disks->count; i++) {
+    struct paging *paging = disks->disks[i].paging;
+    // What the device was never told of a run is told to the next one.
+    if (paging) paging->is_left = paging->run_count || find_left(disks, paging, device);
+  }
+}
+
+static RARE void tell(struct disk *disk) {
+  struct trouble *reading = &disk->paging->reading;
+  uint64_t now = clock_now();
+  bool is_due = !reading->told || now - reading->told >= COMPLAINT;
+  if (reading->error && is_due) {
+    log_say(LOG_ERROR, disk, "can't be read, and is tried again: %s", strerror(reading->error));
+    reading->told = now;
+  } else if (reading->told && !reading->error) {
+    log_say(LOG_ERROR, disk, "can be read again");
+    reading->told = 0;
+  }
+}
+
+void paging_tell(struct disks *disks) {
+  for (size_t i = 0; i < disks->count; i++) {
+    const struct paging *paging = disks->disks[i].paging;
+    if (paging && (paging->reading.error || paging->reading.told)) tell(&disks->disks[i]);
+  }
+}
+
+bool paging_is_left(const struct disk *disk) { return disk->paging && disk->paging->is_left; }
+
+bool paging_are_left(const struct disks *disks) {
+  for (size_t i = 0; i < disks->count; i++)
+    if (paging_is_left(&disks->disks[i])) return true;
+  return false;
+}
+
+// Makes the daemon's own device of the backed disks that are in memory. It has no guest: its queues lie where nothing is mapped.
+static bool make_rest(struct disks *disks) {
+  enum { QUEUES = 3, APART = 0x100 };
+  struct vscsi_unit units[DEVICE_MOST_UNITS];
+  struct vscsi_disk stores[DEVICE_MOST_UNITS];
+  uint8_t profiles[DEVICE_MOST_UNITS];
+  char why[200];
+  bool starved;
+  const struct ring ring = {.desc = APART, .driver = 2 * APART, .device = 3 * APART, .size = 2}, rings[QUEUES] = {ring, ring, ring};
+  size_t count = 0;
+  for (size_t i = 0; i < disks->count; i++) {
+    struct disk *disk = &disks->disks[i];
+    if (!disk->paging) continue;
+    // Where it isn't in memory, as one that another daemon may have, no unit has its number.
+    disk->paging->target = UINT8_MAX;
+    disk->paging->lun = 0;
+    if (!store_stands(&disks->stores[i])) continue;
+    disk->paging->target = (uint8_t)count;
+    units[count] = (struct vscsi_unit){.blocks = disk->blocks, .target = (uint8_t)count, .calm = 1};
+    profiles[count] = VSCSI_PROFILE_WIDE;
+    stores[count] = disks->stores[i];
+    disks->rest_disks[count++] = i;
+  }
+  const struct vscsi_live_config config = {.size = sizeof config, .features = VSCSI_F_VERSION_1, .ring_count = QUEUES, .units = units,
+                                           .unit_count = count, .profiles = profiles};
+  if (!device_create(&disks->rest, config, rings, stores, &starved, why, sizeof why)) return false;
+  for (size_t n = 0; n < count; n++) disks->stores[disks->rest_disks[n]] = (struct vscsi_disk){0};
+  disks->rest_count = count;
+  return true;
+}
+
+void paging_lose(struct disk *disk) {
+  struct paging *paging = disk->paging;
+  if (paging->is_left) log_say(LOG_ERROR, disk, "WRITEs behind the last SYNCHRONIZE CACHE are lost: memory was refused");
+  paging->is_left = false;
+  paging->run_count = 0;
+}
+
+bool paging_end_rest(struct disks *disks) {
+  struct vscsi_disk stores[DEVICE_MOST_UNITS] = {{0}};
+  if (!disks->rest.live) return true;
+  paging_end(disks, &disks->rest);
+  bool ended = device_end(&disks->rest, stores, disks->rest_count);
+  for (size_t n = 0; n < disks->rest_count; n++) {
+    struct disk *disk = &disks->disks[disks->rest_disks[n]];
+    disks->stores[disks->rest_disks[n]] = stores[n];
+    if (!ended) paging_lose(disk);
+  }
+  return ended;
+}
+
+// Returns whether a disk's file has all, behind paging_give.
+static bool is_written(const struct disk *disk) {
+  const struct paging *paging = disk->paging;
+  return !paging->transfers && !paging->run_count && !paging->starves && !(disk->error && clock_now() < disk->due);
+}
+
+bool paging_write_rest(struct disks *disks) {
+  bool is_done = true;
+  if (!disks->storage || (!disks->rest.live && !paging_are_left(disks))) return false;
+  if (!disks->rest.live && !make_rest(disks)) {
+    storage_pass(disks->storage);
+    return storage_send(disks->storage), true;
+  }
+  paging_take(disks, &disks->rest);
+  paging_give(disks, &disks->rest, WAITS_SURELY);
+  paging_tell(disks);
+  for (size_t i = 0; i < disks->count; i++) is_done = is_done && (!disks->disks[i].paging || is_written(&disks->disks[i]));
+  return !is_done || !paging_end_rest(disks) || paging_are_left(disks);
+}
+
+// Returns whether a file couldn't be written when that was last tried.
+static bool fails(const struct disks *disks) {
+  for (size_t i = 0; i < disks->count; i++)
+    if (disks->disks[i].paging && disks->disks[i].error) return true;
+  return false;
+}
+
+bool paging_finish(struct disks *disks, char *why, size_t room) {
+  uint64_t until = clock_now() + LAST;
+  for (size_t i = 0; i < disks->count; i++)
+    if (disks->disks[i].paging) disks->disks[i].due = 0;
+  // What is under way is waited for in any case.
+  while (paging_write_rest(disks)) {
+    if (paging_is_under_way(disks) && !fails(disks)) until = clock_now() + LAST;
+    if (clock_now() >= until) break;
+    paging_wait(disks, LEAST_PAUSE);
+  }
+  paging_end_rest(disks);
+  for (size_t i = 0; i < disks->count; i++) {
+    const struct disk *disk = &disks->disks[i];
+    const char *cause = disk->error ? strerror(disk->error) : "memory was refused";
+    if (!paging_is_left(disk)) continue;
+    snprintf(why, room, "disk %u:%u: %s: WRITEs behind the last SYNCHRONIZE CACHE aren't all kept: %s", disk->target, disk->lun, disk->path, cause);
+    return false;
+  }
+  return true;
+}

@@ -1,0 +1,103 @@
+// The pages of backed disks, between their files and the device: read as commands want them, and written as the guest changes them.
+//
+// A disk outlives its device, and keeps the pages in memory that its file lacks. So where no front end has a device, one of the daemon's own
+// gives them. Pages that were written stand on the file for sure behind a sync, of which one covers many. Where it fails they are written
+// again, all that it may have covered.
+#ifndef DAEMON_PAGING_H
+#define DAEMON_PAGING_H
+
+#include "disks.h"
+#include "library.h"
+
+// Of a file that couldn't be read and is tried again: the error number, or 0, and the page; milliseconds between two tries and the time of
+// the next; and when that was last said, or 0.
+struct trouble {
+  int error;
+  unsigned pause;
+  uint64_t page, due, told;
+};
+
+// Pages that follow one another and were written: whether that stands on the file isn't known yet, or a sync that is under way says it, or
+// it does or doesn't, and the device is to be told.
+struct run {
+  uint64_t first;
+  uint32_t count;
+  enum run_state { RUN_WRITTEN, RUN_COVERED, RUN_KEPT, RUN_FAILED } state;
+};
+
+enum { MOST_RUNS = 4096 };
+
+struct paging {
+  uint8_t target;          // by which the device knows the disk, and
+  uint16_t lun;
+  bool is_left;            // memory may have pages that the file lacks
+  bool is_device;          // the file is a block device
+  bool has_no_holes;       // it makes none
+  bool fails;              // a write failed since writes were last begun anew
+  bool starves;            // memory was refused, and is asked for again
+  size_t transfers;        // under way
+  bool syncs;              // one of them is a sync
+  struct run runs[MOST_RUNS];
+  size_t run_count, writes;  // of transfers that write, each of which needs a run
+  uint64_t pages, since;   // how many are RUN_WRITTEN, and since when the first is
+  struct trouble reading;  // that of writing is the disk's own
+  uint64_t pages_read, pages_written, syncs_done;
+};
+
+// Returns whether a disk is backed.
+bool paging_is_there(const struct disks *disks);
+
+// Makes what backed disks need beside their files, which are open. Returns false, and says why, where it can't be. paging_close lets go of
+// it.
+bool paging_open(struct disks *disks, char *why, size_t room);
+void paging_close(struct disks *disks);
+
+// Returns the descriptor that tells, by edges, that something is over, or -1.
+int paging_descriptor(const struct disks *disks);
+
+// Has these disks be those of a device that was made of them.
+void paging_begin(struct disks *disks);
+
+// Tells the device what is over of reads and writes. Returns whether commands that wait are to be tried again.
+bool paging_take(struct disks *disks, struct device *device);
+
+// Whether commands wait for a sync: none does, or one may, or one does, unless it waits for something that is put off.
+enum wait { WAITS_NOT, WAITS_PERHAPS, WAITS_SURELY };
+
+// Begins what there is to read and to write, and syncs where it is time for that.
+void paging_give(struct disks *disks, struct device *device, enum wait waits);
+
+// Returns whether something is under way, or a read is. Then paging_take is called again.
+bool paging_reads(const struct disks *disks);
+bool paging_is_under_way(const struct disks *disks);
+
+// Waits until something is over, for so many milliseconds at most.
+void paging_wait(struct disks *disks, unsigned milliseconds);
+
+// Waits until nothing is under way, and syncs what was written. No write of a disk is under way behind this, and none is begun.
+void paging_settle(struct disks *disks, struct device *device);
+
+// Settles, and finds of which disks memory has something that the file lacks, before the device ends.
+void paging_end(struct disks *disks, struct device *device);
+
+// Notes that a disk couldn't be had back from its device for want of memory: it begins anew, as its file is.
+void paging_lose(struct disk *disk);
+
+// Says once a minute of each file that can't be read why, and once that it can be again.
+void paging_tell(struct disks *disks);
+
+// Returns whether memory may have something that the file of a disk, or of any, lacks.
+bool paging_is_left(const struct disk *disk);
+bool paging_are_left(const struct disks *disks);
+
+// Writes what devices that ended left, while there is none. Returns whether more is left: then it is called again behind the next event.
+bool paging_write_rest(struct disks *disks);
+
+// Takes the disks back that paging_write_rest has. Returns false where memory was refused.
+bool paging_end_rest(struct disks *disks);
+
+// Writes what is left as the daemon ends, until a second has passed in which nothing more stands on a file. Returns false, and names a disk
+// and why, where one lacks something.
+bool paging_finish(struct disks *disks, char *why, size_t room);
+
+#endif

@@ -1,0 +1,179 @@
+#include "storage.h"
+
+#include <errno.h>
+#include <stdio.h>
+#include <stdlib.h>
+#include <string.h>
+#include <sys/mman.h>
+
+#include "uring.h"
+
+// How many transfers READs may have, and WRITEs and holes together: what is left is for one sync of each disk. How many buffers either may
+// have. And the milliseconds of storage_pass.
+enum { MOST_OF_KIND = (MOST_TRANSFERS - DEVICE_MOST_UNITS) / 2, BUFFERS_OF_KIND = MOST_BUFFERS / 4 * 3, PASS = 50 };
+
+// What fills a hole that couldn't be made.
+static _Alignas(PAGE_BYTES) uint8_t zeros[PAGE_BYTES];
+
+struct storage {
+  struct uring *uring;
+  uint8_t *room;                                      // the buffers'
+  uint8_t *free[MOST_BUFFERS];                        // those that nothing has
+  size_t free_count;
+  struct transfer transfers[MOST_TRANSFERS], *idle;   // those that nothing has
+  struct transfer *under_way[TRANSFER_KINDS];
+  size_t taken[TRANSFER_KINDS], buffered[TRANSFER_KINDS];
+  bool passes;  // storage_pass waits
+};
+
+bool storage_is_built(void) { return uring_is_built(); }
+
+struct storage *storage_make(char *why, size_t room) {
+  struct storage *storage = calloc(1, sizeof *storage);
+  if (!storage) return snprintf(why, room, "memory was refused"), NULL;
+  storage->uring = uring_make(2 * MOST_TRANSFERS);
+  storage->room = storage->uring ? mmap(NULL, (size_t)MOST_BUFFERS * PAGE_BYTES, PROT_READ | PROT_WRITE, MAP_PRIVATE | MAP_ANONYMOUS, -1, 0)
+                                 : MAP_FAILED;
+  if (storage->room == MAP_FAILED) {
+    snprintf(why, room, "write-cache=on: no io_uring: %s", strerror(errno));
+    if (storage->uring) uring_end(storage->uring);
+    return free(storage), NULL;
+  }
+  // The first ones come first, so that few are touched where few are under way.
+  for (size_t i = MOST_BUFFERS; i-- > 0;) storage->free[storage->free_count++] = storage->room + i * PAGE_BYTES;
+  for (size_t i = MOST_TRANSFERS; i-- > 0; storage->idle = &storage->transfers[i]) storage->transfers[i].next = storage->idle;
+  return storage;
+}
+
+void storage_end(struct storage *storage) {
+  uring_end(storage->uring);
+  munmap(storage->room, (size_t)MOST_BUFFERS * PAGE_BYTES);
+  free(storage);
+}
+
+int storage_descriptor(const struct storage *storage) { return uring_descriptor(storage->uring); }
+
+// Holes count as WRITEs do.
+static enum transfer_kind side_of(enum transfer_kind kind) { return kind == TRANSFER_HOLE ? TRANSFER_WRITE : kind; }
+
+struct transfer *storage_take(struct storage *storage, enum transfer_kind kind) {
+  enum transfer_kind side = side_of(kind);
+  struct transfer *transfer = side == TRANSFER_SYNC || storage->taken[side] < MOST_OF_KIND ? storage->idle : NULL;
+  if (!transfer) return NULL;
+  storage->idle = transfer->next;
+  storage->taken[side]++;
+  transfer->kind = kind;
+  transfer->count = 0;
+  transfer->stale = 0;
+  transfer->doubtful = transfer->fills = false;
+  return transfer;
+}
+
+uint8_t *storage_buffer(struct storage *storage, enum transfer_kind kind) {
+  if (storage->buffered[side_of(kind)] == BUFFERS_OF_KIND || !storage->free_count) return NULL;
+  storage->buffered[side_of(kind)]++;
+  return storage->free[--storage->free_count];
+}
+
+void storage_put_buffer(struct storage *storage, uint8_t *buffer, enum transfer_kind kind) {
+  storage->buffered[side_of(kind)]--;
+  storage->free[storage->free_count++] = buffer;
+}
+
+void storage_put(struct storage *storage, struct transfer *transfer) {
+  bool has_buffers = transfer->kind == TRANSFER_READ || transfer->kind == TRANSFER_WRITE;
+  for (unsigned i = 0; has_buffers && i < transfer->count; i++) storage_put_buffer(storage, transfer->pages[i], transfer->kind);
+  storage->taken[side_of(transfer->kind)]--;
+  transfer->next = storage->idle;
+  storage->idle = transfer;
+}
+
+// Says what is left of a transfer to be moved. Returns how many parts that has.
+static unsigned find_parts(struct transfer *transfer) {
+  unsigned parts = 0;
+  for (uint64_t at = transfer->done; at < transfer->bytes; parts++) {
+    uint64_t end = (at / PAGE_BYTES + 1) * PAGE_BYTES, here = (end < transfer->bytes ? end : transfer->bytes) - at;
+    transfer->parts[parts] = (struct iovec){transfer->pages[at / PAGE_BYTES] + at % PAGE_BYTES, (size_t)here};
+    at += here;
+  }
+  return parts;
+}
+
+// Has what is left of a transfer moved.
+static void go_on(struct storage *storage, struct transfer *transfer) {
+  struct uring *uring = storage->uring;
+  uint64_t at = transfer->first * PAGE_BYTES + transfer->done;
+  bool writes = transfer->kind == TRANSFER_WRITE || transfer->fills;
+  if (transfer->kind == TRANSFER_SYNC) uring_sync(uring, transfer->file, transfer);
+  else if (writes) uring_write(uring, transfer->file, transfer->parts, find_parts(transfer), at, transfer);
+  else if (transfer->kind == TRANSFER_READ) uring_read(uring, transfer->file, transfer->parts, find_parts(transfer), at, transfer);
+  else uring_punch(uring, transfer->file, at, transfer->bytes, transfer);
+}
+
+void storage_begin(struct storage *storage, struct transfer *transfer, uint64_t end) {
+  uint64_t at = transfer->first * PAGE_BYTES, bytes = (uint64_t)transfer->count * PAGE_BYTES;
+  transfer->bytes = at >= end ? 0 : end - at < bytes ? end - at : bytes;
+  transfer->done = 0;
+  for (uint64_t i = transfer->bytes / PAGE_BYTES; transfer->kind == TRANSFER_READ && i < transfer->count; i++)
+    memset(transfer->pages[i], 0, PAGE_BYTES);
+  transfer->next = storage->under_way[transfer->kind];
+  storage->under_way[transfer->kind] = transfer;
+  go_on(storage, transfer);
+}
+
+void storage_fill(struct storage *storage, struct transfer *transfer, uint64_t end) {
+  transfer->fills = true;
+  for (unsigned i = 0; i < transfer->count; i++) transfer->pages[i] = zeros;
+  storage_begin(storage, transfer, end);
+}
+
+void storage_send(struct storage *storage) { uring_send(storage->uring); }
+
+struct transfer *storage_under_way(struct storage *storage, enum transfer_kind kind) { return storage->under_way[kind]; }
+
+static void take_out(struct storage *storage, struct transfer *transfer) {
+  struct transfer **at = &storage->under_way[transfer->kind];
+  while (*at != transfer) at = &(*at)->next;
+  *at = transfer->next;
+}
+
+// Returns whether a transfer goes on behind this result of a part of it. `error` tells else by which error it failed.
+static bool is_left(struct transfer *transfer, int result, int *error) {
+  bool moves = transfer->kind == TRANSFER_READ || transfer->kind == TRANSFER_WRITE || transfer->fills;
+  *error = 0;
+  if (result == -EINTR || result == -EAGAIN) return true;
+  if (result < 0) return *error = -result, false;
+  if (!moves) return false;
+  transfer->done += (uint64_t)result;
+  if (transfer->done >= transfer->bytes) return false;
+  // The file ends before its disk, or takes no more.
+  if (!result) *error = transfer->kind == TRANSFER_READ ? EIO : ENOSPC;
+  return result;
+}
+
+struct transfer *storage_next(struct storage *storage, int *error, bool *passed) {
+  void *what;
+  int result;
+  while (uring_next(storage->uring, &what, &result)) {
+    struct transfer *transfer = what;
+    if (what == storage) {
+      storage->passes = false;
+      *passed = true;
+    } else if (is_left(transfer, result, error)) {
+      go_on(storage, transfer);
+      storage_send(storage);
+    } else {
+      take_out(storage, transfer);
+      return transfer;
+    }
+  }
+  return NULL;
+}
+
+void storage_pass(struct storage *storage) {
+  if (storage->passes) return;
+  storage->passes = true;
+  uring_pass(storage->uring, PASS, storage);
+}
+
+void storage_wait(struct storage *storage, unsigned milliseconds) { uring_wait(storage->uring, milliseconds); }

@@ -1,0 +1,453 @@
+#include "backed.h"
+
+#include <errno.h>
+#include <fcntl.h>
+#include <stdio.h>
+#include <stdlib.h>
+#include <string.h>
+#include <sys/stat.h>
+#include <unistd.h>
+
+#include "../bytes.h"
+#include "../clock.h"
+#include "../paging.h"
+#include "../storage.h"
+#include "faults.h"
+#include "load.h"
+
+// Pages of a disk, and of one that has more than may be in memory; milliseconds in which nothing comes; and how many commands of a unit
+// may wait at once: with more one is answered TASK SET FULL.
+enum { ALL_PAGES = 32768, MORE_PAGES = VSCSI_LEAST_PAGES + 600, NOTHING = 80, STEP = 7919, AT_ONCE = 60 };
+
+static const uint8_t sync_10[10] = {0x35}, ready[6] = {0};
+static const char cached[] = ",write-cache=on,cache-size=33M";
+
+static bool is_left_out(void) {
+  if (!storage_is_built()) printf("left out: no liburing-dev\n");
+  return !storage_is_built();
+}
+
+static uint32_t page_at(unsigned i) { return (uint32_t)((uint64_t)i * STEP % ALL_PAGES); }
+
+// Fills a page so that its number and its version are known by each of its parts.
+static void fill(uint8_t *at, uint32_t page, unsigned version) {
+  for (size_t i = 0; i < BUFFER; i += 4) little_put(at + i, page * 0x9e3779b1u + version * 0x85ebca6bu + i, 4);
+}
+
+static bool is_filled(const uint8_t *at, uint32_t page, unsigned version) {
+  uint8_t wanted[BUFFER];
+  fill(wanted, page, version);
+  return !memcmp(at, wanted, BUFFER);
+}
+
+static void put_page(struct front *front, unsigned q, unsigned i, uint32_t page, unsigned version) {
+  put_write(front, q, i, page * 8);
+  fill(buffer_of(front, i), page, version);
+}
+
+// Writes so many pages of a disk, as many at once as there may be. Returns whether each is answered GOOD.
+static bool write_pages(struct front *front, unsigned count, unsigned version) {
+  bool good = true;
+  for (unsigned done = 0; good && done < count;) {
+    unsigned here = count - done < AT_ONCE ? count - done : AT_ONCE;
+    for (unsigned i = 0; i < here; i++) put_page(front, Q, i, page_at(done + i), version);
+    driver_kick(front, Q);
+    good = await(front, Q, here, PATIENCE) == here;
+    for (unsigned i = 0; i < here; i++) good = good && is_good(front, i);
+    done += here;
+  }
+  return good;
+}
+
+static bool read_pages(struct front *front, unsigned count, unsigned version) {
+  bool good = true;
+  for (unsigned done = 0; good && done < count;) {
+    unsigned here = count - done < AT_ONCE ? count - done : AT_ONCE;
+    for (unsigned i = 0; i < here; i++) put_read_of(front, 0, Q, i, page_at(done + i) * 8);
+    driver_kick(front, Q);
+    good = await(front, Q, here, PATIENCE) == here;
+    for (unsigned i = 0; i < here; i++) good = good && is_good(front, i) && is_filled(buffer_of(front, i), page_at(done + i), version);
+    done += here;
+  }
+  return good;
+}
+
+static void put_sync(struct front *front, unsigned q, unsigned i) {
+  put(front, q, i, sync_10, sizeof sync_10, 0);
+  driver_kick(front, q);
+}
+
+static bool sync_disk(struct front *front) {
+  put_sync(front, Q, 0);
+  return await(front, Q, 1, PATIENCE) == 1 && is_good(front, 0);
+}
+
+static bool is_ready(struct front *front, unsigned q) {
+  put(front, q, MANY, ready, sizeof ready, 0);
+  driver_kick(front, q);
+  return await(front, q, 1, PATIENCE) == 1 && is_good(front, MANY);
+}
+
+// Returns whether a file has so many pages.
+static bool file_has(unsigned lun, unsigned count, unsigned version) {
+  uint8_t found[BUFFER];
+  int file = open(paths[lun], O_RDONLY | O_CLOEXEC);
+  bool has = file >= 0;
+  for (unsigned i = 0; has && i < count; i++)
+    has = pread(file, found, BUFFER, (off_t)page_at(i) * BUFFER) == BUFFER && is_filled(found, page_at(i), version);
+  close(file);
+  return has;
+}
+
+static void begin(struct front *front, struct disks *disks, unsigned number) {
+  load_make(disks, "128M", cached);
+  load_begin(front, disks, number);
+  MUST(front->session.backend.pages && !front->session.backend.keeps);
+}
+
+// Has the next device begin with no page in memory.
+static void forget(struct front *front, struct disks *disks, unsigned number) {
+  char why[200];
+  front_end(front);
+  MUST(paging_finish(disks, why, sizeof why));
+  store_drop(&disks->stores[0]);
+  load_begin(front, disks, number);
+}
+
+void test_backed(void) {
+  if (is_left_out()) return;
+  for (unsigned number = 0; number < WAYS; number += 5) {
+    struct disks disks;
+    struct front front;
+    begin(&front, &disks, number);
+    MUST(write_pages(&front, MORE_PAGES, 1) && sync_disk(&front) && file_has(0, MORE_PAGES, 1));
+    const struct paging *paging = disks.disks[0].paging;
+    MUST(paging->pages_written >= MORE_PAGES && read_pages(&front, MORE_PAGES, 1) && paging->pages_read);
+    forget(&front, &disks, number);
+    MUST(read_pages(&front, 1000, 1) && write_pages(&front, 500, 2) && sync_disk(&front) && file_has(0, 500, 2));
+    // Nothing is written for what changes nothing.
+    uint64_t written = paging->pages_written;
+    MUST(read_pages(&front, 500, 2) && sync_disk(&front) && paging->pages_written == written);
+    load_end(&front, &disks);
+  }
+}
+
+void test_backed_ends(void) {
+  enum { LAST_BLOCK = 2048, WHOLE = (1 << 20) + 3 * DEVICE_BLOCK };
+  if (is_left_out()) return;
+  for (unsigned number = 0; number < WAYS; number += 3) {
+    uint8_t write_10[10] = {0x2a, 0, 0, 0, 8, 0, 0, 0, 3, 0}, read_10[10] = {0x28, 0, 0, 0, 8, 0, 0, 0, 3, 0};
+    struct disks disks;
+    struct front front;
+    struct stat stat;
+    load_make(&disks, "1050112", cached);
+    load_begin(&front, &disks, number);
+    put(&front, Q, 0, write_10, sizeof write_10, 3 * DEVICE_BLOCK);
+    fill(buffer_of(&front, 0), LAST_BLOCK, 3);
+    driver_kick(&front, Q);
+    MUST(await(&front, Q, 1, PATIENCE) == 1 && is_good(&front, 0) && sync_disk(&front));
+    MUST(!lstat(paths[0], &stat) && stat.st_size == WHOLE);
+    forget(&front, &disks, number);
+    put_read_of(&front, 0, Q, 1, LAST_BLOCK);
+    put_request(&front, (uint64_t)(answer_of(&front, 1) - front.memory) - 0x80, read_10, sizeof read_10);
+    driver_kick(&front, Q);
+    uint8_t wanted[BUFFER];
+    fill(wanted, LAST_BLOCK, 3);
+    MUST(await(&front, Q, 1, PATIENCE) == 1 && is_good(&front, 1) && !memcmp(buffer_of(&front, 1), wanted, 3 * DEVICE_BLOCK));
+    load_end(&front, &disks);
+  }
+}
+
+void test_backed_zeros(void) {
+  if (is_left_out()) return;
+  for (unsigned number = 0; number < 2 * WAYS; number += 3) {
+    bool punches = number >= WAYS;
+    struct disks disks;
+    struct front front;
+    struct stat full, zeros;
+    load_make(&disks, "128M", punches ? ",write-cache=on,detect-zeroes=unmap" : cached);
+    load_begin(&front, &disks, number % WAYS);
+    MUST(write_pages(&front, MANY, 1) && sync_disk(&front) && !lstat(paths[0], &full) && full.st_blocks);
+    for (unsigned i = 0; i < MANY; i++) {
+      put_page(&front, Q, i, page_at(i), 1);
+      memset(buffer_of(&front, i), 0, BUFFER);
+    }
+    driver_kick(&front, Q);
+    MUST(await(&front, Q, MANY, PATIENCE) == MANY && sync_disk(&front) && !lstat(paths[0], &zeros));
+    MUST(zeros.st_blocks == (punches ? 0 : full.st_blocks));
+    for (unsigned i = 0; i < MANY; i++) MUST(has(i, (uint64_t)page_at(i) * 8, true));
+    MUST(write_pages(&front, MANY, 2) && sync_disk(&front) && file_has(0, MANY, 2));
+    load_end(&front, &disks);
+  }
+}
+
+// Has the session go on for so many milliseconds.
+static void go_on(struct front *front, unsigned milliseconds) {
+  for (uint64_t until = clock_now() + milliseconds; clock_now() < until; usleep(500)) turn(front);
+}
+
+void test_backed_unread(void) {
+  if (is_left_out()) return;
+  for (unsigned number = 0; number < WAYS; number++) {
+    struct disks disks;
+    struct front front;
+    begin(&front, &disks, number);
+    MUST(write_pages(&front, MANY, 1));
+    forget(&front, &disks, number);
+    faults.read_error = EIO;
+    for (unsigned i = 0; i < 20; i++) put_read_of(&front, 0, Q, i, page_at(i) * 8);
+    driver_kick(&front, Q);
+    MUST(await(&front, Q, 1, NOTHING) == 0 && disks.disks[0].paging->reading.error == EIO && front.alive);
+    // Others go on: one that needs no page, and WRITEs of whole pages.
+    MUST(is_ready(&front, 3));
+    for (unsigned i = 20; i < 30; i++) put_page(&front, 3, i, page_at(i + MANY), 1);
+    driver_kick(&front, 3);
+    MUST(await(&front, 3, 10, PATIENCE) == 10 && !disks.disks[0].error);
+    faults_clear();
+    MUST(await(&front, Q, 20, PATIENCE) == 20 && !disks.disks[0].paging->reading.error);
+    for (unsigned i = 0; i < 20; i++) MUST(is_good(&front, i) && is_filled(buffer_of(&front, i), page_at(i), 1));
+    load_end(&front, &disks);
+  }
+}
+
+void test_backed_unwritten(void) {
+  if (is_left_out()) return;
+  for (unsigned number = 0; number < WAYS; number += 3) {
+    struct disks disks;
+    struct front front;
+    begin(&front, &disks, number);
+    faults.write_error = number % 2 ? ENOSPC : EIO;
+    faults.writes = 3;
+    MUST(write_pages(&front, MANY, 1));
+    put_sync(&front, 3, MANY);
+    MUST(await(&front, 3, 1, NOTHING) == 0 && front.alive && disks.disks[0].error == faults.write_error);
+    MUST(read_pages(&front, MANY, 1) && is_ready(&front, 4));
+    faults_clear();
+    MUST(await(&front, 3, 1, PATIENCE) == 1 && is_good(&front, MANY) && file_has(0, MANY, 1) && !disks.disks[0].error);
+    // The system forgets what it had, of pages that stood there, too.
+    faults.sync_error = EIO;
+    faults.bad_syncs = 3;
+    MUST(write_pages(&front, MANY, 2) && sync_disk(&front) && !faults.bad_syncs && file_has(0, MANY, 2));
+    load_end(&front, &disks);
+  }
+}
+
+void test_backed_left(void) {
+  if (is_left_out()) return;
+  for (unsigned number = 0; number < WAYS; number += 3) {
+    struct disks disks;
+    struct front front;
+    char why[200] = "";
+    begin(&front, &disks, number);
+    MUST(write_pages(&front, MANY, 1));
+    front_end(&front);
+    MUST(paging_finish(&disks, why, sizeof why) && !paging_are_left(&disks) && file_has(0, MANY, 1));
+    load_begin(&front, &disks, number);
+    faults.write_error = EIO;
+    MUST(write_pages(&front, MANY, 2));
+    front_end(&front);
+    MUST(!paging_finish(&disks, why, sizeof why) && strstr(why, paths[0]) && paging_are_left(&disks));
+    load_begin(&front, &disks, number);
+    MUST(read_pages(&front, MANY, 2) && write_pages(&front, 20, 2));
+    // A reset forgets requests, and no page.
+    front_say(&front, RESET_DEVICE, 0);
+    pump(&front);
+    front_end(&front);
+    load_begin(&front, &disks, number);
+    faults_clear();
+    MUST(read_pages(&front, MANY, 2) && sync_disk(&front) && file_has(0, MANY, 2));
+    load_end(&front, &disks);
+  }
+}
+
+void test_backed_stops(void) {
+  enum { HELD_READS = 5 };
+  if (is_left_out()) return;
+  for (unsigned number = 0; number < WAYS; number++) {
+    struct disks disks;
+    struct front front;
+    uint8_t payload[8];
+    begin(&front, &disks, number);
+    MUST(write_pages(&front, MANY, 1));
+    forget(&front, &disks, number);
+    faults.held = true;
+    for (unsigned i = 0; i < HELD_READS; i++) put_read_of(&front, 0, Q, i, page_at(i) * 8);
+    driver_kick(&front, Q);
+    MUST(await(&front, Q, 1, 20) == 0);
+    // The driver of each queue is asked for what comes behind those that wait.
+    for (unsigned i = 0; i < 10; i++) MUST(is_ready(&front, Q) && is_ready(&front, 3));
+    front_say(&front, GET_VRING_BASE, Q);
+    go_on(&front, 20);
+    MUST(!front_reply(&front, payload, sizeof payload) && front.alive);
+    faults.held = false;
+    MUST(await(&front, Q, HELD_READS, PATIENCE) == HELD_READS);
+    go_on(&front, 20);
+    MUST(front_reply(&front, payload, sizeof payload) == 8 && little_get(payload, 4) == Q);
+    for (unsigned i = 0; i < HELD_READS; i++) MUST(is_good(&front, i) && is_filled(buffer_of(&front, i), page_at(i), 1));
+    front_start(&front, Q, (uint32_t)little_get(payload + 4, 4));
+    MUST(read_pages(&front, MANY, 1) && is_ready(&front, 3));
+    load_end(&front, &disks);
+  }
+}
+
+void test_backed_stale(void) {
+  if (is_left_out()) return;
+  for (unsigned number = 0; number < WAYS; number++) {
+    struct disks disks;
+    struct front front;
+    begin(&front, &disks, number);
+    MUST(write_pages(&front, 20, 1));
+    forget(&front, &disks, number);
+    faults.held = true;
+    for (unsigned i = 0; i < 20; i++) put_read_of(&front, 0, Q, i, page_at(i) * 8);
+    driver_kick(&front, Q);
+    MUST(await(&front, Q, 1, 20) == 0);
+    for (unsigned i = 0; i < 20; i++) put_page(&front, 3, i + 20, page_at(i), 2);
+    driver_kick(&front, 3);
+    MUST(await(&front, 3, 20, PATIENCE) == 20);
+    put_sync(&front, 4, MANY);
+    MUST(await(&front, 4, 1, PATIENCE) == 1 && is_good(&front, MANY) && file_has(0, 20, 2));
+    faults.held = false;
+    // What they have depends on which ran first.
+    go_on(&front, 20);
+    uint32_t length;
+    while (driver_next(&front, Q, 3, &length)) continue;
+    MUST(read_pages(&front, 20, 2) && write_pages(&front, 20, 3) && sync_disk(&front) && file_has(0, 20, 3));
+    load_end(&front, &disks);
+  }
+}
+
+// Writes to both disks at once, and looks at their files behind SYNCHRONIZE CACHE of the backed one.
+static void work_beside(struct front *front, unsigned turn) {
+  for (unsigned i = 0; i < MANY; i++) {
+    put_write_to(front, i % 2, Q, i, page_at(i) * 8);
+    fill(buffer_of(front, i), page_at(i), turn);
+  }
+  driver_kick(front, Q);
+  MUST(await(front, Q, MANY, PATIENCE) == MANY);
+  put_to(front, 1, Q, MANY, sync_10, sizeof sync_10, 0);
+  driver_kick(front, Q);
+  MUST(await(front, Q, 1, PATIENCE) == 1 && is_good(front, MANY));
+  for (unsigned i = 0; i < MANY; i++) {
+    uint8_t found[BUFFER];
+    int file = open(paths[i % 2], O_RDONLY | O_CLOEXEC);
+    MUST(is_good(front, i) && pread(file, found, BUFFER, (off_t)page_at(i) * BUFFER) == BUFFER && is_filled(found, page_at(i), turn));
+    close(file);
+  }
+}
+
+static void go_beside_memory(unsigned number) {
+  struct disks disks;
+  struct front front;
+  char why[200];
+  load_make(&disks, "128M", cached);
+  MUST(disks_add(&disks, "0:1=128M", why, sizeof why));
+  load_begin(&front, &disks, number);
+  MUST(front.session.backend.pages && !front.session.backend.keeps);
+  faults.read_error = EIO;
+  put_read_of(&front, 0, Q, MANY, 0);
+  driver_kick(&front, Q);
+  for (unsigned i = 0; i < MANY; i++) put_write_to(&front, 1, 3, i, page_at(i) * 8);
+  driver_kick(&front, 3);
+  MUST(await(&front, 3, MANY, PATIENCE) == MANY && await(&front, Q, 1, NOTHING) == 0);
+  faults_clear();
+  MUST(await(&front, Q, 1, PATIENCE) == 1 && is_good(&front, MANY));
+  disks.count = 2;
+  load_end(&front, &disks);
+}
+
+void test_backed_beside(void) {
+  if (is_left_out()) return;
+  for (unsigned number = 0; number < WAYS; number++) {
+    struct disks disks;
+    struct front front;
+    char why[200];
+    load_make_two(&disks, "128M", "", cached);
+    load_begin(&front, &disks, number);
+    MUST(front.session.backend.pages && front.session.backend.keeps);
+    for (unsigned turn = 1; turn < 4; turn++) {
+      work_beside(&front, turn);
+      if (turn == 2) front_start(&front, Q, front_stop(&front, Q));
+    }
+    front_end(&front);
+    MUST(paging_finish(&disks, why, sizeof why));
+    load_begin(&front, &disks, number);
+    work_beside(&front, 4);
+    load_end(&front, &disks);
+    go_beside_memory(number);
+  }
+}
+
+// Pages that are written and read among faults, more than there is memory for; the version of each that was written last, and rounds.
+enum { USED_PAGES = 12000, ROUNDS = 60, AGAIN = 6 };
+static unsigned versions[USED_PAGES];
+
+static bool is_last(const uint8_t *at, unsigned which) {
+  static const uint8_t zeros[BUFFER];
+  return versions[which] ? is_filled(at, page_at(which), versions[which]) : !memcmp(at, zeros, BUFFER);
+}
+
+static void set_faults(void) {
+  unsigned which = (unsigned)rand() % 8;
+  faults.write_error = which == 1 || which == 2 ? EIO : 0;
+  faults.writes = (unsigned)rand() % 20;
+  faults.sync_error = which == 2 || which == 3 ? EIO : 0;
+  faults.bad_syncs = 1 + (unsigned)rand() % 2;
+  faults.read_error = which == 4 ? EIO : 0;
+  faults.held = which == 5;
+}
+
+// Has pages that follow one another in this order written or read at once, and the disk flushed or not, while faults come and go.
+static void do_anything(struct front *front, unsigned version) {
+  unsigned first = (unsigned)rand() % USED_PAGES, count = 1 + (unsigned)rand() % AT_ONCE, writes = 0;
+  bool written[AT_ONCE], flushes = rand() % 3 == 0;
+  for (unsigned i = 0; i < count; i++) {
+    unsigned which = (first + i) % USED_PAGES;
+    written[i] = rand() % 4;
+    writes += written[i];
+    if (written[i]) put_page(front, Q, i, page_at(which), versions[which] = version);
+    else put_read_of(front, 0, Q, i, page_at(which) * 8);
+  }
+  set_faults();
+  driver_kick(front, Q);
+  go_on(front, (unsigned)rand() % 30);
+  faults_clear();
+  MUST(await(front, Q, count, PATIENCE) == count);
+  for (unsigned i = 0; i < count; i++) MUST(is_good(front, i) && (written[i] || is_last(buffer_of(front, i), (first + i) % USED_PAGES)));
+  if (!flushes) return;
+  set_faults();
+  put_sync(front, 3, MANY);
+  go_on(front, (unsigned)rand() % 30);
+  faults_clear();
+  MUST(await(front, 3, 1, PATIENCE) == 1 && is_good(front, MANY));
+  int file = open(paths[0], O_RDONLY | O_CLOEXEC);
+  for (unsigned i = 0; i < 4 * AT_ONCE; i++) {
+    unsigned which = i < count ? (first + i) % USED_PAGES : (unsigned)rand() % USED_PAGES;
+    uint8_t found[BUFFER];
+    MUST(pread(file, found, BUFFER, (off_t)page_at(which) * BUFFER) == BUFFER && is_last(found, which));
+  }
+  close(file);
+}
+
+void test_backed_anything(void) {
+  if (is_left_out()) return;
+  srand(11);
+  for (unsigned number = 0; number < WAYS; number += 3) {
+    struct disks disks;
+    struct front front;
+    load_make(&disks, "128M", number % 2 ? ",write-cache=on,cache-size=33M,detect-zeroes=unmap" : cached);
+    memset(versions, 0, sizeof versions);
+    load_begin(&front, &disks, number);
+    for (unsigned round = 1; round <= ROUNDS; round++) {
+      do_anything(&front, round);
+      if (rand() % AGAIN) continue;
+      set_faults();
+      faults.held = false;
+      front_end(&front);
+      faults_clear();
+      load_begin(&front, &disks, number);
+    }
+    MUST(sync_disk(&front));
+    load_end(&front, &disks);
+  }
+}
