@@ -53,6 +53,8 @@ impl JobsAside {
     pub(crate) fn count(&self) -> usize
         ensures { result ≡ length self.now.aside + length self.now.woken }
     {
+        // Together they are at most as many as the limit.
+        let _limit = self.aside.limit();
         self.aside.len() + self.woken.len()
     }
 
