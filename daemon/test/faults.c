@@ -146,6 +146,14 @@ enum vscsi_answer __wrap_vscsi_live_serve(struct vscsi_live *device, uint32_t qu
   return answer;
 }
 
+enum vscsi_answer __real_vscsi_live_load(struct vscsi_live *device, uint8_t target, uint16_t lun, uint64_t page, const void *bytes);
+enum vscsi_answer __wrap_vscsi_live_load(struct vscsi_live *device, uint8_t target, uint16_t lun, uint64_t page, const void *bytes);
+
+enum vscsi_answer __wrap_vscsi_live_load(struct vscsi_live *device, uint8_t target, uint16_t lun, uint64_t page, const void *bytes) {
+  faults.handed_in++;
+  return __real_vscsi_live_load(device, target, lun, page, bytes);
+}
+
 bool __real_uring_next(struct uring *uring, void **what, int *result);
 bool __wrap_uring_next(struct uring *uring, void **what, int *result);
 
