@@ -183,6 +183,12 @@ void test_backed_zeros(void) {
   }
 }
 
+// Has no fault be there any more, and what was held back be over.
+static void clear_faults(struct front *front) {
+  faults_clear();
+  session_kicked(&front->session, EVENT_STORAGE);
+}
+
 // Has the session go on for so many milliseconds.
 static void go_on(struct front *front, unsigned milliseconds) {
   for (uint64_t until = clock_now() + milliseconds; clock_now() < until; usleep(500)) turn(front);
@@ -281,7 +287,7 @@ void test_backed_stops(void) {
     front_say(&front, GET_VRING_BASE, Q);
     go_on(&front, 20);
     MUST(!front_reply(&front, payload, sizeof payload) && front.alive);
-    faults.held = false;
+    clear_faults(&front);
     MUST(await(&front, Q, HELD_READS, PATIENCE) == HELD_READS);
     go_on(&front, 20);
     MUST(front_reply(&front, payload, sizeof payload) == 8 && little_get(payload, 4) == Q);
@@ -315,8 +321,7 @@ void test_backed_stale(void) {
     while (driver_next(&front, Q, 3, &length)) continue;
     MUST(number % 5 || write_from(&front, 20, VSCSI_LEAST_PAGES, 1));
     // None of what was read before comes into memory.
-    faults.handed_in = 0;
-    faults.held = false;
+    clear_faults(&front);
     go_on(&front, 20);
     MUST(!faults.handed_in);
     MUST(read_pages(&front, 20, 2) && write_pages(&front, 20, 3) && sync_disk(&front) && file_has(0, 20, 3));
@@ -418,14 +423,14 @@ static void do_anything(struct front *front, unsigned version) {
   set_faults();
   driver_kick(front, Q);
   go_on(front, (unsigned)rand() % 30);
-  faults_clear();
+  clear_faults(front);
   MUST(await(front, Q, count, PATIENCE) == count);
   for (unsigned i = 0; i < count; i++) MUST(is_good(front, i) && (written[i] || is_last(buffer_of(front, i), (first + i) % USED_PAGES)));
   if (!flushes) return;
   set_faults();
   put_sync(front, 3, MANY);
   go_on(front, (unsigned)rand() % 30);
-  faults_clear();
+  clear_faults(front);
   MUST(await(front, 3, 1, PATIENCE) == 1 && is_good(front, MANY));
   int file = open(paths[0], O_RDONLY | O_CLOEXEC);
   for (unsigned i = 0; i < 4 * AT_ONCE; i++) {
