@@ -7,6 +7,7 @@
 #include <poll.h>
 #include <stdlib.h>
 #include <sys/eventfd.h>
+#include <sys/syscall.h>
 #include <unistd.h>
 
 // How often requests are sent that the kernel doesn't take for want of memory, a millisecond each; and nanoseconds of that.
@@ -20,7 +21,12 @@ struct uring {
 
 bool uring_is_built(void) { return true; }
 
-// Has a ring take these requests and no others, for good: seccomp doesn't see what goes through it.
+// Says something of a ring to the kernel, as the shared library of liburing 2.3 doesn't. Returns 0, or an error number below 0.
+static int say(const struct io_uring *ring, unsigned what, const void *items, unsigned count) {
+  return syscall(SYS_io_uring_register, ring->ring_fd, what, items, count) < 0 ? -errno : 0;
+}
+
+// Has a ring begin, and take these requests and no others, for good: seccomp doesn't see what goes through it.
 static int limit(struct io_uring *ring) {
   static const __u8 taken[] = {IORING_OP_READV, IORING_OP_WRITEV, IORING_OP_FSYNC, IORING_OP_FALLOCATE, IORING_OP_TIMEOUT};
   struct io_uring_restriction limits[sizeof taken] = {{0}};
@@ -28,7 +34,8 @@ static int limit(struct io_uring *ring) {
     limits[i].opcode = IORING_RESTRICTION_SQE_OP;
     limits[i].sqe_op = taken[i];
   }
-  return io_uring_register_restrictions(ring, limits, sizeof taken);
+  int failed = say(ring, IORING_REGISTER_RESTRICTIONS, limits, sizeof taken);
+  return failed ? failed : say(ring, IORING_REGISTER_ENABLE_RINGS, NULL, 0);
 }
 
 struct uring *uring_make(unsigned most) {
@@ -39,7 +46,6 @@ struct uring *uring_make(unsigned most) {
   if (!failed) {
     failed = io_uring_register_eventfd(&uring->ring, uring->event);
     if (!failed) failed = limit(&uring->ring);
-    if (!failed) failed = io_uring_enable_rings(&uring->ring);
     if (!failed) return uring;
     io_uring_queue_exit(&uring->ring);
   }
