@@ -407,6 +407,7 @@ static void set_faults(void) {
   faults.bad_syncs = 1 + (unsigned)rand() % 2;
   faults.read_error = which == 4 ? EIO : 0;
   faults.held = which == 5;
+  faults.refused = which == 6 ? (unsigned)rand() % 10 : 0;
 }
 
 // Has pages that follow one another in this order written or read at once, and the disk flushed or not, while faults come and go.

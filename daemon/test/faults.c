@@ -150,8 +150,25 @@ enum vscsi_answer __real_vscsi_live_load(struct vscsi_live *device, uint8_t targ
 enum vscsi_answer __wrap_vscsi_live_load(struct vscsi_live *device, uint8_t target, uint16_t lun, uint64_t page, const void *bytes);
 
 enum vscsi_answer __wrap_vscsi_live_load(struct vscsi_live *device, uint8_t target, uint16_t lun, uint64_t page, const void *bytes) {
+  if (faults.refused) return faults.refused--, VSCSI_NO_MEMORY;
   faults.handed_in++;
   return __real_vscsi_live_load(device, target, lun, page, bytes);
+}
+
+enum vscsi_answer __real_vscsi_live_give(struct vscsi_live *device, uint8_t target, uint16_t lun, uint64_t *page, void *bytes, bool *found);
+enum vscsi_answer __wrap_vscsi_live_give(struct vscsi_live *device, uint8_t target, uint16_t lun, uint64_t *page, void *bytes, bool *found);
+
+enum vscsi_answer __wrap_vscsi_live_give(struct vscsi_live *device, uint8_t target, uint16_t lun, uint64_t *page, void *bytes, bool *found) {
+  if (faults.refused) return faults.refused--, VSCSI_NO_MEMORY;
+  return __real_vscsi_live_give(device, target, lun, page, bytes, found);
+}
+
+enum vscsi_answer __real_vscsi_live_written(struct vscsi_live *device, uint8_t target, uint16_t lun, uint64_t page, bool kept);
+enum vscsi_answer __wrap_vscsi_live_written(struct vscsi_live *device, uint8_t target, uint16_t lun, uint64_t page, bool kept);
+
+enum vscsi_answer __wrap_vscsi_live_written(struct vscsi_live *device, uint8_t target, uint16_t lun, uint64_t page, bool kept) {
+  if (faults.refused) return faults.refused--, VSCSI_NO_MEMORY;
+  return __real_vscsi_live_written(device, target, lun, page, kept);
 }
 
 bool __real_uring_next(struct uring *uring, void **what, int *result);
