@@ -214,6 +214,14 @@ void test_backed_unread(void) {
     faults_clear();
     MUST(await(&front, Q, 20, PATIENCE) == 20 && !disks.disks[0].paging->reading.error);
     for (unsigned i = 0; i < 20; i++) MUST(is_good(&front, i) && is_filled(buffer_of(&front, i), page_at(i), 1));
+    // Beside one page that can't be read others are, though not at once, and that is said once.
+    faults.read_error = EIO;
+    faults.bad_page = page_at(40);
+    for (unsigned i = 35; i < 45; i++) put_read_of(&front, 0, Q, i, page_at(i) * 8);
+    driver_kick(&front, Q);
+    MUST(await(&front, Q, 9, PATIENCE) == 9 && await(&front, Q, 1, NOTHING) == 0 && disks.disks[0].paging->reading.error);
+    clear_faults(&front);
+    MUST(await(&front, Q, 1, PATIENCE) == 1 && is_filled(buffer_of(&front, 40), page_at(40), 1) && !disks.disks[0].paging->reading.error);
     load_end(&front, &disks);
   }
 }

@@ -185,7 +185,8 @@ static unsigned held_count;
 static int result_of(const struct transfer *transfer, int result) {
   off_t at = (off_t)(transfer->first * PAGE_BYTES);
   bool writes = transfer->kind == TRANSFER_WRITE || transfer->kind == TRANSFER_HOLE, is_its = !faults.only || faults.only == transfer->file;
-  if (transfer->kind == TRANSFER_READ && faults.read_error && is_its) return -faults.read_error;
+  bool has_bad = !faults.bad_page || (faults.bad_page >= transfer->first && faults.bad_page - transfer->first < transfer->count);
+  if (transfer->kind == TRANSFER_READ && faults.read_error && is_its && has_bad) return -faults.read_error;
   if (writes && faults.write_error && is_its && !faults.writes--) {
     faults.writes = 0;
     spoil(transfer->file, at, (size_t)transfer->bytes);

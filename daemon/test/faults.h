@@ -12,7 +12,8 @@
 struct faults {
   int only;             // the descriptor whose writes fail, or 0 where all do
   const void *storage;  // of backed disks: of it no transfer is over where the time of storage_pass is
-  int read_error;       // by which READs of pages fail, or 0
+  int read_error;       // by which READs of pages fail, or 0, and of which page, or of all where it is 0
+  uint64_t bad_page;
   bool held;            // no READ of a page is over
   int write_error;      // by which pwrite, or a WRITE of pages, fails, or 0; such pages are garbage then
   unsigned writes;      // that go well before that
