@@ -74,11 +74,12 @@ static json_t *stats_of(const struct controlled *controlled, size_t which) {
   const struct disk *disk = &controlled->disks->disks[which];
   const struct backend *backend = live(controlled);
   struct vscsi_counts counts = disk->counts;
+  int error = disk->error || !disk->paging ? disk->error : disk->paging->reading.error;
   char name[20];
   if (backend) backend_count(backend, which, &counts);
   snprintf(name, sizeof name, "%u:%u", disk->target, disk->lun);
   json_t *told = json_pack("{s:s,s:I,s:o,s:s?,s:I,s:I,s:I,s:I,s:I,s:I,s:I}", "disk", name, "bytes", (json_int_t)(disk->blocks * DEVICE_BLOCK),
-                   "file", text_of(disk->path), "error", disk->error ? strerror(disk->error) : NULL, "requests", (json_int_t)counts.left,
+                   "file", text_of(disk->path), "error", error ? strerror(error) : NULL, "requests", (json_int_t)counts.left,
                    "task-set-full", (json_int_t)counts.full, "good", (json_int_t)counts.good, "check-condition",
                    (json_int_t)counts.check_conditions, "busy", (json_int_t)counts.busy, "data-out", (json_int_t)counts.data_out,
                    "data-in", (json_int_t)counts.data_in);

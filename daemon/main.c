@@ -262,8 +262,11 @@ static int run(struct daemon *daemon) {
   bool served = serve(daemon);
   control_end(&daemon->control);
   if (daemon->connected) end_session(daemon, "the daemon ends");
-  if (!blocks_finish(&daemon->disks, why, sizeof why) || !paging_finish(&daemon->disks, why, sizeof why)) return refuse(why);
-  return served ? 0 : REFUSED;
+  // Of both kinds of disks all is tried, whatever becomes of the others.
+  bool written = paging_finish(&daemon->disks, why, sizeof why);
+  if (!written) log_say(LOG_ERROR, NULL, "%s", why);
+  if (!blocks_finish(&daemon->disks, why, sizeof why)) return refuse(why);
+  return served && written ? 0 : REFUSED;
 }
 
 // Has something stand at the standard descriptors, so none of the daemon's own files is taken for one of them.

@@ -101,7 +101,7 @@ static void change_runs(struct paging *paging, enum run_state from, enum run_sta
 // Has reads go on as ever where the page was read that couldn't be, or no command has wanted it for long.
 static RARE void note_read(struct trouble *reading, const struct transfer *transfer) {
   bool has_page = reading->page >= transfer->first && reading->page - transfer->first < transfer->count;
-  if (has_page || clock_now() - reading->due >= COMPLAINT) *reading = (struct trouble){.told = reading->told};
+  if (has_page || clock_now() >= reading->due + COMPLAINT) *reading = (struct trouble){.told = reading->told};
 }
 
 static void finish_read(struct disk *disk, struct device *device, const struct transfer *transfer, int error) {

@@ -11,7 +11,8 @@ struct uring;
 // Returns whether this daemon is built with liburing.
 bool uring_is_built(void);
 
-// Makes a ring for so many requests under way. Returns NULL, with errno, where the system refuses it.
+// Makes a ring for so many requests under way, which takes none but those below (Linux 5.10). Returns NULL, with errno, where the system
+// refuses it.
 struct uring *uring_make(unsigned most);
 void uring_end(struct uring *uring);
 

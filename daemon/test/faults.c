@@ -146,6 +146,31 @@ enum vscsi_answer __wrap_vscsi_live_serve(struct vscsi_live *device, uint32_t qu
   return answer;
 }
 
+enum vscsi_answer __real_vscsi_live_load(struct vscsi_live *device, uint8_t target, uint16_t lun, uint64_t page, const void *bytes);
+enum vscsi_answer __wrap_vscsi_live_load(struct vscsi_live *device, uint8_t target, uint16_t lun, uint64_t page, const void *bytes);
+
+enum vscsi_answer __wrap_vscsi_live_load(struct vscsi_live *device, uint8_t target, uint16_t lun, uint64_t page, const void *bytes) {
+  if (faults.refused) return faults.refused--, VSCSI_NO_MEMORY;
+  faults.handed_in++;
+  return __real_vscsi_live_load(device, target, lun, page, bytes);
+}
+
+enum vscsi_answer __real_vscsi_live_give(struct vscsi_live *device, uint8_t target, uint16_t lun, uint64_t *page, void *bytes, bool *found);
+enum vscsi_answer __wrap_vscsi_live_give(struct vscsi_live *device, uint8_t target, uint16_t lun, uint64_t *page, void *bytes, bool *found);
+
+enum vscsi_answer __wrap_vscsi_live_give(struct vscsi_live *device, uint8_t target, uint16_t lun, uint64_t *page, void *bytes, bool *found) {
+  if (faults.refused) return faults.refused--, VSCSI_NO_MEMORY;
+  return __real_vscsi_live_give(device, target, lun, page, bytes, found);
+}
+
+enum vscsi_answer __real_vscsi_live_written(struct vscsi_live *device, uint8_t target, uint16_t lun, uint64_t page, bool kept);
+enum vscsi_answer __wrap_vscsi_live_written(struct vscsi_live *device, uint8_t target, uint16_t lun, uint64_t page, bool kept);
+
+enum vscsi_answer __wrap_vscsi_live_written(struct vscsi_live *device, uint8_t target, uint16_t lun, uint64_t page, bool kept) {
+  if (faults.refused) return faults.refused--, VSCSI_NO_MEMORY;
+  return __real_vscsi_live_written(device, target, lun, page, kept);
+}
+
 bool __real_uring_next(struct uring *uring, void **what, int *result);
 bool __wrap_uring_next(struct uring *uring, void **what, int *result);
 
@@ -160,7 +185,8 @@ static unsigned held_count;
 static int result_of(const struct transfer *transfer, int result) {
   off_t at = (off_t)(transfer->first * PAGE_BYTES);
   bool writes = transfer->kind == TRANSFER_WRITE || transfer->kind == TRANSFER_HOLE, is_its = !faults.only || faults.only == transfer->file;
-  if (transfer->kind == TRANSFER_READ && faults.read_error && is_its) return -faults.read_error;
+  bool has_bad = !faults.bad_page || (faults.bad_page >= transfer->first && faults.bad_page - transfer->first < transfer->count);
+  if (transfer->kind == TRANSFER_READ && faults.read_error && is_its && has_bad) return -faults.read_error;
   if (writes && faults.write_error && is_its && !faults.writes--) {
     faults.writes = 0;
     spoil(transfer->file, at, (size_t)transfer->bytes);

@@ -1,5 +1,6 @@
 // Files that can't be written, memory that is refused, and time that passes: the tests' own pwrite, fdatasync, clock_gettime,
-// vscsi_live_serve, vscsi_live_create, vscsi_disk_load and uring_next, which fail where they are told to. And what serving costs. Calls of the
+// vscsi_live_serve, vscsi_live_create, vscsi_disk_load, vscsi_live_load, vscsi_live_give, vscsi_live_written and uring_next,
+// which fail where they are told to, or count. And what serving costs. Calls of the
 // library's, of malloc and the like and of snprintf come here by the linker's word --wrap.
 #ifndef DAEMON_TEST_FAULTS_H
 #define DAEMON_TEST_FAULTS_H
@@ -11,7 +12,8 @@
 struct faults {
   int only;             // the descriptor whose writes fail, or 0 where all do
   const void *storage;  // of backed disks: of it no transfer is over where the time of storage_pass is
-  int read_error;       // by which READs of pages fail, or 0
+  int read_error;       // by which READs of pages fail, or 0, and of which page, or of all where it is 0
+  uint64_t bad_page;
   bool held;            // no READ of a page is over
   int write_error;      // by which pwrite, or a WRITE of pages, fails, or 0; such pages are garbage then
   unsigned writes;      // that go well before that
@@ -26,7 +28,9 @@ struct faults {
   unsigned comes_after;
   unsigned slow;        // microseconds that pwrite takes
   uint64_t bytes;       // that pwrite wrote, or WRITEs of pages
-  unsigned syncs;       // of backed disks that were done
+  unsigned syncs;       // of backed disks that were done, and pages that were handed in
+  unsigned handed_in;
+  unsigned refused;     // how many calls of vscsi_live_load, vscsi_live_give and vscsi_live_written are refused memory
   unsigned passed;      // seconds that passed besides, which faults_clear leaves alone
 };
 
