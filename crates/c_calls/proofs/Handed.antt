@@ -49,7 +49,7 @@ pub are_for : (units : List UnitSpec) (disks : List (Option UnitDisk)) (stores :
 are_for units disks stores many fit are =
     record {
       count = omega (arith, many, ap length are, length-map stores (λ s. Some s));
-      sizes = λ k u s at there.
+      each = λ k u s at there.
           fit k u (Some s) at (ap (λ xs. slice_get xs k) are ∙ get_image (λ x. Some x) stores k s there);
     }
 

@@ -20,6 +20,13 @@ map_set f [] k x = refl
 map_set f (y ∷ xs) zero x = refl
 map_set f (y ∷ xs) (suc k) x = ap (λ ys. f y ∷ ys) (map_set f xs k x)
 
+-- what is set in place of what has the same image leaves the images
+pub put_same : {X Y : Type 0} (f : X → Y) (xs : List X) (k : ℕ) (x d : X) → f x ≡ f (slice_index_or xs k d)
+    → map f (slice_set xs k x) ≡ map f xs
+put_same f [] k x d e = refl
+put_same f (y ∷ xs) zero x d e = ap (λ z. z ∷ map f xs) e
+put_same f (y ∷ xs) (suc k) x d e = ap (λ zs. f y ∷ zs) (put_same f xs k x d e)
+
 pub set_length : {X : Type 0} (xs : List X) (k : ℕ) (x : X) → length (slice_set xs k x) ≡ length xs
 set_length [] k x = refl
 set_length (y ∷ xs) zero x = refl

@@ -39,7 +39,7 @@ CreatesDisk blocks None a after = ⊥
 -- has these bytes
 pub record IsBackedOver (content : List ℕ) (blocks most_pages : ℕ) (s : UnitDisk) : Type 0 where
   pub size : size_of s ≡ blocks
-  pub blocks : (b : ℕ) → blocks_of s b ≡ blocks_in content b
+  pub contents : (b : ℕ) → blocks_of s b ≡ blocks_in content b
   pub absent : (b : ℕ) → holds s b ≡ false
   pub storage : storage_of s ≡ Some (record { content = content; dealings = [] })
   pub budget : budget_of s ≡ Some most_pages

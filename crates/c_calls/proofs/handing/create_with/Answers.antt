@@ -1,4 +1,6 @@
-use Rattle.std.proofs.Common.{◌≡◌, length, map, None, Some, refl, sym, ap, ◌∙◌, subst, arith, inl, inr}
+use Rattle.std.proofs.Common.{◌≡◌, true, length, map, None, Some, refl, sym, ap, ◌∙◌, subst, arith, inl, inr}
+use Rattle.std.specs.Prelude.{is_some}
+use Rattle.std.specs.List.{list_all}
 use Rattle.std.proofs.lemmas.List.{length-map}
 use Rattle.request_intake.specs.declared.inventory.UnitSpec.{UnitSpec}
 use Rattle.device_steps.specs.Opening.{IsOpening, OpensFor}
@@ -31,24 +33,24 @@ returns-in-Some-lacking c =
         taken = sym c.in_default-fault.ensures.none;
         lacks =
             subst (λ k. Lacks c.in-Ok.config.units.items (disks_at c.args.disks.now) k) (sym (ap (λ (x : Cause). x.place) c.no_disk_at.ensures))
-            (subst (λ us. Lacks us (disks_at c.args.disks.now) c.in-Some-lacking.place) c.as_slice.ensures.value c.in-Some-lacking.ensures);
+            (subst (λ us. Lacks us (disks_at c.args.disks.now) c.in-Some-lacking.place) c.as_slice.ensures.value c.in-Some-lacking.ensures.found);
         named =
             c.no_disk_at.ensures
             ∙ ap (λ k. record { cause = 13; place = k; detail = 0 }) (sym (ap (λ (x : Cause). x.place) c.no_disk_at.ensures));
       }),
       none,
-      refl,
+      c.in-Some-lacking.ensures.same,
     )
 
 pub returns-in_default-new-2 : goal.returns-in_default-new-2
 returns-in_default-new-2 c =
     let none = absent _ (sym c.is_there.ensures ∙ c.if-is_there.false) in
-    created_over _ _ _ _ _ _ _ _ _ _ _ none (none, refl, refl)
+    created_over _ _ _ _ _ _ _ _ _ _ _ none (none, refl, c.in_default-lacking.ensures.same)
 
 pub take_out-stores-requires-clause-there : goal.take_out-stores-requires-clause-there
 take_out-stores-requires-clause-there c =
     let fit : Fit c.in-Ok.config.units.items (disks_at c.args.disks.now) =
-    subst (λ (us : _). Fit us (disks_at c.args.disks.now)) c.as_slice.ensures.value c.in_default-lacking.ensures in
+    subst (λ (us : _). Fit us (disks_at c.args.disks.now)) c.as_slice.ensures.value c.in_default-lacking.ensures.found in
     let many : length (disks_at c.args.disks.now) ≡ length c.in-Ok.config.units.items =
     omega (
       arith,
@@ -57,12 +59,12 @@ take_out-stores-requires-clause-there c =
       ap (λ us. length us) c.in-Ok.ensures.units_are,
       length-map c.args.units.now spec_of,
     ) in
-    all_there _ _ many fit
+    subst (λ ds. list_all is_some ds ≡ true) (sym c.in_default-lacking.ensures.same) (all_there _ _ many fit)
 
 pub hand_in-requires : goal.hand_in-requires
 hand_in-requires c =
     let fit : Fit c.in-Ok.config.units.items (disks_at c.args.disks.now) =
-    subst (λ (us : _). Fit us (disks_at c.args.disks.now)) c.as_slice.ensures.value c.in_default-lacking.ensures in
+    subst (λ (us : _). Fit us (disks_at c.args.disks.now)) c.as_slice.ensures.value c.in_default-lacking.ensures.found in
     let many : length (disks_at c.args.disks.now) ≡ length c.in-Ok.config.units.items =
     omega (
       arith,
@@ -79,7 +81,7 @@ hand_in-requires c =
             config = c.in-Ok.config;
             taken = c.in-Ok-new.ensures.opening.0;
             opening = c.in-Ok-new.ensures.opening.1;
-            are = are_for _ _ _ many fit c.take_out-stores.ensures.were;
+            are = are_for _ _ _ many fit (sym c.in_default-lacking.ensures.same ∙ c.take_out-stores.ensures.were);
           });
     }
 
@@ -87,7 +89,7 @@ pub returns : goal.returns
 returns c =
     let none = absent _ (sym c.is_there.ensures ∙ c.if-is_there.false) in
     let fit : Fit c.in-Ok.config.units.items (disks_at c.args.disks.now) =
-    subst (λ (us : _). Fit us (disks_at c.args.disks.now)) c.as_slice.ensures.value c.in_default-lacking.ensures in
+    subst (λ (us : _). Fit us (disks_at c.args.disks.now)) c.as_slice.ensures.value c.in_default-lacking.ensures.found in
     let many : length (disks_at c.args.disks.now) ≡ length c.in-Ok.config.units.items =
     omega (
       arith,
@@ -104,7 +106,7 @@ returns c =
       c.in-Ok.ensures,
       record {
         taken = c.in-Ok-new.ensures.opening.0;
-        disks = are_for _ _ _ many fit c.take_out-stores.ensures.were;
+        disks = are_for _ _ _ many fit (sym c.in_default-lacking.ensures.same ∙ c.take_out-stores.ensures.were);
         opening =
             c.hand_in.ensures.over c.in-Ok.config
             (subst (λ w. IsOpening c.in-Ok.config w) (sym (ap (λ d. d.world) made)) c.in-Ok-new.ensures.opening.1);
@@ -112,7 +114,7 @@ returns c =
         reaches = c.hand_in.ensures.reaches;
         told = ap (λ d. d.told) made ∙ c.new-told.ensures;
       },
-      c.take_out-stores.ensures.were,
+      sym c.in_default-lacking.ensures.same ∙ c.take_out-stores.ensures.were,
       c.put.ensures,
       refl,
       c.take_out-stores.ensures.none,

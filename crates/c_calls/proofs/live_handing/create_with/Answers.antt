@@ -1,4 +1,6 @@
 use Rattle.std.proofs.Common.{◌≡◌, ◌^◌, true, length, refl, sym, ap, ◌∙◌, subst, arith, inl, inr}
+use Rattle.std.specs.Prelude.{is_some}
+use Rattle.std.specs.List.{list_all}
 use Rattle.std.proofs.lemmas.List.{length-map}
 use Rattle.config.specs.Config.{is_config_for}
 use Rattle.host_bus.specs.Map.{map_of}
@@ -35,24 +37,24 @@ returns-in-Some-lacking c =
         taken = sym c.in_default-fault_for.ensures.none;
         lacks =
             subst (λ k. Lacks c.in-Ok.config.units.items (disks_at c.args.disks.now) k) (sym (ap (λ (x : Cause). x.place) c.no_disk_at.ensures))
-            (subst (λ us. Lacks us (disks_at c.args.disks.now) c.in-Some-lacking.place) c.as_slice.ensures.value c.in-Some-lacking.ensures);
+            (subst (λ us. Lacks us (disks_at c.args.disks.now) c.in-Some-lacking.place) c.as_slice.ensures.value c.in-Some-lacking.ensures.found);
         named =
             c.no_disk_at.ensures
             ∙ ap (λ k. record { cause = 13; place = k; detail = 0 }) (sym (ap (λ (x : Cause). x.place) c.no_disk_at.ensures));
       }),
       none,
-      refl,
+      c.in-Some-lacking.ensures.same,
     )
 
 pub returns-in_default-open : goal.returns-in_default-open
 returns-in_default-open c =
     let none = absent _ (sym c.is_there.ensures ∙ c.if-is_there.false) in
-    created_over _ _ _ _ _ _ _ _ _ _ _ none (none, refl, refl)
+    created_over _ _ _ _ _ _ _ _ _ _ _ none (none, refl, c.in_default-lacking.ensures.same)
 
 pub take_out-stores-requires-clause-there : goal.take_out-stores-requires-clause-there
 take_out-stores-requires-clause-there c =
     let fit : Fit c.in-Ok.config.units.items (disks_at c.args.disks.now) =
-    subst (λ (us : _). Fit us (disks_at c.args.disks.now)) c.as_slice.ensures.value c.in_default-lacking.ensures in
+    subst (λ (us : _). Fit us (disks_at c.args.disks.now)) c.as_slice.ensures.value c.in_default-lacking.ensures.found in
     let many : length (disks_at c.args.disks.now) ≡ length c.in-Ok.config.units.items =
     omega (
       arith,
@@ -61,7 +63,7 @@ take_out-stores-requires-clause-there c =
       ap (λ us. length us) c.in-Ok.ensures.units_are,
       length-map c.args.units.now spec_of,
     ) in
-    all_there _ _ many fit
+    subst (λ ds. list_all is_some ds ≡ true) (sym c.in_default-lacking.ensures.same) (all_there _ _ many fit)
 
 pub open-requires : goal.open-requires
 open-requires c = sym c.in_default-fault_for.ensures.none
@@ -69,7 +71,7 @@ open-requires c = sym c.in_default-fault_for.ensures.none
 pub hand_in-requires : goal.hand_in-requires
 hand_in-requires c =
     let fit : Fit c.in-Ok.config.units.items (disks_at c.args.disks.now) =
-    subst (λ (us : _). Fit us (disks_at c.args.disks.now)) c.as_slice.ensures.value c.in_default-lacking.ensures in
+    subst (λ (us : _). Fit us (disks_at c.args.disks.now)) c.as_slice.ensures.value c.in_default-lacking.ensures.found in
     let many : length (disks_at c.args.disks.now) ≡ length c.in-Ok.config.units.items =
     omega (
       arith,
@@ -89,7 +91,7 @@ hand_in-requires c =
             config = c.in-Ok.config;
             taken = subst (λ n. is_config_for n c.in-Ok.config ≡ true) (sym size) made.taken;
             opening = subst (λ n. IsOpeningApart n c.in-Ok.config d.world.device) (sym size) made.opening;
-            are = are_for _ _ _ many fit c.take_out-stores.ensures.were;
+            are = are_for _ _ _ many fit (sym c.in_default-lacking.ensures.same ∙ c.take_out-stores.ensures.were);
           });
     }
 
@@ -97,7 +99,7 @@ pub returns : goal.returns
 returns c =
     let none = absent _ (sym c.is_there.ensures ∙ c.if-is_there.false) in
     let fit : Fit c.in-Ok.config.units.items (disks_at c.args.disks.now) =
-    subst (λ (us : _). Fit us (disks_at c.args.disks.now)) c.as_slice.ensures.value c.in_default-lacking.ensures in
+    subst (λ (us : _). Fit us (disks_at c.args.disks.now)) c.as_slice.ensures.value c.in_default-lacking.ensures.found in
     let many : length (disks_at c.args.disks.now) ≡ length c.in-Ok.config.units.items =
     omega (
       arith,
@@ -121,7 +123,7 @@ returns c =
         over = ap (λ m. map_of (bus_of m)) c.hand_in.ensures.memory ∙ ap (λ d. map_of (bus_of d.world.memory)) same ∙ made.over;
         taken = made.taken;
         size = is;
-        disks = are_for _ _ _ many fit c.take_out-stores.ensures.were;
+        disks = are_for _ _ _ many fit (sym c.in_default-lacking.ensures.same ∙ c.take_out-stores.ensures.were);
         opening =
             subst (λ n. IsOpeningOverApart n c.in-Ok.config c.take_out-stores.result.items new.device) was
             (c.hand_in.ensures.over c.in-Ok.config
@@ -132,7 +134,7 @@ returns c =
         told = ap (λ d. d.told) same ∙ made.told;
         rings = ap (λ d. d.rings) same ∙ made.rings;
       },
-      c.take_out-stores.ensures.were,
+      sym c.in_default-lacking.ensures.same ∙ c.take_out-stores.ensures.were,
       c.put.ensures,
       refl,
       c.take_out-stores.ensures.none,
