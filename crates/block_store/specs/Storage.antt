@@ -1,5 +1,6 @@
 -- What the host's storage has of a disk whose pages come and go.
-use Rattle.std.specs.Prelude.{ℕ, ◌≡◌, ◌<◌, ◌+◌, ◌*◌, ◌/◌, ◌%◌, ◌==◌, ◌++◌, List, [], ◌∷◌, nat_lt, if◌then◌else◌}
+use Rattle.std.specs.Prelude.{ℕ, ◌≡◌, ◌<◌, ◌+◌, ◌*◌, ◌/◌, ◌%◌, ◌==◌, ◌++◌, Bool, false, List, [], ◌∷◌, nat_lt, if◌then◌else◌}
+use Rattle.std.specs.List.{list_any}
 use Rattle.block_store.specs.Blocks.{Blocks, nth_block, zero_block}
 use Rattle.block_store.specs.Pages.{blocks_in}
 
@@ -9,10 +10,11 @@ pub record Storage : Type 0 where
   pub kept : Blocks
 
 -- own: the host takes the bytes of a page to write them; it says that it wrote the page as it was last given it, so that a
--- crash leaves it; it cuts its storage off at a block
+-- crash leaves it; it says that it can't read the page; it cuts its storage off at a block
 pub data Dealing : Type 0 where
   Give : ℕ → List ℕ → Dealing
   Keep : ℕ → Dealing
+  Lose : ℕ → Dealing
   Cut : ℕ → Dealing
 
 -- with the blocks of page p that `from` has
@@ -26,6 +28,7 @@ cut n blocks b = if nat_lt b n then blocks b else zero_block
 abbrev pub dealt : Dealing → Storage → Storage
 dealt (Dealing.Give p bytes) s = record s { given = with_page p (λ b. blocks_in bytes (b % 8)) s.given }
 dealt (Dealing.Keep p) s = record s { kept = with_page p s.given s.kept }
+dealt (Dealing.Lose p) s = s
 dealt (Dealing.Cut n) s = record { given = cut n s.given; kept = cut n s.kept }
 
 -- once all of this was done, the first of it first
@@ -49,6 +52,14 @@ storage_by l = all_dealt l.dealings (opening l.content)
 -- own: with one more
 abbrev pub and_then : Dealing → Ledger → Ledger
 and_then d l = record l { dealings = l.dealings ++ d ∷ [] }
+
+-- own: the host said that it can't read page p
+abbrev pub loses : ℕ → Dealing → Bool
+loses p (Dealing.Lose q) = p == q
+loses p d = false
+
+abbrev pub is_lost : ℕ → Ledger → Bool
+is_lost p l = list_any (loses p) l.dealings
 
 -- the bytes are the 8 blocks of page p
 abbrev pub IsPageOf : Blocks → ℕ → List ℕ → Type 0

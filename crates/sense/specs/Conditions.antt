@@ -1,6 +1,6 @@
 -- The conditions that the device reports, each by its sense key, additional sense code and
 -- additional sense code qualifier, SPC-4 §4.5.
-use Rattle.std.specs.Prelude.{ℕ, None, Some}
+use Rattle.std.specs.Prelude.{ℕ, ◌^◌, Option, None, Some, nat_lt, if◌then◌else◌}
 use Rattle.sense.specs.declared.Sense.{Sense}
 use Rattle.sense.specs.declared.SenseFormat.TheVariants.{Fixed}
 
@@ -11,6 +11,15 @@ condition key asc ascq = record { key = key; asc = asc; ascq = ascq; format = Fi
 -- sense key 0h, NO SENSE
 abbrev pub no_sense : Sense
 no_sense = condition 0x0 0x00 0x00
+
+-- a block's number as information, where 4 bytes can hold it: else the information isn't valid (SBC-3 §4.18)
+abbrev pub block_information : ℕ → Option ℕ
+block_information b = if nat_lt b (2 ^ 32) then Some b else None
+
+-- sense key 3h, MEDIUM ERROR: UNRECOVERED READ ERROR, with the block that can't be read as its information
+abbrev pub unrecovered_read_error : ℕ → Sense
+unrecovered_read_error b =
+    record { key = 0x3; asc = 0x11; ascq = 0x00; format = Fixed; information = block_information b }
 
 -- sense key 5h, ILLEGAL REQUEST
 abbrev pub parameter_list_length_error : Sense
