@@ -3,7 +3,7 @@ use Rattle.std.proofs.Common.{◌≡◌, ℕ, ◌+◌, ◌-◌, ◌≤◌, Bool,
 use Rattle.ring_core.specs.declared.log.Ticket.{Ticket}
 use Rattle.block_store.specs.Blocks.{Blocks}
 use Rattle.foundation.specs.declared.NoMemory.{NoMemory}
-use Rattle.block_store.specs.Storage.{Ledger}
+use Rattle.block_store.specs.Storage.{Ledger, IsLostIn}
 use Rattle.unit_attention.specs.declared.code.Code.{Code}
 use Rattle.block_commands.specs.declared.facts.UnitFacts.{UnitFacts}
 use Rattle.block_commands.specs.Inner.Told.{facts_of}
@@ -45,7 +45,7 @@ use Rattle.unit_history.specs.Serving.{ServesAlone}
 use Rattle.unit_model.specs.Unit.{Steps}
 use Rattle.unit_history.specs.declared.outcomes.Entered.TheVariants as entered
 use Rattle.unit_history.proofs.Basing.{based_way, based_on, ran_folds}
-use Rattle.unit_history.proofs.Committing.{is_of, keep_run, commits_run}
+use Rattle.unit_history.proofs.Committing.{is_of, keep_run, commits_run, performed_comes}
 use Rattle.unit_history.proofs.Entering.{enters_task}
 use Rattle.unit_history.proofs.Keeping.{CameTo, is_ready, may_leave, keep_enter, keep_leave}
 use Rattle.unit_history.proofs.Noting.{recorded_on, recorded_run}
@@ -158,7 +158,8 @@ module _ (o : Opening) (past : List Step) (block_at : Blocks) (pending : List Co
     kept_ran room2 less =
         subst (λ ts. AreKept o (step_for j.entry.ticket p ∷ Step.Enter j.entry ∷ past) block_at' pending' ts last_tickets' room2)
         (ends_so (length past) j)
-        (keep_run (kept_entered room1 reserve) j.entry.ticket j.entry false facts p block_at' pending' room2 ready as_told ran less)
+        (keep_run (kept_entered room1 reserve) j.entry.ticket j.entry false facts (IsLostIn None) p block_at' pending' room2 ready as_told
+        (performed_comes false facts (IsLostIn None) j.entry.command j.entry.data_out p block_at block_at' pending pending' ran) less)
 
     -- it left
     pub kept_left : (room2 room3 : ℕ) → room1 ≤ room2 + 1 → room2 ≤ room3 + 1
@@ -198,7 +199,7 @@ module _ (o : Opening) (past : List Step) (block_at : Blocks) (pending : List Co
           enters = enters storage named;
           commits = commits_run (kept_entered room1 reserve) j j.entry false storage storage facts p block_at' pending' refl
               (is_of (kept_entered room1 reserve) j (task_of_job (length past) j false false) (is_found (length past) j false) refl)
-              ready as_told ran;
+              ready as_told (performed_comes false facts (IsLostIn storage) j.entry.command j.entry.data_out p block_at block_at' pending pending' ran);
           answered = answered;
           leaves = subst (λ t. Steps (unit_with o (step_for j.entry.ticket p ∷ Step.Enter j.entry ∷ past) [] false storage) (Step.Leave t)
               (unit_with o (Step.Leave j.entry.ticket ∷ step_for j.entry.ticket p ∷ Step.Enter j.entry ∷ past) [] false storage))
