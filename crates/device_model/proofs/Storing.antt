@@ -44,6 +44,18 @@ given_kept : (page : ℕ) (o : Option Ledger)
 given_kept page None = refl
 given_kept page (Some l) = ap (λ (s : Storage). Some s.given) (last_dealt l.dealings (Dealing.Keep page) (opening l.content))
 
+kept_lost : (page : ℕ) (o : Option Ledger)
+    → option_map (λ (l : Ledger). (storage_by l).kept) (option_map (and_then (Dealing.Lose page)) o)
+    ≡ option_map (λ (l : Ledger). (storage_by l).kept) o
+kept_lost page None = refl
+kept_lost page (Some l) = ap (λ (s : Storage). Some s.kept) (last_dealt l.dealings (Dealing.Lose page) (opening l.content))
+
+given_lost : (page : ℕ) (o : Option Ledger)
+    → option_map (λ (l : Ledger). (storage_by l).given) (option_map (and_then (Dealing.Lose page)) o)
+    ≡ option_map (λ (l : Ledger). (storage_by l).given) o
+given_lost page None = refl
+given_lost page (Some l) = ap (λ (s : Storage). Some s.given) (last_dealt l.dealings (Dealing.Lose page) (opening l.content))
+
 pub given_stays : (d : Transition) (w : PlainWorld) (place : ℕ) (u v : PlainUnit) → UnitIs w place u → UnitIs (after d w) place v
     → gives place d ≡ false → given_of v ≡ given_of u
 given_stays (Transition.Run x) w place u v at now off =
@@ -68,6 +80,8 @@ given_stays (Transition.Resize k blocks) w place u v at now off =
     ap (λ z. given_of z) (elsewhere (stepped (Step.Resize blocks)) k w.units place u v off at now)
 given_stays (Transition.Deal k (Dealing.Keep page)) w place u v at now off =
     unchanged given_of (dealing (Dealing.Keep page)) k w.units (λ z. given_kept page z.storage) place u v at now
+given_stays (Transition.Deal k (Dealing.Lose page)) w place u v at now off =
+    unchanged given_of (dealing (Dealing.Lose page)) k w.units (λ z. given_lost page z.storage) place u v at now
 given_stays (Transition.Deal k (Dealing.Give page bytes)) w place u v at now off =
     ap (λ z. given_of z) (elsewhere (dealing (Dealing.Give page bytes)) k w.units place u v off at now)
 given_stays (Transition.Deal k (Dealing.Cut blocks)) w place u v at now off =
@@ -98,6 +112,8 @@ kept_stays (Transition.Resize k blocks) w place u v at now off =
     ap (λ z. kept_of z) (elsewhere (stepped (Step.Resize blocks)) k w.units place u v off at now)
 kept_stays (Transition.Deal k (Dealing.Give page bytes)) w place u v at now off =
     unchanged kept_of (dealing (Dealing.Give page bytes)) k w.units (λ z. kept_given page bytes z.storage) place u v at now
+kept_stays (Transition.Deal k (Dealing.Lose page)) w place u v at now off =
+    unchanged kept_of (dealing (Dealing.Lose page)) k w.units (λ z. kept_lost page z.storage) place u v at now
 kept_stays (Transition.Deal k (Dealing.Keep page)) w place u v at now off =
     ap (λ z. kept_of z) (elsewhere (dealing (Dealing.Keep page)) k w.units place u v off at now)
 kept_stays (Transition.Deal k (Dealing.Cut blocks)) w place u v at now off =

@@ -28,7 +28,8 @@ pub uncached_replies : (o : Opening) (e : Entry) (past : List Step) (r : PlainRe
 uncached_replies o e past r (inl is) uncached = is
 uncached_replies o e past r (inr h) uncached = absurd (let f : false ≡ true = sym uncached ∙ h.1.cached in cc)
 
-weaker : (u : PlainUnit) (e : Entry) (r : PlainReply) → Replies u e r → MayReply u.opening e u.steps r
+-- what a unit replies is what its history may reply
+pub weaker : (u : PlainUnit) (e : Entry) (r : PlainReply) → Replies u e r → MayReply u.opening e u.steps r
 weaker u e r (inl is) = inl is
 weaker u e r (inr (p, h, lost)) = inr (p, h)
 
