@@ -1,11 +1,12 @@
 -- Transitions but for a few leave what the host's storage has of a unit's disk.
 use Rattle.std.proofs.Common.{◌≡◌, ℕ, Bool, true, false, ◌||◌, ◌&&◌, eqb, List, [], ◌∷◌, ◌++◌, Option, Some, None, refl, sym, ◌∙◌, ap}
-use Rattle.std.specs.Prelude.{slice_get, option_map, unwrap_or}
+use Rattle.std.specs.Prelude.{slice_get, option_map, unwrap_or, min}
 use Rattle.std.specs.List.{list_any}
 use Rattle.std.proofs.lemmas.List.Folds.{list_any-append}
 use Rattle.block_store.specs.Storage as storage
 use Rattle.block_store.specs.Storage.{Storage, Dealing, Ledger, dealt, all_dealt, opening, storage_by, and_then}
 use Rattle.unit_model.specs.Steps.{Step}
+use Rattle.unit_model.specs.Contents.{capacity_of}
 use Rattle.unit_model.specs.Unit.{PlainUnit, after as stepped, parking, dealing}
 use Rattle.task_mgmt.specs.Functions.{step_by}
 use Rattle.task_mgmt.specs.declared.kind.MarkBy.TheVariants.{Abort, Reset}
@@ -168,7 +169,8 @@ lost_stays (Transition.Mark t q (Reset c) jobs) w place p u v at now off =
 lost_stays (Transition.Hard q jobs) w place p u v at now off =
     unchanged (lost_of p) (stepped (Step.Reset hard_code)) q.unit w.units (λ z. refl) place u v at now
 lost_stays (Transition.Resize k blocks) w place p u v at now off =
-    unchanged (lost_of p) (stepped (Step.Resize blocks)) k w.units (λ z. lost_on p _ z.storage refl) place u v at now
+    unchanged (lost_of p) (stepped (Step.Resize blocks)) k w.units
+    (λ z. lost_on p (Dealing.Cut (min (capacity_of z.opening z.steps) blocks)) z.storage refl) place u v at now
 lost_stays (Transition.Deal k (Dealing.Keep page)) w place p u v at now off =
     unchanged (lost_of p) (dealing (Dealing.Keep page)) k w.units (λ z. lost_on p (Dealing.Keep page) z.storage refl) place u v at now
 lost_stays (Transition.Deal k (Dealing.Give page bytes)) w place p u v at now off =
