@@ -1,10 +1,8 @@
 //! Commands that need what their unit's host can't read.
 
-ghost use Rattle.std.specs.Prelude.{◌≡◌, ◌+◌, ◌*◌, ◌≤◌, ℕ, false, length, IfSome, IfNone, None, is_ok, ◌&&◌};
-ghost use Rattle.std.specs.List.{list_any};
-ghost use Rattle.cdb.specs.Need.{need_of};
+ghost use Rattle.std.specs.Prelude.{◌≡◌, ◌*◌, ◌≤◌, ◌&&◌, true, false, length, IfSome, IfNone, is_ok};
 ghost use Rattle.command_model.specs.PlainReply.{plain_of};
-ghost use Rattle.command_model.specs.Failing.{reaches, cuts, needs_page, needs_page_wide, first_named, first_named_wide, unread};
+ghost use Rattle.command_model.specs.Failing.{reaches, cuts, are_cut, needs_page, needs_page_wide, first_named, first_named_wide, unread};
 ghost use Rattle.command_model.specs.Replies.{unmap_answer};
 ghost use Rattle.command_model.specs.UnmapList.{descriptors, descriptors_in};
 ghost use Rattle.block_commands.specs.Inner.Told.{facts_of};
@@ -46,7 +44,7 @@ fn cuts(capacity: u64, lba: u64, count: u32, page: u64) -> bool
 /// Returns true if one of the descriptors cuts a page.
 fn cuts_any(capacity: u64, taken: &[u8], count: usize, page: u64) -> bool
     requires { 16 * count ≤ length taken.now }
-    ensures { result ≡ list_any (λ d. cuts capacity d.0 d.1 page) (descriptors_in count taken.now) }
+    ensures { result ≡ are_cut capacity (descriptors_in count taken.now) page }
 {
     for i in 0..count {
         let extent = extent_at(taken, i);
@@ -59,7 +57,7 @@ fn cuts_any(capacity: u64, taken: &[u8], count: usize, page: u64) -> bool
 
 /// Returns true if an UNMAP of this parameter list needs a page: it isn't refused, and a descriptor cuts it.
 fn unmap_needs(capacity: u64, list: &[u8], page: u64) -> bool
-    ensures { result ≡ (is_ok (unmap_answer capacity list.now) && list_any (λ d. cuts capacity d.0 d.1 page) (descriptors list.now)) }
+    ensures { result ≡ (is_ok (unmap_answer capacity list.now) && are_cut capacity (descriptors list.now) page) }
 {
     if list.len() < UNMAP_HEADER_BYTES {
         return false;

@@ -23,6 +23,10 @@ reaches blocks lba count p =
 abbrev pub cuts : ℕ → ℕ → ℕ → ℕ → Bool
 cuts blocks lba count p = reaches blocks lba count p && not (nat_le lba (8 * p) && nat_le (8 * p + 8) (lba + count))
 
+-- own: one of some ranges does, each an address and a number of blocks
+abbrev pub are_cut : ℕ → List (ℕ × ℕ) → ℕ → Bool
+are_cut blocks taken p = list_any (λ d. cuts blocks d.0 d.1 p) taken
+
 -- own: a command needs page p of a disk of so many blocks as the storage has it, where it reads a block of it, or writes over
 -- a part of it
 abbrev pub needs_page_wide : ℕ → WideCommand → ℕ → Bool
@@ -37,7 +41,7 @@ needs_page blocks (Read lba count) bytes p = reaches blocks lba count p
 needs_page blocks (Write lba count) bytes p = cuts blocks lba count p
 needs_page blocks (WriteSame lba count) bytes p = cuts blocks lba count p
 needs_page blocks (Unmap list_length) bytes p =
-    is_ok (unmap_answer blocks bytes) && list_any (λ d. cuts blocks d.0 d.1 p) (descriptors bytes)
+    is_ok (unmap_answer blocks bytes) && are_cut blocks (descriptors bytes) p
 needs_page blocks (CompareAndWrite lba count) bytes p = reaches blocks lba count p
 needs_page blocks (Wide command) bytes p = needs_page_wide blocks command p
 needs_page blocks _ bytes p = false
