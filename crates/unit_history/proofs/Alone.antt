@@ -48,6 +48,7 @@ use Rattle.unit_history.proofs.Basing.{based_way, based_on, ran_folds}
 use Rattle.unit_history.proofs.Committing.{is_of, keep_run, commits_run, performed_comes}
 use Rattle.unit_history.proofs.Entering.{enters_task}
 use Rattle.unit_history.proofs.Keeping.{CameTo, is_ready, may_leave, keep_enter, keep_leave}
+use Rattle.unit_history.proofs.Losing.{none_met}
 use Rattle.unit_history.proofs.Noting.{recorded_on, recorded_run}
 use Rattle.unit_history.proofs.Stepping.{unit_with, steps_is}
 
@@ -89,12 +90,6 @@ ran_in_place facts facts' capacity command out bytes r blocks pending is reply s
       stored = λ b. sym (ap (λ (w : PlainReply). block_after command out w.status blocks b) replied ∙ same b);
       pends = none_taken command pending (ap (λ (f : UnitFacts). f.pending) (sym is) ∙ calm);
     }
-
-none_met : (command : Command) (pending : Option Sense) → pending ≡ None → met command pending ≡ None
-none_met command pending none = elim (is_stopped command) as (λ b. cond b pending None ≡ None) [
-  | true ↦ none
-  | false ↦ refl
-]
 
 -- what a command reads is in memory where it is ready, and meets no attention
 pub held_for : (held room : ℕ → Bool) (size : ℕ) (command : Command) (out : List ℕ) (facts facts' : UnitFacts) → facts' ≡ facts
