@@ -59,12 +59,18 @@ fn cuts_any(capacity: u64, taken: &[u8], count: usize, page: u64) -> bool
 fn unmap_needs(capacity: u64, list: &[u8], page: u64) -> bool
     ensures { result ≡ (is_ok (unmap_answer capacity list.now) && are_cut capacity (descriptors list.now) page) }
 {
+    if list.is_empty() {
+        return false;
+    }
     if list.len() < UNMAP_HEADER_BYTES {
         return false;
     }
     let count = taken_descriptors(list);
     let (_, taken) = list.split_at(UNMAP_HEADER_BYTES);
-    if is_too_much(taken, count) || !are_in_range(capacity, taken, count) {
+    if is_too_much(taken, count) {
+        return false;
+    }
+    if !are_in_range(capacity, taken, count) {
         return false;
     }
     cuts_any(capacity, taken, count, page)
