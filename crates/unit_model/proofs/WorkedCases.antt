@@ -1,5 +1,5 @@
 -- The small histories are lawful.
-use Rattle.std.proofs.Common.{◌≡◌, ℕ, true, false, List, [], ◌∷◌, ◌++◌, length, take, Some, refl, ◌∙◌, ap, arith}
+use Rattle.std.proofs.Common.{◌≡◌, ℕ, true, false, List, [], ◌∷◌, ◌++◌, length, take, Some, refl, ◌∙◌, ap, arith, inl}
 use Rattle.std.proofs.lemmas.List.{append-nil, take_all}
 use Rattle.cdb.specs.declared.commands.Command.TheVariants.{Read}
 use Rattle.command_model.specs.PlainReply.{success}
@@ -25,15 +25,15 @@ ordered_is_lawful = (
         (
           (
             enters Ordered,
-            (test_unit_ready 0 Simple, record { is_there = refl; is_enabled = refl; is_unmarked = refl; is_undone = refl }, refl),
+            (test_unit_ready 0 Simple, record { is_there = refl; is_enabled = refl; is_unmarked = refl; is_undone = refl }, inl refl),
           ),
           (test_unit_ready 0 Simple, refl, refl),
         ),
-        (test_unit_ready 1 Ordered, record { is_there = refl; is_enabled = refl; is_unmarked = refl; is_undone = refl }, refl),
+        (test_unit_ready 1 Ordered, record { is_there = refl; is_enabled = refl; is_unmarked = refl; is_undone = refl }, inl refl),
       ),
       (test_unit_ready 1 Ordered, refl, refl),
     ),
-    (test_unit_ready 2 Simple, record { is_there = refl; is_enabled = refl; is_unmarked = refl; is_undone = refl }, refl),
+    (test_unit_ready 2 Simple, record { is_there = refl; is_enabled = refl; is_unmarked = refl; is_undone = refl }, inl refl),
   ),
   (test_unit_ready 2 Simple, refl, refl),
 )
@@ -46,15 +46,15 @@ simple_first_is_lawful = (
         (
           (
             enters HeadOfQueue,
-            (test_unit_ready 0 Simple, record { is_there = refl; is_enabled = refl; is_unmarked = refl; is_undone = refl }, refl),
+            (test_unit_ready 0 Simple, record { is_there = refl; is_enabled = refl; is_unmarked = refl; is_undone = refl }, inl refl),
           ),
-          (test_unit_ready 1 HeadOfQueue, record { is_there = refl; is_enabled = refl; is_unmarked = refl; is_undone = refl }, refl),
+          (test_unit_ready 1 HeadOfQueue, record { is_there = refl; is_enabled = refl; is_unmarked = refl; is_undone = refl }, inl refl),
         ),
         (test_unit_ready 0 Simple, refl, refl),
       ),
       (test_unit_ready 1 HeadOfQueue, refl, refl),
     ),
-    (test_unit_ready 2 Simple, record { is_there = refl; is_enabled = refl; is_unmarked = refl; is_undone = refl }, refl),
+    (test_unit_ready 2 Simple, record { is_there = refl; is_enabled = refl; is_unmarked = refl; is_undone = refl }, inl refl),
   ),
   (test_unit_ready 2 Simple, refl, refl),
 )
@@ -67,15 +67,15 @@ head_first_is_lawful = (
         (
           (
             enters HeadOfQueue,
-            (test_unit_ready 1 HeadOfQueue, record { is_there = refl; is_enabled = refl; is_unmarked = refl; is_undone = refl }, refl),
+            (test_unit_ready 1 HeadOfQueue, record { is_there = refl; is_enabled = refl; is_unmarked = refl; is_undone = refl }, inl refl),
           ),
-          (test_unit_ready 0 Simple, record { is_there = refl; is_enabled = refl; is_unmarked = refl; is_undone = refl }, refl),
+          (test_unit_ready 0 Simple, record { is_there = refl; is_enabled = refl; is_unmarked = refl; is_undone = refl }, inl refl),
         ),
         (test_unit_ready 0 Simple, refl, refl),
       ),
       (test_unit_ready 1 HeadOfQueue, refl, refl),
     ),
-    (test_unit_ready 2 Simple, record { is_there = refl; is_enabled = refl; is_unmarked = refl; is_undone = refl }, refl),
+    (test_unit_ready 2 Simple, record { is_there = refl; is_enabled = refl; is_unmarked = refl; is_undone = refl }, inl refl),
   ),
   (test_unit_ready 2 Simple, refl, refl),
 )
@@ -85,12 +85,12 @@ ready a b c d = record { is_there = a; is_enabled = b; is_unmarked = c; is_undon
 
 pub parked_is_lawful : (bytes : List ℕ) → IsLawful calm_unit (leaves 0 ∷ runs 0 ∷ leaves 1 ∷ Step.Abort (Id 7) ∷ parked_write bytes)
 parked_is_lawful bytes = (
-  (((((tt, (omega arith, omega arith)), (omega arith, omega arith)), tt), (write_of_3 1 bytes, refl, refl)), (test_unit_ready 0 Ordered, ready refl refl refl refl, refl)),
+  (((((tt, (omega arith, omega arith)), (omega arith, omega arith)), tt), (write_of_3 1 bytes, refl, refl)), (test_unit_ready 0 Ordered, ready refl refl refl refl, inl refl)),
   (test_unit_ready 0 Ordered, refl, refl),
 )
 
 pub committed_is_lawful : (bytes : List ℕ) → IsLawful calm_unit (leaves 1 ∷ Step.Abort (Id 7) ∷ committed_write bytes)
-committed_is_lawful bytes = ((((tt, (omega arith, omega arith)), (write_of_3 1 bytes, ready refl refl refl refl, refl)), tt), (write_of_3 1 bytes, refl, refl))
+committed_is_lawful bytes = ((((tt, (omega arith, omega arith)), (write_of_3 1 bytes, ready refl refl refl refl, inl refl)), tt), (write_of_3 1 bytes, refl, refl))
 
 -- the bytes of a whole block, as a READ gives them
 pub read_whole : (bytes : List ℕ) → length bytes ≡ 512 → success (Read 3 1) (take 512 bytes ++ []) ≡ success (Read 3 1) bytes
