@@ -142,11 +142,11 @@ lost_on p x (Some l) off =
 loses_else : (k page : ℕ) (w : PlainWorld) (place p : ℕ) (u v : PlainUnit) → UnitIs w place u
     → UnitIs (after (Transition.Deal k (Dealing.Lose page)) w) place v → (here : Bool) → eqb k place ≡ here → (same_page : Bool)
     → eqb p page ≡ same_page → (here && same_page) ≡ false → lost_of p v ≡ lost_of p u
-loses_else k page w place p u v at now false off same_page is no =
+loses_else k page w place p u v at now false off same_page is unlost =
     ap (λ z. lost_of p z) (elsewhere (dealing (Dealing.Lose page)) k w.units place u v off at now)
-loses_else k page w place p u v at now true on false off no =
+loses_else k page w place p u v at now true on false off unlost =
     unchanged (lost_of p) (dealing (Dealing.Lose page)) k w.units (λ z. lost_on p (Dealing.Lose page) z.storage off) place u v at now
-loses_else k page w place p u v at now true on true off no = absurd (let f : false ≡ true = sym no in cc)
+loses_else k page w place p u v at now true on true off unlost = absurd (let f : false ≡ true = sym unlost in cc)
 
 pub lost_stays : (d : Transition) (w : PlainWorld) (place p : ℕ) (u v : PlainUnit) → UnitIs w place u → UnitIs (after d w) place v
     → loses place p d ≡ false → lost_of p v ≡ lost_of p u
