@@ -21,6 +21,7 @@ use crate::facts::UnitFacts;
 use crate::failure::Failure;
 use crate::inquiry::inquiry;
 use crate::luns::{listed_luns, lun_list};
+use crate::protection::is_protected;
 use crate::transfer::{read, synchronize, write, write_same};
 use crate::unmap::unmap;
 use crate::wide::wide;
@@ -35,7 +36,8 @@ use std::alloc::Global;
 ///
 /// `out` is what the driver sent. It has at least the bytes that the command needs, and only those are used. Where an
 /// attention is pending, a command that meets it is answered with it and isn't run. The caller takes the attention from
-/// its list where `takes_attention` says so. REQUEST SENSE takes it too, and returns it as data.
+/// its list where `takes_attention` says so. REQUEST SENSE takes it too, and returns it as data. Behind an attention a
+/// read-only unit refuses each command that may change the medium.
 ///
 /// Refuses only where memory for the data to the driver or for the store can't be had; the blocks are then as before.
 /// The data of a READ take the room that is given, whatever stands there, in place of memory.
@@ -65,12 +67,15 @@ pub fn exec<S: Store>(
     if let Some(attention) = met_attention(command, facts.pending) {
         return Ok(refused(alloc, facts, attention));
     }
+    if is_protected(facts, command) {
+        return Ok(refused(alloc, facts, Sense::WRITE_PROTECTED));
+    }
     let bytes = &out[..need(command).out as usize];
     let answer = run(alloc, room, store, command, bytes, facts);
     replied(alloc, facts, command, answer)
 }
 
-/// Runs a command that no attention stops, on exactly the data that it needs. After an error nothing
+/// Runs a command that nothing stops, on exactly the data that it needs. After an error nothing
 /// is changed.
 fn run<S: Store>(
     alloc: Global,
@@ -141,6 +146,7 @@ fn run<S: Store>(
             store,
             facts.format_told(),
             facts.cache_told(),
+            facts.read_only_told(),
             &command,
             bytes,
         ),
