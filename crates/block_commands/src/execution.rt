@@ -1,12 +1,12 @@
 //! One command, run whole.
 
-ghost use Rattle.std.specs.Prelude.{◌≡◌, ◌≤◌, ◌+◌, ◌<◌, ◌^◌, ℕ, length, vec_len, IfOk, OnOk, OnErr, unwrap_or, IsTrue, None};
+ghost use Rattle.std.specs.Prelude.{◌≡◌, ◌≤◌, ◌+◌, ◌<◌, ◌^◌, ℕ, length, vec_len, IfOk, OnOk, OnErr, unwrap_or, IsTrue, IsFalse, None};
 ghost use Rattle.std.specs.Result.{ForOk};
 ghost use Rattle.cdb.specs.Need.{need_of};
 ghost use Rattle.command_model.specs.Data.{data_of};
 ghost use Rattle.command_model.specs.PlainReply.{plain_of, refusal, sent_in};
 ghost use Rattle.command_model.specs.Effects.{block_after, given};
-ghost use Rattle.block_commands.specs.Inner.Told.{facts_of, sense_told};
+ghost use Rattle.block_commands.specs.Inner.Told.{facts_of, protects, sense_told};
 ghost use Rattle.command_model.specs.Memory.{may_want, wants};
 ghost use Rattle.command_model.specs.Replies.{reply_of, answer_of};
 ghost use Rattle.command_model.specs.Attention.{met};
@@ -52,6 +52,7 @@ pub fn exec<S: Store>(
 ) -> Result<Reply, NoMemory>
     requires data { (need_of command.now).out ≤ length out.now }
     requires ready { met command.now facts.now.pending ≡ None →
+        IsFalse (protects facts.now command.now) →
         IsReady (S.is_held store.old) (S.has_room store.old) (S.size store.old) command.now (data_of command.now out.now) }
     ensures reply { IfOk result (λ reply. plain_of reply
         ≡ reply_of (facts_of facts.now (S.size store.old)) command.now (data_of command.now out.now)

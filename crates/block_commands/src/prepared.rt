@@ -45,6 +45,7 @@ pub fn exec_prepared(
     requires data { (need_of command.now).out ≤ length out.now }
     requires own { IfSome prepared (λ pages. IsOf command.now (data_of command.now out.now) (prepared_draft pages)) }
     requires ready { met command.now facts.now.pending ≡ None →
+        IsFalse (protects facts.now command.now) →
         IsReady (⟦<Disk as Store>⟧.is_held store.old) (⟦<Disk as Store>⟧.has_room store.old) (⟦<Disk as Store>⟧.size store.old)
         command.now (data_of command.now out.now) }
     ensures reply { IfOk result (λ answer. plain_of answer.0
