@@ -709,6 +709,8 @@ static void no_storage(void) {
   IS(vscsi_live_load(&device, 0, 0, 0, bytes), VSCSI_NO_DEVICE);
   IS(vscsi_live_load_failed(0, 0, 0, 0), VSCSI_NULL);
   IS(vscsi_live_load_failed(&device, 0, 0, 0), VSCSI_NO_DEVICE);
+  IS(vscsi_live_lost(0, 0, 0, 0), VSCSI_NULL);
+  IS(vscsi_live_lost(&device, 0, 0, 0), VSCSI_NO_DEVICE);
   IS(vscsi_live_give(0, 0, 0, &n, bytes, &found), VSCSI_NULL);
   IS(vscsi_live_give(&device, 0, 0, 0, bytes, &found), VSCSI_NULL);
   IS(vscsi_live_give(&device, 0, 0, &n, 0, &found), VSCSI_NULL);
@@ -739,6 +741,7 @@ static void no_page(int line, struct vscsi_live *device, uint8_t target) {
   for (uint64_t page = 0; page < UINT64_MAX / 2; page = 2 * page + 1) {
     check(line, vscsi_live_load(device, target, 0, page, bytes), VSCSI_DONE);
     check(line, vscsi_live_load_failed(device, target, 0, page), VSCSI_DONE);
+    check(line, vscsi_live_lost(device, target, 0, page), VSCSI_DONE);
     check(line, vscsi_live_written(device, target, 0, page, true), VSCSI_DONE);
     check(line, vscsi_live_written(device, target, 0, page, false), VSCSI_DONE);
   }
@@ -754,6 +757,7 @@ static void storage(struct vscsi_live *device) {
   IS(vscsi_live_wanted(device, 4, 1, &n, &found), VSCSI_NO_UNIT);
   IS(vscsi_live_load(device, 4, 1, 0, bytes), VSCSI_NO_UNIT);
   IS(vscsi_live_load_failed(device, 4, 1, 0), VSCSI_NO_UNIT);
+  IS(vscsi_live_lost(device, 4, 1, 0), VSCSI_NO_UNIT);
   IS(vscsi_live_give(device, 4, 1, &n, bytes, &found), VSCSI_NO_UNIT);
   IS(vscsi_live_written(device, 4, 1, 0, true), VSCSI_NO_UNIT);
   IS(n, 5);

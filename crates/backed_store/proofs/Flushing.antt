@@ -1,5 +1,5 @@
 -- A flush goes on, and what a crash leaves once it is over.
-use Rattle.std.proofs.Common.{◌≡◌, ◌≢◌, inl, inr, ℕ, ◌*◌, ◌/◌, ◌%◌, ◌==◌, ◌<◌, ◌≤◌, nat_lt, Bool, true, false, IsTrue, List, Option, Some, None, if◌then◌else◌, refl, sym, ◌∙◌, ap, subst, arith}
+use Rattle.std.proofs.Common.{◌≡◌, inl, inr, ℕ, ◌*◌, ◌/◌, ◌%◌, ◌<◌, ◌≤◌, nat_lt, Bool, true, false, IsTrue, List, Option, Some, None, if◌then◌else◌, refl, sym, ◌∙◌, ap, subst, arith}
 use Rattle.std.proofs.lemmas.Bool.Decides.{nat_tests, leb_tells}
 use Rattle.block_store.specs.Blocks.{Blocks, nth_block, zero_block}
 use Rattle.backed_store.specs.Marks.{State, state_of, is_steady, has_room}
@@ -57,14 +57,19 @@ given-on moments n old new b was owed writes paid = by_test (is_rewritten old (b
         was.given b writes (λ _. omega (arith, number, later))
     by_test false same = has-been (was.now b) (contents-given old b writes same)
 
-pub goes-on : (old new : BackedStore) → IsHost old new → KeepsFlushes old new
-goes-on old new host = λ moments n m was at.
+pub stays-on : (old new : BackedStore) → storage_of new ≡ storage_of old → ((p : ℕ) → IsOwed old new p) →
+    ((p : ℕ) → is_writing new p ≡ is_writing old p) → KeepsFlushes old new
+stays-on old new storage owed writing = λ moments n m was at.
     record {
       now = λ b. record { moment = m; is = at b };
-      kept = λ b paid. has-been (kept-on moments n old new b was (host.owed (b / 8)) paid) (ap (λ (z : Storage). z.kept b) host.storage);
+      kept = λ b paid. has-been (kept-on moments n old new b was (owed (b / 8)) paid) (ap (λ (z : Storage). z.kept b) storage);
       given = λ b writes paid.
-          has-been (given-on moments n old new b was (host.owed (b / 8)) (sym (host.writing (b / 8)) ∙ writes) paid) (ap (λ (z : Storage). z.given b) host.storage);
+          has-been (given-on moments n old new b was (owed (b / 8)) (sym (writing (b / 8)) ∙ writes) paid)
+          (ap (λ (z : Storage). z.given b) storage);
     }
+
+pub goes-on : (old new : BackedStore) → IsHost old new → KeepsFlushes old new
+goes-on old new host = stays-on old new host.storage host.owed host.writing
 
 -- a page whose write is under way has room
 writing-room : (m : Option Mark) → marks.is_writing (state_of m) ≡ true → has_room m ≡ true

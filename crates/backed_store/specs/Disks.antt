@@ -1,5 +1,5 @@
 -- A disk, whether its pages may go or not.
-use Rattle.std.specs.Prelude.{◌≡◌, ℕ, ◌/◌, ◌%◌, Bool, true, false, length, Option, Some, None, is_some}
+use Rattle.std.specs.Prelude.{◌≡◌, ℕ, ◌/◌, ◌%◌, Bool, true, false, List, [], length, Option, Some, None, is_some}
 use Rattle.block_store.specs.Blocks.{Blocks}
 use Rattle.block_store.specs.Storage.{Ledger}
 use Rattle.block_store.specs.Kept as pages
@@ -53,6 +53,11 @@ latest_of (Backed s) = backed.latest_of s
 abbrev pub owes : Disk → ℕ → ℕ → Bool
 owes (Whole s) n p = false
 owes (Backed s) n p = flushes.owes s n p
+
+-- the latest pages that the host said it can't read, the oldest first; none of one that isn't backed
+abbrev pub noted : Disk → List ℕ
+noted (Whole s) = []
+noted (Backed s) = backed.noted s
 
 -- how many of its pages are in memory at most; not said of one that isn't backed
 abbrev pub budget_of : Disk → Option ℕ

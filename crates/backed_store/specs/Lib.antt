@@ -9,6 +9,7 @@ pub mod Caches
 pub mod Spared
 pub mod Passing
 pub mod Backing
+pub mod Lost
 pub mod Stores
 pub mod Flushes
 pub mod Inner

@@ -1,11 +1,12 @@
 -- A backed store.
-use Rattle.std.specs.Prelude.{◌≡◌, ℕ, ◌+◌, ◌*◌, ◌/◌, ◌%◌, ◌^◌, ◌<◌, ◌≤◌, Bool, List, map, IsTrue, if◌then◌else◌}
+use Rattle.std.specs.Prelude.{◌≡◌, ℕ, ◌+◌, ◌/◌, ◌%◌, ◌^◌, ◌<◌, ◌≤◌, Bool, List, map, IsTrue, if◌then◌else◌}
 use Rattle.block_store.specs.Blocks.{Blocks, nth_block}
 use Rattle.backed_store.specs.Marks as marks
 use Rattle.backed_store.specs.Marks.{State}
 use Rattle.backed_store.specs.Caches.{mark_at, state_at, bytes_at, number_at, again_at}
 use Rattle.block_store.specs.Storage.{Storage, Ledger, opening}
 use Rattle.backed_store.specs.Backing.{plain, after_all}
+use Rattle.backed_store.specs.Lost as lost
 use Rattle.backed_store.specs.declared.backed.BackedStore.{BackedStore}
 
 -- what the host was given, and what its storage has, as far as the host said
@@ -71,6 +72,14 @@ again_of s p = again_at s.cache p
 -- the number of the latest change
 abbrev pub latest_of : BackedStore → ℕ
 latest_of s = s.cache.latest
+
+-- the latest pages that the host said it can't read, the oldest first
+abbrev pub noted : BackedStore → List ℕ
+noted s = lost.noted s.lost_pages
+
+-- whether page p is one of them
+abbrev pub is_noted : BackedStore → ℕ → Bool
+is_noted s p = lost.is_noted s.lost_pages p
 
 -- what is due of page p until the host's storage has its changes up to n: 0 where it has them
 abbrev pub dues : BackedStore → ℕ → ℕ → ℕ

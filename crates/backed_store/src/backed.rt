@@ -1,15 +1,18 @@
 //! A store whose pages come and go.
 
-ghost use Rattle.std.specs.Prelude.{◌≡◌, ℕ, ◌/◌, ◌%◌, ◌^◌, ◌<◌, IsTrue};
+ghost use Rattle.std.specs.Prelude.{◌≡◌, ℕ, ◌/◌, ◌%◌, ◌^◌, ◌<◌, IsTrue, map};
 ghost use Rattle.block_store.specs.Blocks.{nth_block};
 ghost use Rattle.backed_store.specs.Marks.{is_clean, is_steady};
 ghost use Rattle.backed_store.specs.Caches.{state_at, bytes_at};
-ghost use Rattle.block_store.specs.Storage.{opening};
-ghost use Rattle.backed_store.specs.Backing.{after_all};
+ghost use Rattle.block_store.specs.Storage.{opening, is_lost};
+ghost use Rattle.backed_store.specs.Backing.{plain, after_all};
+ghost use Rattle.backed_store.specs.Lost.{is_noted};
 
 use crate::cache::Cache;
 use crate::dealing::Dealing;
 use crate::given;
+use crate::lost::LostPages;
+use crate::numbers::pages_of;
 use foundation::Record;
 use std::alloc::Global;
 
@@ -21,6 +24,8 @@ pub struct BackedStore {
     pub(crate) cache: Cache,
     // How many reads in place were noted, from 0 again behind the largest number.
     pub(crate) reads: u32,
+    // The latest pages that the host said it can't read.
+    pub(crate) lost_pages: LostPages,
     // The bytes that the storage had at the opening.
     pub(crate) content: Record<u8>,
     // What the host was given since, and kept.
@@ -30,13 +35,15 @@ pub struct BackedStore {
         → (after_all dealings.items (opening content.items)).kept b ≡ nth_block (bytes_at cache (b / 8)) (b % 8) },
     ghost steady: { (b : ℕ) → IsTrue (is_steady (state_at cache (b / 8)))
         → (after_all dealings.items (opening content.items)).given b ≡ nth_block (bytes_at cache (b / 8)) (b % 8) },
+    ghost lost: { (p : ℕ) → IsTrue (is_noted lost_pages p)
+        → IsTrue (is_lost p (record { content = content.items; dealings = map plain dealings.items })) },
 }
 
 impl BackedStore {
-    ghost use Rattle.std.specs.Prelude.{false, min, []};
+    ghost use Rattle.std.specs.Prelude.{◌*◌, ◌&&◌, nat_lt, false, min, []};
     ghost use Rattle.block_store.specs.Pages.{blocks_in};
     ghost use Rattle.backed_store.specs.Flushes.{KeepsFlushes};
-    ghost use Rattle.backed_store.specs.Stores.{contents, backing_of, ledger_of, holds, OwesNoMore};
+    ghost use Rattle.backed_store.specs.Stores.{contents, backing_of, ledger_of, holds, is_noted as notes, OwesNoMore};
     ghost use Rattle.block_store.specs.Storage.{cut, and_then, Dealing as ADealing};
 
     /// Makes a store of so many blocks, of which the host's storage has this content. No page is in memory. At most
@@ -48,6 +55,7 @@ impl BackedStore {
         ensures backing { (b : ℕ) → backing_of result b ≡ blocks_in content.items b }
         ensures ledger { ledger_of result ≡ record { content = content.items; dealings = [] } }
         ensures absent { (b : ℕ) → holds result b ≡ false }
+        ensures noted { (p : ℕ) → notes result p ≡ false }
         ensures budget { result.cache.budget ≡ budget }
     {
         BackedStore {
@@ -55,6 +63,7 @@ impl BackedStore {
             capacity: blocks,
             cache: Cache::new(alloc, budget),
             reads: 0,
+            lost_pages: LostPages::new(alloc),
             content,
             dealings: Record::new(),
         }
@@ -69,11 +78,14 @@ impl BackedStore {
         ensures backing { (b : ℕ) → backing_of self.new b ≡ cut (min self.old.capacity blocks) (backing_of self.old) b }
         ensures storage { ledger_of self.new ≡ and_then (ADealing.Cut (min self.old.capacity blocks)) (ledger_of self.old) }
         ensures held { (b : ℕ) → b < min self.old.capacity blocks → holds self.new b ≡ holds self.old b }
+        // The host's storage can read the zeros.
+        ensures noted { (p : ℕ) → notes self.new p ≡ (nat_lt (8 * p) (min self.old.capacity blocks) && notes self.old p) }
         ensures owing { OwesNoMore self.old self.new }
         ensures flushes { KeepsFlushes self.old self.new }
     {
         let left = self.capacity.min(blocks);
         self.cache.cut(left);
+        self.lost_pages.cut(pages_of(left));
         given::record(&mut self.dealings, &Dealing::Cut(left));
         self.capacity = blocks;
     }

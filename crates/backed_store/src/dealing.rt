@@ -16,6 +16,8 @@ pub enum Dealing {
     Given(GivenPage),
     /// The host wrote the page as it was last given it, so that a crash leaves it.
     Kept(u64),
+    /// The host said that it can't read the page.
+    Lost(u64),
     /// The host cut its storage off at a block: from there on it has zeros.
     Cut(u64),
 }

@@ -1,9 +1,9 @@
 //! The pages of a disk that come and go.
 
-ghost use Rattle.std.specs.Prelude.{◌≡◌, ℕ, true, length, IsTrue, IsFalse, IfOk, OnErr, IfSome, IfNone};
+ghost use Rattle.std.specs.Prelude.{◌≡◌, ℕ, ◌*◌, ◌<◌, ◌==◌, not, true, length, filter, slice_get, IsTrue, IsFalse, IfOk, OnErr, IfSome, IfNone};
 ghost use Rattle.std.specs.Option.{option_map};
-ghost use Rattle.block_store.specs.Storage.{IsPageOf, Dealing, and_then, storage_by};
-ghost use Rattle.backed_store.specs.Disks.{size_of, blocks_of, storage_of, is_backed};
+ghost use Rattle.block_store.specs.Storage.{IsPageOf, Dealing, and_then, storage_by, is_lost};
+ghost use Rattle.backed_store.specs.Disks.{size_of, blocks_of, holds, is_coming, has_room, storage_of, is_backed, noted};
 
 use crate::dealing::GivenPage;
 use crate::disk::Disk;
@@ -11,13 +11,14 @@ use crate::numbers::PAGE_BYTES;
 use foundation::NoMemory;
 
 impl Disk {
-    /// Returns the next page that the host is to read, and counts it as asked for. `None` where none is wanted; so always of a
-    /// disk that isn't backed.
+    /// Returns the next page that the host is to read, and counts it as asked for. The page lies on the disk. `None` where none
+    /// is wanted; so always of a disk that isn't backed.
     pub fn next_wanted(&mut self) -> Option<u64>
         ensures blocks { (b : ℕ) → blocks_of self.new b ≡ blocks_of self.old b }
         ensures size { size_of self.new ≡ size_of self.old }
         ensures storage { storage_of self.new ≡ storage_of self.old }
         ensures backed { IfSome result (λ page. is_backed self.old ≡ true) }
+        ensures below { IfSome result (λ page. 8 * page < size_of self.old) }
     {
         match self {
             Disk::Whole(_) => None,
@@ -49,6 +50,51 @@ impl Disk {
         match self {
             Disk::Whole(_) => false,
             Disk::Backed(store) => store.load_failed(page),
+        }
+    }
+
+    /// Notes that the host's storage can't read a page that the host was asked for. Returns true if a command may wait for it:
+    /// the host was asked for it, and it isn't in memory. Then the commands that wait for it may be tried again, and end with
+    /// an error.
+    pub fn lost(&mut self, page: u64) -> bool
+        ensures blocks { (b : ℕ) → blocks_of self.new b ≡ blocks_of self.old b }
+        ensures size { size_of self.new ≡ size_of self.old }
+        ensures backed { IsTrue result → is_backed self.old ≡ true }
+        ensures lost { IsTrue result → storage_of self.new ≡ option_map (and_then (Dealing.Lose page)) (storage_of self.old) }
+        ensures otherwise { IsFalse result → storage_of self.new ≡ storage_of self.old }
+    {
+        match self {
+            Disk::Whole(_) => false,
+            Disk::Backed(store) => store.lost(page),
+        }
+    }
+
+    /// Returns the page that was noted as lost at a place, the oldest at 0. `None` from the number of noted pages on, which is
+    /// at most 64; so always of a disk that isn't backed. Takes no memory.
+    pub fn lost_page(&self, place: usize) -> Option<u64>
+        ensures place { result ≡ slice_get (noted self.now) place }
+        ensures bound { IfSome result (λ page. place < 64) }
+        ensures lost { IfSome result (λ page. (is_backed self.now ≡ true) × IfSome (storage_of self.now) (λ l. is_lost page l ≡ true)) }
+    {
+        match self {
+            Disk::Whole(_) => None,
+            Disk::Backed(store) => store.lost_page(place),
+        }
+    }
+
+    /// Forgets that a page is lost. Nothing else changes.
+    pub fn forget_lost(&mut self, page: u64)
+        ensures blocks { (b : ℕ) → blocks_of self.new b ≡ blocks_of self.old b }
+        ensures size { size_of self.new ≡ size_of self.old }
+        ensures storage { storage_of self.new ≡ storage_of self.old }
+        ensures held { (b : ℕ) → holds self.new b ≡ holds self.old b }
+        ensures coming { (b : ℕ) → is_coming self.new b ≡ is_coming self.old b }
+        ensures keeps_room { (b : ℕ) → has_room self.new b ≡ has_room self.old b }
+        ensures noted { noted self.new ≡ filter (λ p. not (p == page)) (noted self.old) }
+    {
+        match self {
+            Disk::Whole(_) => {}
+            Disk::Backed(store) => store.forget_lost(page),
         }
     }
 

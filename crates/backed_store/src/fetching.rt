@@ -12,16 +12,17 @@ use foundation::NoMemory;
 
 impl Cache {
     /// Takes the first page out of the queue of those that the host is to be asked for. Returns true with it if it is
-    /// still wanted: the host is then asked for it.
-    fn take_wanted(&mut self) -> Option<(u64, bool)>
+    /// still wanted and below `end`: the host is then asked for it. A page from `end` on isn't wanted any longer.
+    fn take_wanted(&mut self, end: u64) -> Option<(u64, bool)>
         ensures wanted { IfSome result (λ taken. IsTrue taken.1 → IsTrue (is_wanted (mark_at self.old taken.0)) × ((state_at self.old taken.0).held ≡ false)) }
+        ensures below { IfSome result (λ taken. IsTrue taken.1 → taken.0 < end) }
         ensures reading { IfSome result (λ taken. IsTrue taken.1 → IsTrue (is_reading (mark_at self.new taken.0))) }
         ensures none { IfNone result ((p : ℕ) → is_wanted (mark_at self.new p) ≡ false) }
         ensures len { IfSome result (λ taken. queue_len self.new.wanted < queue_len self.old.wanted) }
         ensures others { IfSome result (λ taken. (p : ℕ) → IsTrue (is_wanted (mark_at self.old p)) → (state_at self.old p).held ≡ false →
-            (taken.1 && p == taken.0) ≡ false → IsTrue (is_wanted (mark_at self.new p))) }
+            p < end → (taken.1 && p == taken.0) ≡ false → IsTrue (is_wanted (mark_at self.new p))) }
         ensures kept { IsKept self.old self.new }
-        ensures coming { (p : ℕ) → IsTrue (is_coming (mark_at self.old p)) → IsTrue (is_coming (mark_at self.new p)) }
+        ensures coming { (p : ℕ) → p < end → IsTrue (is_coming (mark_at self.old p)) → IsTrue (is_coming (mark_at self.new p)) }
         ensures room { (p : ℕ) → IsTrue (has_room (mark_at self.old p)) → IsTrue (has_room (mark_at self.new p)) }
         ensures budget { self.new.budget ≡ self.old.budget }
     {
@@ -29,6 +30,17 @@ impl Cache {
         let Some(mark) = self.slots.mark(page) else {
             return Some((page, false));
         };
+        if page >= end {
+            self.slots.set(
+                page,
+                Mark {
+                    wanted: false,
+                    ..mark
+                },
+            );
+            self.fail(page);
+            return Some((page, false));
+        }
         let now = mark.wanted && !mark.held;
         self.slots.set(
             page,
@@ -41,19 +53,21 @@ impl Cache {
         Some((page, now))
     }
 
-    /// Returns the next page that the host is to be asked for, which it is from now on; `None` where no page is wanted.
-    pub(crate) fn next_wanted(&mut self) -> Option<u64>
+    /// Returns the next page below `end` that the host is to be asked for, which it is from now on; `None` where no page is
+    /// wanted.
+    pub(crate) fn next_wanted(&mut self, end: u64) -> Option<u64>
         ensures wanted { IfSome result (λ page. (state_at self.old page).held ≡ false) }
-        ensures others { IfSome result (λ page. (p : ℕ) → p ≢ page → IsTrue (is_wanted (mark_at self.old p)) → (state_at self.old p).held ≡ false →
-            IsTrue (is_wanted (mark_at self.new p))) }
+        ensures below { IfSome result (λ page. page < end) }
+        ensures others { IfSome result (λ page. (p : ℕ) → p ≢ page → IsTrue (is_wanted (mark_at self.old p)) →
+            (state_at self.old p).held ≡ false → p < end → IsTrue (is_wanted (mark_at self.new p))) }
         ensures reading { IfSome result (λ page. IsTrue (is_reading (mark_at self.new page))) }
         ensures none { IfNone result ((p : ℕ) → is_wanted (mark_at self.new p) ≡ false) }
         ensures kept { IsKept self.old self.new }
-        ensures coming { (p : ℕ) → IsTrue (is_coming (mark_at self.old p)) → IsTrue (is_coming (mark_at self.new p)) }
+        ensures coming { (p : ℕ) → p < end → IsTrue (is_coming (mark_at self.old p)) → IsTrue (is_coming (mark_at self.new p)) }
         ensures room { (p : ℕ) → IsTrue (has_room (mark_at self.old p)) → IsTrue (has_room (mark_at self.new p)) }
         ensures budget { self.new.budget ≡ self.old.budget }
     {
-        while let Some((page, now)) = self.take_wanted() {
+        while let Some((page, now)) = self.take_wanted(end) {
             if now {
                 return Some(page);
             }
@@ -81,6 +95,7 @@ impl Cache {
     /// be changed gives its slot back.
     pub(crate) fn fail(&mut self, page: u64)
         ensures kept { IsKept self.old self.new }
+        ensures queue { self.new.wanted ≡ self.old.wanted }
         ensures over { is_coming (mark_at self.new page) ≡ (state_at self.old page).held }
         ensures reading { is_reading (mark_at self.new page) ≡ false }
         ensures others { (p : ℕ) → p ≢ page → mark_at self.new p ≡ mark_at self.old p }

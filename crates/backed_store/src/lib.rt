@@ -9,6 +9,9 @@
 //! change up to a number is unkept, the storage has each block that didn't change later. A page stays dirty from its oldest
 //! change on until that is kept. [`BlocksInPlace`] gives the bytes of each block once, in order.
 //!
+//! The host is asked only for pages below the capacity. Each page that is noted as lost is one of which the host said that it
+//! can't read it. At most 64 are noted: one more drops the oldest. A page that is loaded, or cut off, isn't noted any longer.
+//!
 //! A flush waits for the changes that were made before it. Once none of these is owed, a crash leaves each block as it was
 //! when the flush began, or later (`a_crash_leaves_what_was_flushed`). No call makes it wait for more, unless a write of the
 //! host failed; each page that the host is given and keeps makes it wait for less (`what_is_owed_is_due`). Where no page is
@@ -29,6 +32,7 @@ mod fetching;
 mod given;
 mod in_place;
 mod laws;
+mod lost;
 mod mark;
 mod noting;
 mod numbers;

@@ -1,6 +1,6 @@
 //! The pages of blocks.
 
-ghost use Rattle.std.specs.Prelude.{◌≡◌, ◌+◌, ◌/◌, ◌%◌, ◌<◌, ◌≤◌};
+ghost use Rattle.std.specs.Prelude.{◌≡◌, ◌+◌, ◌/◌, ◌%◌, ◌^◌, ◌<◌, ◌≤◌};
 
 /// The blocks of a page.
 pub const PAGE_BLOCKS: u64 = 8;
@@ -22,6 +22,15 @@ pub(crate) fn place_of(block: u64) -> usize
     ensures { result ≡ block % 8 }
 {
     (block % PAGE_BLOCKS) as usize
+}
+
+/// Counts the pages of so many blocks, the last of which may lack blocks.
+#[inline(always)]
+pub(crate) fn pages_of(blocks: u64) -> u64
+    requires { blocks < 2 ^ 63 }
+    ensures { result ≡ (blocks + 7) / 8 }
+{
+    (blocks + PAGE_BLOCKS - 1) / PAGE_BLOCKS
 }
 
 /// Counts the blocks of the `count` from `first` on that lie in the page of the first.

@@ -1,32 +1,34 @@
 //! Pages that come and go.
 
-ghost use Rattle.std.specs.Prelude.{◌≡◌, ◌≢◌, ℕ, ◌*◌, ◌/◌, ◌^◌, ◌<◌, ◌≤◌, ◌&&◌, not, true, false, length, IsTrue, IsFalse, IfOk, OnOk, OnErr, IfSome, IfNone, if◌then◌else◌};
-ghost use Rattle.block_store.specs.Storage.{with_page, IsPageOf, and_then, Dealing as ADealing};
+ghost use Rattle.std.specs.Prelude.{◌≡◌, ◌≢◌, ℕ, slice_get, filter, ◌==◌, ◌*◌, ◌/◌, ◌^◌, ◌<◌, ◌≤◌, ◌&&◌, not, true, false, length, IsTrue, IsFalse, IfOk, OnOk, OnErr, IfSome, IfNone, if◌then◌else◌};
+ghost use Rattle.block_store.specs.Storage.{with_page, IsPageOf, and_then, is_lost, Dealing as ADealing};
 ghost use Rattle.backed_store.specs.Spared.{is_spared};
 ghost use Rattle.backed_store.specs.Flushes.{owes, KeepsFlushes};
-ghost use Rattle.backed_store.specs.Stores.{contents, holds, is_coming, has_room, is_wanted, is_reading, is_writing, is_dirty, is_rewritten, may_go, number_of, again_of, dues, storage_of, ledger_of, backing_of, IsSame, IsHost, IsOwed, OwesNoMore};
+ghost use Rattle.backed_store.specs.Stores.{contents, holds, is_coming, has_room, is_wanted, is_reading, is_writing, is_dirty, is_rewritten, may_go, number_of, again_of, dues, storage_of, ledger_of, backing_of, noted, is_noted, IsSame, IsHost, IsOwed, OwesNoMore};
 
 use crate::backed::BackedStore;
 use crate::dealing::{Dealing, GivenPage};
 use crate::given;
-use crate::numbers::PAGE_BYTES;
+use crate::numbers::{PAGE_BYTES, pages_of};
 use crate::page_range::PageRange;
 use foundation::NoMemory;
 
 impl BackedStore {
-    /// Returns the next page that the host is to read, and counts it as asked for; `None` where none is wanted. The host
-    /// hands it in by [`load`](BackedStore::load).
+    /// Returns the next page that the host is to read, and counts it as asked for; `None` where none is wanted. The page lies
+    /// below the capacity. The host hands it in by [`load`](BackedStore::load).
     pub fn next_wanted(&mut self) -> Option<u64>
         ensures absent { IfSome result (λ page. holds self.old (8 * page) ≡ false) }
+        ensures below { IfSome result (λ page. 8 * page < self.old.capacity) }
         ensures reading { IfSome result (λ page. IsTrue (is_reading self.new page)) }
         ensures none { IfNone result ((p : ℕ) → is_wanted self.new p ≡ false) }
-        // Each other page that is wanted is told later.
-        ensures others { IfSome result (λ page. (p : ℕ) → p ≢ page → IsTrue (is_wanted self.old p) → holds self.old (8 * p) ≡ false → IsTrue (is_wanted self.new p)) }
+        // Each other page below the capacity that is wanted is told later.
+        ensures others { IfSome result (λ page. (p : ℕ) → p ≢ page → IsTrue (is_wanted self.old p) → holds self.old (8 * p) ≡ false →
+            8 * p < self.old.capacity → IsTrue (is_wanted self.new p)) }
         ensures same { IsSame self.old self.new }
         ensures host { IsHost self.old self.new }
         ensures held { (b : ℕ) → holds self.new b ≡ holds self.old b }
     {
-        self.cache.next_wanted()
+        self.cache.next_wanted(pages_of(self.capacity))
     }
 
     /// Takes the bytes of a page that the host was asked for. Returns true if they now stand in memory: not where the page
@@ -38,6 +40,8 @@ impl BackedStore {
         ensures same { IsSame self.old self.new }
         ensures host { IsHost self.old self.new }
         ensures loaded { IfOk result (λ stands. IsTrue stands → IsTrue (holds self.new (8 * page))) }
+        // The host's storage can read it after all.
+        ensures found { IfOk result (λ stands. IsTrue stands → is_noted self.new page ≡ false) }
         ensures held { (b : ℕ) → IsTrue (holds self.old b) → IsTrue (holds self.new b) }
     {
         let Some(mark) = self.cache.slots.mark(page) else {
@@ -51,6 +55,7 @@ impl BackedStore {
             return Ok(false);
         }
         self.cache.load(page, bytes)?;
+        self.lost_pages.forget(page);
         Ok(true)
     }
 
@@ -62,6 +67,7 @@ impl BackedStore {
         ensures host { IsHost self.old self.new }
         ensures held { (b : ℕ) → holds self.new b ≡ holds self.old b }
         ensures failed { result ≡ (is_reading self.old page && not (holds self.old (8 * page))) }
+        ensures noted { noted self.new ≡ noted self.old }
         ensures over { is_reading self.new page ≡ false }
         ensures absent { IsTrue result → is_coming self.new (8 * page) ≡ false }
         ensures others { (b : ℕ) → b / 8 ≢ page → is_coming self.new b ≡ is_coming self.old b }
@@ -74,6 +80,60 @@ impl BackedStore {
             }
             _ => false,
         }
+    }
+
+    /// Notes that the host's storage can't read a page that the host was asked for. Returns true if a command may wait for it:
+    /// the host was asked for it, and it isn't in memory. Then the commands that wait for it may be tried again, and end with
+    /// an error.
+    pub fn lost(&mut self, page: u64) -> bool
+        ensures same { IsSame self.old self.new }
+        ensures held { (b : ℕ) → holds self.new b ≡ holds self.old b }
+        ensures answer { result ≡ (is_reading self.old page && not (holds self.old (8 * page))) }
+        ensures storage { storage_of self.new ≡ storage_of self.old }
+        ensures lost { IsTrue result → ledger_of self.new ≡ and_then (ADealing.Lose page) (ledger_of self.old) }
+        ensures otherwise { IsFalse result → ledger_of self.new ≡ ledger_of self.old }
+        ensures owed { (p : ℕ) → IsOwed self.old self.new p }
+        ensures writing { (p : ℕ) → is_writing self.new p ≡ is_writing self.old p }
+        ensures owing { OwesNoMore self.old self.new }
+        ensures flushes { KeepsFlushes self.old self.new }
+        ensures over { is_reading self.new page ≡ false }
+        ensures absent { IsTrue result → is_coming self.new (8 * page) ≡ false }
+        ensures others { (b : ℕ) → b / 8 ≢ page → is_coming self.new b ≡ is_coming self.old b }
+        ensures room { (b : ℕ) → IsTrue (has_room self.old b) → IsTrue (has_room self.new b) }
+        // Only this page is noted.
+        ensures alone { (p : ℕ) → p ≢ page → IsTrue (is_noted self.new p) → IsTrue (is_noted self.old p) }
+        ensures kept { length (noted self.old) < 64 → (p : ℕ) → p ≢ page → is_noted self.new p ≡ is_noted self.old p }
+        ensures unnoted { IsFalse result → noted self.new ≡ noted self.old }
+    {
+        if !self.load_failed(page) {
+            return false;
+        }
+        given::record(&mut self.dealings, &Dealing::Lost(page));
+        // A page that isn't noted is asked for again.
+        let _noted = self.lost_pages.note(page);
+        true
+    }
+
+    /// Returns the page that was noted at a place, the oldest at 0; `None` from the number of noted pages on. At most 64 are
+    /// noted: one more drops the oldest.
+    pub fn lost_page(&self, place: usize) -> Option<u64>
+        ensures place { result ≡ slice_get (noted self.now) place }
+        ensures lost { IfSome result (λ page. is_lost page (ledger_of self.now) ≡ true) }
+        ensures bound { IfSome result (λ page. place < 64) }
+    {
+        self.lost_pages.at(place)
+    }
+
+    /// Forgets that a page is lost. Nothing else changes.
+    pub fn forget_lost(&mut self, page: u64)
+        ensures same { IsSame self.old self.new }
+        ensures host { IsHost self.old self.new }
+        ensures held { (b : ℕ) → holds self.new b ≡ holds self.old b }
+        ensures coming { (b : ℕ) → is_coming self.new b ≡ is_coming self.old b }
+        ensures room { (b : ℕ) → has_room self.new b ≡ has_room self.old b }
+        ensures noted { noted self.new ≡ filter (λ p. not (p == page)) (noted self.old) }
+    {
+        self.lost_pages.forget(page);
     }
 
     /// Gives the host the next page that it is to write; `None` where it has each dirty page already. The host says by
@@ -114,7 +174,7 @@ impl BackedStore {
         given::record(&mut self.dealings, &dealing);
         match dealing {
             Dealing::Given(given) => Ok(Some(given)),
-            Dealing::Kept(_) | Dealing::Cut(_) => Ok(None),
+            Dealing::Kept(_) | Dealing::Lost(_) | Dealing::Cut(_) => Ok(None),
         }
     }
 

@@ -5,6 +5,7 @@ use Rattle.std.proofs.lemmas.List.Sums.{sum_by-cons}
 use Rattle.std.specs.Prelude.{◌||◌, ◌&&◌}
 use Rattle.block_store.specs.Blocks.{is_within}
 use Rattle.command_model.specs.Capacity.{is_in_range}
+use Rattle.command_model.specs.Failing.{cuts, are_cut}
 use Rattle.command_model.specs.UnmapList.{descriptor, descriptors_in, blocks_named, are_in_range, is_named}
 use Rattle.block_store.specs.Inner.Pages.{is_beside}
 use Rattle.block_commands.specs.Inner.Ready.{is_near_any}
@@ -47,6 +48,9 @@ module _ (n k : ℕ) (bytes : List ℕ) (lba count : ℕ) (below : k < n) (first
 
   pub is_named-more : (b : ℕ) → is_named (left n k bytes) b ≡ (is_within lba count b || is_named (left n (k + 1) bytes) b)
   is_named-more b = ap (λ l. is_named l b) here
+
+  pub are_cut-more : (blocks p : ℕ) → are_cut blocks (left n k bytes) p ≡ (cuts blocks lba count p || are_cut blocks (left n (k + 1) bytes) p)
+  are_cut-more blocks p = ap (λ l. are_cut blocks l p) here
 
   pub is_near-more : (b : ℕ) → is_near_any (left n k bytes) b ≡ (is_beside lba count b || is_near_any (left n (k + 1) bytes) b)
   is_near-more b = ap (λ l. is_near_any l b) here

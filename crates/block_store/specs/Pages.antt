@@ -1,5 +1,5 @@
 -- Blocks in pages of 8.
-use Rattle.std.specs.Prelude.{ℕ, ◌+◌, ◌/◌, ◌%◌, List, ◌++◌, take, if◌then◌else◌}
+use Rattle.std.specs.Prelude.{ℕ, ◌/◌, ◌%◌, List, ◌++◌, take, if◌then◌else◌}
 use Rattle.block_store.specs.Blocks.{Blocks, nth_block, zero_block, is_within}
 
 -- the blocks with those that `given` has in the count blocks from first on

@@ -1,5 +1,5 @@
 -- What the host's storage has of a disk whose pages come and go.
-use Rattle.std.specs.Prelude.{ℕ, ◌≡◌, ◌<◌, ◌+◌, ◌*◌, ◌/◌, ◌%◌, ◌==◌, ◌++◌, Bool, false, List, [], ◌∷◌, nat_lt, if◌then◌else◌}
+use Rattle.std.specs.Prelude.{ℕ, ◌≡◌, ◌<◌, ◌+◌, ◌*◌, ◌/◌, ◌%◌, ◌==◌, ◌++◌, Bool, true, false, List, [], ◌∷◌, Option, Some, nat_lt, if◌then◌else◌}
 use Rattle.std.specs.List.{list_any}
 use Rattle.block_store.specs.Blocks.{Blocks, nth_block, zero_block}
 use Rattle.block_store.specs.Pages.{blocks_in}
@@ -60,6 +60,10 @@ loses p d = false
 
 abbrev pub is_lost : ℕ → Ledger → Bool
 is_lost p l = list_any (loses p) l.dealings
+
+-- own: there is a storage, and the host said so of it
+abbrev pub IsLostIn : Option Ledger → ℕ → Type 0
+IsLostIn storage p = (l : Ledger) × (storage ≡ Some l) × (is_lost p l ≡ true)
 
 -- the bytes are the 8 blocks of page p
 abbrev pub IsPageOf : Blocks → ℕ → List ℕ → Type 0

@@ -1,5 +1,5 @@
 -- What the calls on disks do, and those that hand disks to a device and back.
-use Rattle.std.specs.Prelude.{ℕ, ◌≡◌, ◌≢◌, ◌≤◌, ◌<◌, ◌+◌, ◌*◌, ◌⊎◌, Bool, true, false, List, [], length, map, replicate, slice_get, Option, Some, None, is_some}
+use Rattle.std.specs.Prelude.{ℕ, ◌≡◌, ◌≢◌, ◌≤◌, ◌<◌, ◌+◌, ◌*◌, ◌/◌, ◌⊎◌, Bool, true, false, List, [], length, map, replicate, slice_get, Option, Some, None, is_some}
 use Rattle.std.specs.List.{list_any}
 use Rattle.block_store.specs.Blocks.{zero_block, overwritten, run}
 use Rattle.block_store.specs.Pages.{blocks_in}
@@ -44,14 +44,19 @@ pub record IsBackedOver (content : List ℕ) (blocks most_pages : ℕ) (s : Unit
   pub storage : storage_of s ≡ Some (record { content = content; dealings = [] })
   pub budget : budget_of s ≡ Some most_pages
 
+-- own: how many pages such a disk may have in memory at least: those of the 65,536 blocks of the largest UNMAP (`unmapped`), and
+-- 256 more, among them two for each of its 16 ranges
+abbrev pub least_pages : ℕ
+least_pages = 65536 / 8 + 256
+
 -- such a disk is made where there is none, of a capacity that a unit may have
 abbrev pub CreatesBacked : List ℕ → ℕ → ℕ → Option UnitDisk → Answer → Option UnitDisk → Type 0
 CreatesBacked content blocks most_pages (Some s) a after = (a ≡ answer.InUse) × (after ≡ Some s)
 CreatesBacked content blocks most_pages None answer.BadCapacity after = (is_capacity blocks ≡ false) × (after ≡ None)
-CreatesBacked content blocks most_pages None answer.BadLength after = (most_pages < 8448) × (after ≡ None)
+CreatesBacked content blocks most_pages None answer.BadLength after = (most_pages < least_pages) × (after ≡ None)
 CreatesBacked content blocks most_pages None answer.NoMemory after = after ≡ None
 CreatesBacked content blocks most_pages None answer.Done after =
-    (is_capacity blocks ≡ true) × (8448 ≤ most_pages) × (s : UnitDisk) × IsBackedOver content blocks most_pages s × (after ≡ Some s)
+    (is_capacity blocks ≡ true) × (least_pages ≤ most_pages) × (s : UnitDisk) × IsBackedOver content blocks most_pages s × (after ≡ Some s)
 CreatesBacked content blocks most_pages None a after = ⊥
 
 -- whether there is a disk whose pages come and go

@@ -5,7 +5,7 @@ use Rattle.block_store.specs.Storage.{Dealing}
 use Rattle.device_model.specs.Events.{Event}
 use Rattle.unit_model.specs.Unit.{PlainUnit}
 use Rattle.device_steps.specs.Apart.{PlainDevice}
-use Rattle.device_steps.specs.Paging.{IsBackedAt, IsKeptPage}
+use Rattle.device_steps.specs.Paging.{HasPage, IsKeptPage}
 use Rattle.device_steps.specs.Views.{IsPlaceAmong}
 use Rattle.world.specs.LiveWorld.{StepsPromised}
 use Rattle.world.specs.Paging.{DealsPromised}
@@ -21,9 +21,9 @@ OwesPage target lun page bytes None = ⊤
 OwesPage target lun page bytes (Some d) =
     (place : ℕ) → IsPlaceAmong d.world.device.units target lun (Some place) → IsKeptPage d.world.device.units place page bytes
 
--- a page of a backed disk is told, or none
+-- a page of the unit's backed disk is told, or none
 abbrev pub FindsPage : List PlainUnit → ℕ → ℕ → ℕ → Bool → Type 0
-FindsPage units place old page true = IsBackedAt units place
+FindsPage units place old page true = HasPage units place page
 FindsPage units place old page false = page ≡ old
 
 -- as `LiveWorld::next_wanted`: the device is as it was
@@ -56,6 +56,12 @@ pub record Deals (target lun : ℕ) (x : Dealing) (d d' : LiveServed) : Type 0 w
   pub dealt : DealsPromised true d.world.memory.size d.world.device place x d'.world.device
   pub memory : d'.world.memory ≡ d.world.memory
   pub rest : KeepsRest d d'
+
+-- as `LiveWorld::lost`: the host can't read the page, or nothing changed
+abbrev pub LosesPage : ℕ → ℕ → ℕ → LiveServed → Answer → LiveServed → Type 0
+LosesPage target lun page d answer.Done d' = Deals target lun (Dealing.Lose page) d d' ⊎ (d' ≡ d)
+LosesPage target lun page d answer.NoUnit d' = IsPlaceAmong d.world.device.units target lun None × (d' ≡ d)
+LosesPage target lun page d a d' = ⊥
 
 -- as `LiveWorld::give`: a page is given, with its bytes as they are now, or none is left to give; before all else the room is
 -- measured

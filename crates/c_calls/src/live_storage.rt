@@ -4,7 +4,7 @@ ghost use Rattle.std.specs.Prelude.{◌≡◌};
 ghost use Rattle.device_steps.specs.Paging.{IsKeptPage};
 ghost use Rattle.device_steps.specs.Views.{IsPlaceAmong};
 ghost use Rattle.std.specs.Prelude.{ℕ, Some};
-ghost use Rattle.c_calls.specs.Storage.{WantsPage, LoadsPage, FailsPage, GivesPage, KeepsPage, Wakes};
+ghost use Rattle.c_calls.specs.Storage.{WantsPage, LoadsPage, FailsPage, LosesPage, GivesPage, KeepsPage, Wakes};
 
 use crate::answer::Answer;
 use crate::live_served::LiveServed;
@@ -61,6 +61,17 @@ impl LiveServed {
             return Answer::NoUnit;
         };
         let _waits = self.world.load_failed(place, page);
+        Answer::Done
+    }
+
+    /// Notes that the host can't read a page.
+    pub(crate) fn lost(&mut self, target: u8, lun: u16, page: u64) -> Answer
+        ensures { LosesPage target lun page self.old result self.new }
+    {
+        let Some(place) = self.world.place(target, lun) else {
+            return Answer::NoUnit;
+        };
+        let _waits = self.world.lost(place, page);
         Answer::Done
     }
 

@@ -4,7 +4,7 @@
 ghost use Rattle.std.specs.Prelude.{◌≡◌};
 ghost use Rattle.c_calls.specs.Kept.{live_at};
 ghost use Rattle.c_calls.specs.Live.{ServingLive};
-ghost use Rattle.c_calls.specs.Storage.{OwesPage, WantsPage, LoadsPage, FailsPage, GivesPage, KeepsPage, Wakes};
+ghost use Rattle.c_calls.specs.Storage.{OwesPage, WantsPage, LoadsPage, FailsPage, LosesPage, GivesPage, KeepsPage, Wakes};
 
 use crate::answer::Answer;
 use crate::live_device::LiveDevice;
@@ -67,6 +67,19 @@ pub fn load_failed(
         return Answer::NoDevice;
     };
     let answer = served.load_failed(target, lun, page);
+    device.put(served);
+    answer
+}
+
+/// Notes that the host can't read a page.
+#[tactic(auto, using(crate::proofs::LiveServe::serving, crate::proofs::LiveServe::without))]
+pub fn lost(device: &mut LiveDevice, alloc: Global, target: u8, lun: u16, page: u64) -> Answer
+    ensures { ServingLive (LosesPage target lun page) (Unit {0}) (live_at device.old) result (live_at device.new) }
+{
+    let Some(mut served) = device.take(alloc) else {
+        return Answer::NoDevice;
+    };
+    let answer = served.lost(target, lun, page);
     device.put(served);
     answer
 }

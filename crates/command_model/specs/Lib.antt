@@ -15,6 +15,7 @@ pub mod Comparing
 pub mod Defects
 pub mod Effects
 pub mod Facts
+pub mod Failing
 pub mod Formatting
 pub mod Identity
 pub mod Inquiry

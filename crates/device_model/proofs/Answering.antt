@@ -9,7 +9,7 @@ use Rattle.unit_model.specs.declared.reason.Reason.{Reason}
 use Rattle.unit_model.specs.Tasks.{task_of}
 use Rattle.unit_model.specs.Steps.{Step, alive}
 use Rattle.unit_model.specs.Marks.{mark_of}
-use Rattle.unit_model.specs.Contents.{reply_after}
+use Rattle.unit_model.specs.Contents.{MayReply}
 use Rattle.unit_model.specs.Lawful.{IsReady}
 use Rattle.unit_model.specs.Endings.{Ending}
 use Rattle.unit_model.proofs.Marking.{mark_on}
@@ -27,6 +27,7 @@ use Rattle.device_model.proofs.Working.{all_work}
 use Rattle.device_model.specs.Happened.{Happened, IsBeginning, IsFetch, IsAnswer}
 use Rattle.device_model.specs.Inner.Happened.{IsCommit, IsAbort}
 use Rattle.device_model.specs.Histories.{step_of, pushed, history_of}
+use Rattle.unit_model.proofs.Failing.{weaker}
 use Rattle.device_model.specs.Entering.{IsSent}
 use Rattle.device_model.specs.Answering.{HasEnded, IsTrue, IsAnsweredSo, NeverRan, AreAnswered}
 use Rattle.device_model.proofs.Traces.{leads_beginning, beginning_tail, keeps_on, told_on, told_at, told_there}
@@ -48,7 +49,7 @@ ended_on old x (Ending.Replied r) d ds h = (
   h.0,
   h.1,
   so_on (step_of x.unit d) (Step.Commit x.entry.ticket r)
-      (λ past. IsReady x.entry.ticket x.entry past × (r ≡ reply_after h.0.opening x.entry past))
+      (λ past. IsReady x.entry.ticket x.entry past × MayReply h.0.opening x.entry past r)
       (history_of x.unit ds) h.2,
 )
 ended_on old x (Ending.Aborted why) d ds h = (
@@ -77,10 +78,10 @@ committing old k x r ds o l =
     let one : m.may.0 ≡ x.entry = same (sym m.may.1.is_there ∙ there) in
     let told = ((says_at old ds o l.0).units x.unit v m.holds.there).0 in
     let so : List Step → Type 0 =
-    λ past. IsReady t x.entry past × (r ≡ reply_after told.opened.opening x.entry past) in
+    λ past. IsReady t x.entry past × MayReply told.opened.opening x.entry past r in
     let ready = subst (λ z. IsReady t z v.steps) one m.may.1 in
-    let reply = m.may.2 ∙ ap (λ z. reply_after v.opening z v.steps) one
-    ∙ ap (λ z. reply_after z x.entry v.steps) told.opening in
+    let reply = subst (λ z. MayReply z x.entry v.steps r) told.opening
+    (subst (λ z. MayReply v.opening z v.steps r) one (weaker v m.may.0 r m.may.2)) in
     let before = subst so told.steps (ready, reply) in (
       told.opened,
       told.there,

@@ -227,7 +227,7 @@ commits w k x out c at =
           let ready : IsReady t x.entry h =
           record { is_there = c.alive; is_enabled = on; is_unmarked = m; is_undone = c.undone } in
           let r = reply_after c.unit.opening x.entry h in
-          (Transition.Commit k x r, refl, record { holds = holds; may = (x.entry, ready, refl) })
+          (Transition.Commit k x r, refl, record { holds = holds; may = (x.entry, ready, inl refl) })
     ]) refl
 
 -- Answer and Leave

@@ -13,9 +13,9 @@ use Rattle.unit_model.specs.Receipts.{unit_address}
 use Rattle.unit_model.specs.Asking.{IsOf}
 use Rattle.task_mgmt.specs.declared.kind.MarkBy.TheVariants.{Abort, Reset}
 use Rattle.device_model.specs.Parts.{Hand, Slot}
-use Rattle.device_model.specs.World.{PlainQueue, PlainWorld, Opens}
+use Rattle.device_model.specs.World.{PlainQueue, PlainWorld, Opens, AreAddressed}
 use Rattle.command_model.specs.Identity.{told_by}
-use Rattle.device_model.specs.Addressed.{IsAddressed, AreAddressed}
+use Rattle.device_model.specs.Addressed.{IsAddressed}
 use Rattle.device_model.specs.Transitions.{Transition}
 use Rattle.device_model.specs.Happens.{May, Occurrence, Reached, occurrence_of, world_of, Leads}
 use Rattle.device_model.specs.Event.Commit.{CommitsUnknown}

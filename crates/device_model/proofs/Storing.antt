@@ -1,8 +1,12 @@
 -- Transitions but for a few leave what the host's storage has of a unit's disk.
-use Rattle.std.proofs.Common.{◌≡◌, ℕ, false, eqb, List, [], ◌∷◌, ◌++◌, Option, Some, None, refl, sym, ◌∙◌, ap}
-use Rattle.std.specs.Prelude.{slice_get, option_map}
+use Rattle.std.proofs.Common.{◌≡◌, ℕ, Bool, true, false, ◌||◌, ◌&&◌, eqb, List, [], ◌∷◌, ◌++◌, Option, Some, None, refl, sym, ◌∙◌, ap}
+use Rattle.std.specs.Prelude.{slice_get, option_map, unwrap_or, min}
+use Rattle.std.specs.List.{list_any}
+use Rattle.std.proofs.lemmas.List.Folds.{list_any-append}
+use Rattle.block_store.specs.Storage as storage
 use Rattle.block_store.specs.Storage.{Storage, Dealing, Ledger, dealt, all_dealt, opening, storage_by, and_then}
 use Rattle.unit_model.specs.Steps.{Step}
+use Rattle.unit_model.specs.Contents.{capacity_of}
 use Rattle.unit_model.specs.Unit.{PlainUnit, after as stepped, parking, dealing}
 use Rattle.task_mgmt.specs.Functions.{step_by}
 use Rattle.task_mgmt.specs.declared.kind.MarkBy.TheVariants.{Abort, Reset}
@@ -11,7 +15,7 @@ use Rattle.device_model.specs.Transitions.{Transition}
 use Rattle.device_model.specs.Event.Hard.{hard_code}
 use Rattle.device_model.specs.After.{after}
 use Rattle.device_model.specs.Found.{UnitIs}
-use Rattle.device_model.specs.Storing.{given_of, kept_of, gives, keeps}
+use Rattle.device_model.specs.Storing.{given_of, kept_of, lost_of, gives, keeps, loses}
 use Rattle.device_model.proofs.Lists.{same, stays, get_other, get_change}
 
 -- what a change leaves of a unit
@@ -44,6 +48,18 @@ given_kept : (page : ℕ) (o : Option Ledger)
 given_kept page None = refl
 given_kept page (Some l) = ap (λ (s : Storage). Some s.given) (last_dealt l.dealings (Dealing.Keep page) (opening l.content))
 
+kept_lost : (page : ℕ) (o : Option Ledger)
+    → option_map (λ (l : Ledger). (storage_by l).kept) (option_map (and_then (Dealing.Lose page)) o)
+    ≡ option_map (λ (l : Ledger). (storage_by l).kept) o
+kept_lost page None = refl
+kept_lost page (Some l) = ap (λ (s : Storage). Some s.kept) (last_dealt l.dealings (Dealing.Lose page) (opening l.content))
+
+given_lost : (page : ℕ) (o : Option Ledger)
+    → option_map (λ (l : Ledger). (storage_by l).given) (option_map (and_then (Dealing.Lose page)) o)
+    ≡ option_map (λ (l : Ledger). (storage_by l).given) o
+given_lost page None = refl
+given_lost page (Some l) = ap (λ (s : Storage). Some s.given) (last_dealt l.dealings (Dealing.Lose page) (opening l.content))
+
 pub given_stays : (d : Transition) (w : PlainWorld) (place : ℕ) (u v : PlainUnit) → UnitIs w place u → UnitIs (after d w) place v
     → gives place d ≡ false → given_of v ≡ given_of u
 given_stays (Transition.Run x) w place u v at now off =
@@ -68,6 +84,8 @@ given_stays (Transition.Resize k blocks) w place u v at now off =
     ap (λ z. given_of z) (elsewhere (stepped (Step.Resize blocks)) k w.units place u v off at now)
 given_stays (Transition.Deal k (Dealing.Keep page)) w place u v at now off =
     unchanged given_of (dealing (Dealing.Keep page)) k w.units (λ z. given_kept page z.storage) place u v at now
+given_stays (Transition.Deal k (Dealing.Lose page)) w place u v at now off =
+    unchanged given_of (dealing (Dealing.Lose page)) k w.units (λ z. given_lost page z.storage) place u v at now
 given_stays (Transition.Deal k (Dealing.Give page bytes)) w place u v at now off =
     ap (λ z. given_of z) (elsewhere (dealing (Dealing.Give page bytes)) k w.units place u v off at now)
 given_stays (Transition.Deal k (Dealing.Cut blocks)) w place u v at now off =
@@ -98,11 +116,70 @@ kept_stays (Transition.Resize k blocks) w place u v at now off =
     ap (λ z. kept_of z) (elsewhere (stepped (Step.Resize blocks)) k w.units place u v off at now)
 kept_stays (Transition.Deal k (Dealing.Give page bytes)) w place u v at now off =
     unchanged kept_of (dealing (Dealing.Give page bytes)) k w.units (λ z. kept_given page bytes z.storage) place u v at now
+kept_stays (Transition.Deal k (Dealing.Lose page)) w place u v at now off =
+    unchanged kept_of (dealing (Dealing.Lose page)) k w.units (λ z. kept_lost page z.storage) place u v at now
 kept_stays (Transition.Deal k (Dealing.Keep page)) w place u v at now off =
     ap (λ z. kept_of z) (elsewhere (dealing (Dealing.Keep page)) k w.units place u v off at now)
 kept_stays (Transition.Deal k (Dealing.Cut blocks)) w place u v at now off =
     ap (λ z. kept_of z) (elsewhere (dealing (Dealing.Cut blocks)) k w.units place u v off at now)
 kept_stays d w place u v at now off = ap (λ z. kept_of z) (same (sym now ∙ at))
+
+false_or : (b : Bool) → (b || false) ≡ b
+false_or true = refl
+false_or false = refl
+
+-- a deal that doesn't lose a page leaves whether it is lost
+lost_on : (p : ℕ) (x : Dealing) (o : Option Ledger) → storage.loses p x ≡ false
+    → unwrap_or (option_map (λ (l : Ledger). storage.is_lost p l) (option_map (and_then x) o)) false
+    ≡ unwrap_or (option_map (λ (l : Ledger). storage.is_lost p l) o) false
+lost_on p x None off = refl
+lost_on p x (Some l) off =
+    list_any-append (storage.loses p) l.dealings (x ∷ [])
+    ∙ ap (λ b. list_any (storage.loses p) l.dealings || (b || false)) off
+    ∙ false_or (list_any (storage.loses p) l.dealings)
+
+-- another unit's page is lost, or another page
+loses_else : (k page : ℕ) (w : PlainWorld) (place p : ℕ) (u v : PlainUnit) → UnitIs w place u
+    → UnitIs (after (Transition.Deal k (Dealing.Lose page)) w) place v → (here : Bool) → eqb k place ≡ here → (same_page : Bool)
+    → eqb p page ≡ same_page → (here && same_page) ≡ false → lost_of p v ≡ lost_of p u
+loses_else k page w place p u v at now false off same_page is no =
+    ap (λ z. lost_of p z) (elsewhere (dealing (Dealing.Lose page)) k w.units place u v off at now)
+loses_else k page w place p u v at now true on false off no =
+    unchanged (lost_of p) (dealing (Dealing.Lose page)) k w.units (λ z. lost_on p (Dealing.Lose page) z.storage off) place u v at now
+loses_else k page w place p u v at now true on true off no = absurd (let f : false ≡ true = sym no in cc)
+
+pub lost_stays : (d : Transition) (w : PlainWorld) (place p : ℕ) (u v : PlainUnit) → UnitIs w place u → UnitIs (after d w) place v
+    → loses place p d ≡ false → lost_of p v ≡ lost_of p u
+lost_stays (Transition.Run x) w place p u v at now off =
+    unchanged (lost_of p) (stepped (Step.Enter x.entry)) x.unit w.units (λ z. refl) place u v at now
+lost_stays (Transition.Park x) w place p u v at now off =
+    unchanged (lost_of p) (parking x) x.unit w.units (λ z. refl) place u v at now
+lost_stays (Transition.EnterFull x) w place p u v at now off =
+    unchanged (lost_of p) (stepped (Step.Full x.entry.ticket)) x.unit w.units (λ z. refl) place u v at now
+lost_stays (Transition.Commit k x r) w place p u v at now off =
+    unchanged (lost_of p) (stepped (Step.Commit x.entry.ticket r)) x.unit w.units (λ z. refl) place u v at now
+lost_stays (Transition.CommitBusy k x) w place p u v at now off =
+    unchanged (lost_of p) (stepped (Step.Busy x.entry.ticket)) x.unit w.units (λ z. refl) place u v at now
+lost_stays (Transition.Leave k i t jobs) w place p u v at now off =
+    unchanged (lost_of p) (stepped (Step.Leave t)) i w.units (λ z. refl) place u v at now
+lost_stays (Transition.Mark t q (Abort rule) jobs) w place p u v at now off =
+    unchanged (lost_of p) (stepped (step_by (Abort rule))) q.unit w.units (λ z. refl) place u v at now
+lost_stays (Transition.Mark t q (Reset c) jobs) w place p u v at now off =
+    unchanged (lost_of p) (stepped (step_by (Reset c))) q.unit w.units (λ z. refl) place u v at now
+lost_stays (Transition.Hard q jobs) w place p u v at now off =
+    unchanged (lost_of p) (stepped (Step.Reset hard_code)) q.unit w.units (λ z. refl) place u v at now
+lost_stays (Transition.Resize k blocks) w place p u v at now off =
+    unchanged (lost_of p) (stepped (Step.Resize blocks)) k w.units
+    (λ z. lost_on p (Dealing.Cut (min (capacity_of z.opening z.steps) blocks)) z.storage refl) place u v at now
+lost_stays (Transition.Deal k (Dealing.Keep page)) w place p u v at now off =
+    unchanged (lost_of p) (dealing (Dealing.Keep page)) k w.units (λ z. lost_on p (Dealing.Keep page) z.storage refl) place u v at now
+lost_stays (Transition.Deal k (Dealing.Give page bytes)) w place p u v at now off =
+    unchanged (lost_of p) (dealing (Dealing.Give page bytes)) k w.units (λ z. lost_on p (Dealing.Give page bytes) z.storage refl) place u v at now
+lost_stays (Transition.Deal k (Dealing.Cut blocks)) w place p u v at now off =
+    unchanged (lost_of p) (dealing (Dealing.Cut blocks)) k w.units (λ z. lost_on p (Dealing.Cut blocks) z.storage refl) place u v at now
+lost_stays (Transition.Deal k (Dealing.Lose page)) w place p u v at now off =
+    loses_else k page w place p u v at now (eqb k place) refl (eqb p page) refl off
+lost_stays d w place p u v at now off = ap (λ z. lost_of p z) (same (sym now ∙ at))
 
 -- a deal is one of the unit's storage alone
 pub deals_alone : (w : PlainWorld) (place : ℕ) (x : Dealing) (u : PlainUnit) → UnitIs w place u

@@ -1,10 +1,9 @@
 -- At which address a unit stands, of which profile its commands are, and whether it has a volatile write cache.
-use Rattle.std.specs.Prelude.{ℕ, ◌≡◌, List, Some, slice_get}
+use Rattle.std.specs.Prelude.{ℕ, ◌≡◌, Some, slice_get}
 use Rattle.command_model.specs.Identity.{told_by}
 use Rattle.request_intake.specs.Inventory.{PlainInventory}
 use Rattle.unit_model.specs.Receipts.{unit_address}
 use Rattle.unit_model.specs.Unit.{PlainUnit}
-use Rattle.device_model.specs.World.{PlainWorld, Everywhere}
 
 -- the unit has the address that stands in the inventory at this place, the profile, and a volatile write cache where one
 -- stands there: so a command is answered as that of the profile by which it was decoded, and none that asks for the medium
@@ -14,7 +13,3 @@ IsAddressed inventory place u =
     (slice_get inventory.addresses place ≡ Some (unit_address u.opening))
     × (slice_get inventory.profiles place ≡ Some u.opening.profile)
     × (slice_get inventory.caches place ≡ Some (told_by u.opening.profile u.opening.identity).write_cache)
-
--- each unit has what stands in the inventory at its place
-abbrev pub AreAddressed : PlainWorld → Type 0
-AreAddressed w = Everywhere (IsAddressed w.inventory) w.units

@@ -8,7 +8,7 @@ use Rattle.unit_model.specs.declared.reason.Reason.{Reason}
 use Rattle.unit_model.specs.Tasks.{Entry}
 use Rattle.unit_model.specs.Steps.{Step}
 use Rattle.unit_model.specs.Marks.{mark_of}
-use Rattle.unit_model.specs.Contents.{Opening, reply_after}
+use Rattle.unit_model.specs.Contents.{Opening, MayReply}
 use Rattle.unit_model.specs.Lawful.{IsReady}
 use Rattle.unit_model.specs.Endings.{Ending}
 use Rattle.unit_model.specs.Jobs.{PlainJob}
@@ -25,9 +25,9 @@ use Rattle.device_model.specs.Happened.{Happened, IsBeginning, IsFetch, IsShed, 
 use Rattle.device_model.specs.Histories.{Stands, StandsOn, history_of}
 use Rattle.device_model.specs.Entering.{IsJobOf}
 
--- the command of the task ran where it was ready, and replied as the history before it says
+-- the command of the task ran where it was ready, and replied as the history before it says, or that the medium can't be read
 abbrev pub IsReplied : Opening → Entry → PlainReply → List Step → Type 0
-IsReplied o e r h = StandsOn (Step.Commit e.ticket r) (λ past. IsReady e.ticket e past × (r ≡ reply_after o e past)) h
+IsReplied o e r h = StandsOn (Step.Commit e.ticket r) (λ past. IsReady e.ticket e past × MayReply o e past r) h
 
 -- the request of a job ended so: its command ran, and this was the reply; it is marked, for this reason first; its unit
 -- was full; it was refused memory by its unit, at its Enter or at its Commit

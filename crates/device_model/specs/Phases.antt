@@ -17,7 +17,7 @@ use Rattle.unit_model.specs.Steps.{Step, alive, is_alive, next_number}
 use Rattle.unit_model.specs.Marks.{mark_of}
 use Rattle.unit_model.specs.Clearing.{is_clear}
 use Rattle.unit_model.specs.Seen.{any_met}
-use Rattle.unit_model.specs.Unit.{PlainUnit, may_wait, after as stepped, parking, MayDeal, dealing}
+use Rattle.unit_model.specs.Unit.{PlainUnit, may_wait, after as stepped, parking, MayCommit, MayDeal, dealing}
 use Rattle.unit_model.specs.Asking.{IsNamed, IsMisdelivered, CannotCommit}
 use Rattle.task_mgmt.specs.Functions.{step_by, response_of}
 use Rattle.task_mgmt.specs.declared.control.ControlDecision.TheVariants as managed
@@ -72,7 +72,7 @@ AsksUnit (Transition.Park x) u =
 AsksUnit (Transition.EnterFull x) u = IsNamed x u × MayStep u (Step.Full x.entry.ticket)
 AsksUnit (Transition.EnterBusy x) u = IsNamed x u × (next_number x.entry.ticket.queue u.steps ≤ x.entry.ticket.number)
 AsksUnit (Transition.EnterStale x) u = IsMisdelivered x u
-AsksUnit (Transition.Commit k x r) u = MayStep u (Step.Commit x.entry.ticket r)
+AsksUnit (Transition.Commit k x r) u = MayCommit u x.entry.ticket r
 AsksUnit (Transition.CommitBusy k x) u = MayStep u (Step.Busy x.entry.ticket) × MayYield u x.entry.command
 AsksUnit (Transition.CommitAborted k x why) u =
     (is_alive x.entry.ticket u.steps ≡ true) × (mark_of x.entry.ticket u.steps ≡ Some why)

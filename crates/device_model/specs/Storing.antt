@@ -1,7 +1,7 @@
 -- Which transitions change what the host's storage has of a unit's disk.
-use Rattle.std.specs.Prelude.{ℕ, Bool, false, ◌==◌, Option, option_map}
+use Rattle.std.specs.Prelude.{ℕ, Bool, false, ◌==◌, ◌&&◌, Option, option_map, unwrap_or}
 use Rattle.block_store.specs.Blocks.{Blocks}
-use Rattle.block_store.specs.Storage.{Ledger, Dealing, storage_by}
+use Rattle.block_store.specs.Storage.{Ledger, Dealing, storage_by, is_lost}
 use Rattle.unit_model.specs.Unit.{PlainUnit}
 use Rattle.device_model.specs.Transitions.{Transition}
 
@@ -26,3 +26,12 @@ keeps place (Transition.Deal k (Dealing.Keep page)) = k == place
 keeps place (Transition.Deal k (Dealing.Cut blocks)) = k == place
 keeps place (Transition.Resize k blocks) = k == place
 keeps place d = false
+
+-- the host said that it can't read page p of a unit's disk
+abbrev pub lost_of : ℕ → PlainUnit → Bool
+lost_of p u = unwrap_or (option_map (λ (l : Ledger). is_lost p l) u.storage) false
+
+-- the transition says so of page p of the unit at a place
+abbrev pub loses : ℕ → ℕ → Transition → Bool
+loses place p (Transition.Deal k (Dealing.Lose page)) = k == place && p == page
+loses place p d = false

@@ -2,12 +2,11 @@
 use Rattle.std.specs.Prelude.{ℕ, Bool, false, zero, suc, ◌≡◌, ◌-◌, ◌%◌, ◌+◌, ◌<◌, ◌≤◌, ◌⊎◌, List, [], ◌∷◌, ◌++◌, length, Option, Some, None, slice_get}
 use Rattle.scsi_codec.specs.declared.event_queue.Event.{Event as EventRecord}
 use Rattle.ring_core.specs.State.{RingState, PlainChain}
-use Rattle.command_model.specs.Identity.{told_by}
 use Rattle.request_intake.specs.Inventory.{PlainInventory}
 use Rattle.unit_model.specs.Jobs.{PlainJob}
 use Rattle.unit_model.specs.Unit.{PlainUnit}
-use Rattle.unit_model.specs.Receipts.{unit_address}
 use Rattle.task_mgmt.specs.Functions.{PlainFunction}
+use Rattle.device_model.specs.Addressed.{IsAddressed}
 use Rattle.device_model.specs.Parts.{Slot, Hand}
 
 -- its ring, what it has between two steps, and how many notices were wanted
@@ -97,14 +96,16 @@ pub record IsNewSeat (s : Seat) : Type 0 where
   pub hand : s.hand ≡ Hand.Empty
   pub out : s.out ≡ []
 
+-- each unit has what stands in the inventory at its place
+abbrev pub AreAddressed : PlainWorld → Type 0
+AreAddressed w = Everywhere (IsAddressed w.inventory) w.units
+
 -- nothing has happened yet
 pub record Opens (w : PlainWorld) : Type 0 where
   pub queues : Everywhere (λ i q. IsNewQueue i q) w.queues
   pub units : Everywhere (λ i u. IsNewUnit u) w.units
   pub there : length w.units ≡ length w.inventory.addresses
-  pub addressed : Everywhere (λ i u. (slice_get w.inventory.addresses i ≡ Some (unit_address u.opening))
-      × (slice_get w.inventory.profiles i ≡ Some u.opening.profile)
-      × (slice_get w.inventory.caches i ≡ Some (told_by u.opening.profile u.opening.identity).write_cache)) w.units
+  pub addressed : AreAddressed w
   pub seats : Everywhere (λ i s. IsNewSeat s) w.seats
   pub working : 1 ≤ w.workers
   pub seated : length w.seats ≡ w.workers + 1

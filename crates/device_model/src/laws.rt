@@ -8,7 +8,7 @@ ghost use Rattle.ring_core.specs.declared.log.Ticket.{Ticket};
 ghost use Rattle.unit_model.specs.Jobs.{PlainJob};
 ghost use Rattle.unit_model.specs.Unit.{PlainUnit};
 ghost use Rattle.device_model.specs.Parts.{Completion};
-ghost use Rattle.device_model.specs.World.{PlainQueue, PlainWorld, Everywhere, Opens};
+ghost use Rattle.device_model.specs.World.{PlainQueue, PlainWorld, Everywhere, Opens, AreAddressed};
 ghost use Rattle.device_model.specs.Events.{Event as AnEvent};
 ghost use Rattle.device_model.specs.Transitions.{Transition, action_of, completion_of, event_of};
 ghost use Rattle.device_model.specs.After.{after};
@@ -26,7 +26,6 @@ ghost use Rattle.device_model.specs.Standing.{
   FunctionIsThere,
   IsToCheck,
 };
-ghost use Rattle.device_model.specs.Addressed.{AreAddressed};
 ghost use Rattle.device_model.specs.Applies.{Applies};
 ghost use Rattle.device_model.specs.Turns.{Turns, IsStep};
 ghost use Rattle.device_model.specs.Laws.{

@@ -5,7 +5,7 @@ use Rattle.unit_model.specs.Clearing.{is_clear}
 use Rattle.unit_model.specs.Unit.{PlainUnit}
 use Rattle.task_mgmt.specs.Functions.{checking}
 use Rattle.task_mgmt.specs.declared.function.Mark.{Mark as Place}
-use Rattle.device_model.specs.World.{Opened, PlainWorld}
+use Rattle.device_model.specs.World.{Opened, PlainWorld, AreAddressed}
 use Rattle.device_model.specs.Events.{Event}
 use Rattle.device_model.specs.Transitions.{Transition}
 use Rattle.device_model.specs.Changing.{on_function}
@@ -14,7 +14,6 @@ use Rattle.device_model.specs.Event.Check.{IsWaiting}
 use Rattle.device_model.specs.Turns.{Turns}
 use Rattle.device_model.proofs.Joining.{joins}
 use Rattle.device_model.proofs.Lists.{same}
-use Rattle.device_model.specs.Addressed.{AreAddressed}
 use Rattle.phases.specs.Units.{Checks, ChecksFirst, ChecksMark}
 
 -- the world with this function

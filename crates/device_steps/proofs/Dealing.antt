@@ -1,11 +1,12 @@
 -- A host deals with the storage of the unit that it is lent, and so with the device's.
-use Rattle.std.proofs.Common.{◌≡◌, ℕ, Bool, true, List, Option, Some, None, Result, Ok, Err, ap, ◌∙◌}
+use Rattle.std.proofs.Common.{◌≡◌, ◌<◌, ◌*◌, ℕ, Bool, true, List, Option, Some, None, Result, Ok, Err, ap, ◌∙◌}
 use Rattle.std.specs.Prelude.{slice_get, slice_set, IsTrue, IsFalse, IfOk, IfSome, IfNone, OnErr}
 use Rattle.backed_store.specs.declared.dealing.GivenPage.{GivenPage}
 use Rattle.block_store.specs.Storage.{Dealing}
+use Rattle.unit_model.specs.Contents.{capacity_of}
 use Rattle.unit_model.specs.Unit.{PlainUnit, MayDeal, is_backed, dealing}
 use Rattle.device_steps.specs.Apart.{PlainDevice}
-use Rattle.device_steps.specs.Paging.{IsBackedAt, IsDealt}
+use Rattle.device_steps.specs.Paging.{HasPage, IsDealt}
 use Rattle.device_steps.proofs.Setting.{unit_change, unit_still}
 
 -- The unit at a place, and what it is once it is given back
@@ -14,7 +15,7 @@ module _ (d : PlainDevice) (p : ℕ) (u v : PlainUnit) (at : slice_get d.units p
   abbrev lent : PlainDevice
   lent = record d { units = slice_set d.units p v }
 
-  dealt : (x : Dealing) → MayDeal u x → v ≡ dealing x u → IsDealt d p x lent
+  pub dealt : (x : Dealing) → MayDeal u x → v ≡ dealing x u → IsDealt d p x lent
   dealt x may is =
       record {
         unit = u;
@@ -26,9 +27,10 @@ module _ (d : PlainDevice) (p : ℕ) (u v : PlainUnit) (at : slice_get d.units p
   pub still : v ≡ u → lent ≡ d
   still is = ap (λ (us : List PlainUnit). record d { units = us }) (unit_still d.units p u v at is)
 
-  pub wanted : (r : Option ℕ) → IfSome r (λ page. is_backed u ≡ true) → IfSome r (λ page. IsBackedAt d.units p)
-  wanted (Some page) is = record { unit = u; there = at; backed = is }
-  wanted None is = tt
+  pub wanted : (r : Option ℕ) → IfSome r (λ page. is_backed u ≡ true)
+      → IfSome r (λ page. 8 * page < capacity_of u.opening u.steps) → IfSome r (λ page. HasPage d.units p page)
+  wanted (Some page) is below = record { unit = u; there = at; backed = is; below = below }
+  wanted None is below = tt
 
   module _ {E : Type 0} where
     pub given : (r : Result (Option GivenPage) E)

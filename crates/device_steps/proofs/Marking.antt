@@ -9,7 +9,7 @@ use Rattle.unit_model.specs.Unit.{PlainUnit, after as stepped}
 use Rattle.task_mgmt.specs.Functions.{PlainFunction, marking, asking, failing, step_by}
 use Rattle.task_mgmt.specs.declared.kind.Kind.{Kind}
 use Rattle.task_mgmt.specs.declared.kind.Kind.TheVariants.{Marking, Querying}
-use Rattle.device_model.specs.World.{Seat, Opened, PlainWorld, change}
+use Rattle.device_model.specs.World.{Seat, Opened, PlainWorld, change, AreAddressed}
 use Rattle.device_model.specs.Events.{Event}
 use Rattle.device_model.specs.Transitions.{Transition}
 use Rattle.device_model.specs.Changing.{on_function, with_jobs}
@@ -17,7 +17,6 @@ use Rattle.device_model.specs.Found.{handed_out}
 use Rattle.device_model.specs.Event.Mark.{IsMarking}
 use Rattle.device_model.specs.Event.Wake.{after_wake}
 use Rattle.device_model.specs.Phases.{IsLeft}
-use Rattle.device_model.specs.Addressed.{AreAddressed}
 use Rattle.device_model.specs.Standing.{HaveRoom}
 use Rattle.device_model.specs.Turns.{Turns}
 use Rattle.device_model.proofs.Lists.{same, nothing}

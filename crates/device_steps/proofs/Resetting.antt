@@ -8,13 +8,12 @@ use Rattle.request_intake.specs.Inventory.{PlainInventory}
 use Rattle.unit_model.specs.Steps.{Step}
 use Rattle.unit_model.specs.Jobs.{Jobs}
 use Rattle.unit_model.specs.Unit.{PlainUnit, after as stepped}
-use Rattle.device_model.specs.World.{Seat, PlainWorld}
+use Rattle.device_model.specs.World.{Seat, PlainWorld, AreAddressed}
 use Rattle.device_model.specs.Events.{Event}
 use Rattle.device_model.specs.Transitions.{Transition}
 use Rattle.device_model.specs.Event.Hard.{hard_code, reports_of}
 use Rattle.device_model.specs.Event.Wake.{after_wake}
 use Rattle.device_model.specs.Found.{handed_out}
-use Rattle.device_model.specs.Addressed.{AreAddressed}
 use Rattle.device_model.specs.Standing.{HaveRoom}
 use Rattle.device_model.proofs.Joining.{joins}
 use Rattle.phases.specs.Units.{mark_at}

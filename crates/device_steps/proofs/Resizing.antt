@@ -7,11 +7,10 @@ use Rattle.unit_model.specs.Steps.{Step}
 use Rattle.unit_model.specs.Unit.{PlainUnit, after as stepped}
 use Rattle.phases.specs.declared.resizing.ResizeFault.{ResizeFault}
 use Rattle.phases.specs.declared.resizing.ResizeFault.TheVariants as fault
-use Rattle.device_model.specs.World.{PlainWorld}
+use Rattle.device_model.specs.World.{PlainWorld, AreAddressed}
 use Rattle.device_model.specs.Events.{Event}
 use Rattle.device_model.specs.Transitions.{Transition}
 use Rattle.device_model.specs.Event.Resize.{change_reports}
-use Rattle.device_model.specs.Addressed.{AreAddressed}
 use Rattle.device_model.proofs.Joining.{joins}
 use Rattle.phases.specs.Resizing.{ResizesUnit}
 use Rattle.device_steps.specs.Inner.Steps.{TurnsOrWants}

@@ -1,15 +1,17 @@
 -- What a host does with the disks whose pages come and go.
-use Rattle.std.specs.Prelude.{ℕ, ◌≡◌, true, List, Some, slice_get, IfSome}
+use Rattle.std.specs.Prelude.{ℕ, ◌≡◌, ◌*◌, ◌<◌, true, List, Some, slice_get, IfSome}
 use Rattle.block_store.specs.Storage.{Dealing, IsPageOf, storage_by}
+use Rattle.unit_model.specs.Contents.{capacity_of}
 use Rattle.unit_model.specs.Unit.{PlainUnit, MayDeal, is_backed, dealing}
 use Rattle.device_model.specs.World.{change}
 use Rattle.device_steps.specs.Apart.{PlainDevice}
 
--- the disk of the unit at a place is such a one
-pub record IsBackedAt (units : List PlainUnit) (place : ℕ) : Type 0 where
+-- the disk of the unit at a place is such a one, and has this page: its blocks 8 page to 8 page + 7, as far as it goes
+pub record HasPage (units : List PlainUnit) (place page : ℕ) : Type 0 where
   pub unit : PlainUnit
   pub there : slice_get units place ≡ Some unit
   pub backed : is_backed unit ≡ true
+  pub below : 8 * page < capacity_of unit.opening unit.steps
 
 -- the bytes are those of a page of the disk of the unit at a place, as the host's storage has them by what it said
 abbrev pub IsKeptPage : List PlainUnit → ℕ → ℕ → List ℕ → Type 0

@@ -7,7 +7,7 @@ use foundation::NoMemory;
 impl Device {
     ghost use Rattle.std.specs.Prelude.{◌≡◌, ◌+◌, length, IsTrue, IsFalse, IfOk, OnErr, IfSome, IfNone};
     ghost use Rattle.block_store.specs.Storage.{Dealing};
-    ghost use Rattle.device_steps.specs.Paging.{IsBackedAt, IsKeptPage, IsDealt};
+    ghost use Rattle.device_steps.specs.Paging.{HasPage, IsKeptPage, IsDealt};
 
     /// Returns how many jobs wait for pages of their disks, or for what was written to be kept, those that are to be tried again
     /// among them. A host wakes them once more where fewer wait than before.
@@ -18,11 +18,12 @@ impl Device {
     }
 
     /// Returns the next page of the disk of the unit at a place that the host is to read, 8 blocks each, and counts it as
-    /// asked for. The host hands it in by [`Device::load`], or says that it can't by [`Device::load_failed`]. `None` where no
-    /// command waits for a page that the host wasn't asked for, where the disk isn't backed, or where there is no such unit.
+    /// asked for. The host hands it in by [`Device::load`], or says that it doesn't by [`Device::load_failed`], or that it can't
+    /// by [`Device::lost`]. `None` where no command waits for a page that the host wasn't asked for, where the disk isn't
+    /// backed, or where there is no such unit.
     pub fn next_wanted(&mut self, place: u16) -> Option<u64>
         ensures same { self.new ≡ self.old }
-        ensures backed { IfSome result (λ page. IsBackedAt self.old.units place) }
+        ensures page { IfSome result (λ page. HasPage self.old.units place page) }
     {
         let at = place as usize;
         if at >= self.units.len() {
@@ -56,6 +57,19 @@ impl Device {
             return false;
         }
         self.units[at].load_failed(page)
+    }
+
+    /// Notes that the host's storage can't read a page that the host was asked for. Returns true if a command may wait for it:
+    /// then a Wake has those that wait tried again, and one that needs the page ends with MEDIUM ERROR.
+    pub fn lost(&mut self, place: u16, page: u64) -> bool
+        ensures lost { IsTrue result → IsDealt self.old place (Dealing.Lose page) self.new }
+        ensures otherwise { IsFalse result → self.new ≡ self.old }
+    {
+        let at = place as usize;
+        if at >= self.units.len() {
+            return false;
+        }
+        self.units[at].lost(page)
     }
 
     /// Gives the host the next page that it is to write to the storage of the unit at a place, as the unit's blocks are now.

@@ -85,7 +85,7 @@ turns_none h s u out v h' s' out' e =
 -- what a unit answers leaves a receipt where a Commit was made
 answers_count : (u : PlainUnit) (x : PlainJob) (o : answers.Outcome) (v : PlainUnit) → CommitsUnit u x o v
     → HasMore (if is_reply (Some o) then 1 else 0) u v
-answers_count u x (outcome.Reply receipt) v (e, of, ready, is, steps) = (counted_as steps.is, acted_as steps.is)
+answers_count u x (outcome.Reply receipt) v (e, of, ready, r, replies, is, steps) = (counted_as steps.is, acted_as steps.is)
 answers_count u x (outcome.Aborted why) v (e, of, marked, is) = (omega (arith, counted_as is), acted_as is)
 answers_count u x outcome.Busy v (e, of, short, steps) = let made = counted_as steps.is in (omega (arith, made), acted_as steps.is)
 answers_count u x outcome.Unknown v (cannot, is) = (omega (arith, counted_as is), acted_as is)

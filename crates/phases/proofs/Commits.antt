@@ -2,7 +2,6 @@
 use Rattle.std.proofs.Common.{ℕ, ◌≡◌, true, false, Option, Some, None, refl, ap, sym, ◌∙◌, subst}
 use Rattle.std.specs.Prelude.{is_some}
 use Rattle.unit_model.specs.Endings.{Ending}
-use Rattle.unit_model.specs.Contents.{reply_after}
 use Rattle.unit_model.specs.Jobs.{PlainJob}
 use Rattle.unit_model.specs.Asking.{Asked}
 use Rattle.unit_model.specs.Unit.{PlainUnit}
@@ -26,10 +25,10 @@ CommitsAs k x u ending v = (d : Transition) × IsCommitting k x d × DoesUnit d 
 -- a commit is one of its transitions, whatever the seat
 pub committed : (k : ℕ) (x : PlainJob) (u v : PlainUnit) (what : outcome_type.Outcome)
     → Commits u x what v → CommitsAs k x u (ending_of what) v
-committed k x u v (outcome.Reply receipt) (e, of, ready, is, step) =
+committed k x u v (outcome.Reply receipt) (e, of, ready, r, replies, is, step) =
     let told = ap (λ r. ending_of_reply r.reply) is in
-    let d = Transition.Commit k x (reply_after u.opening e u.steps) in
-    (d, (refl, refl), record { asks = step.may; is = step.is }, told)
+    let d = Transition.Commit k x r in
+    (d, (refl, refl), record { asks = (e, ready, replies); is = step.is }, told)
 committed k x u v (outcome.Aborted why) (e, of, mark, same) =
     (Transition.CommitAborted k x why, (refl, refl), record { asks = (ap is_some of.is_there, mark); is = same }, refl)
 committed k x u v outcome.Busy (e, of, want, step) =

@@ -8,7 +8,7 @@
 #![tactic(auto)]
 
 ghost use Rattle.std.specs.Prelude.{◌≡◌, ◌≤◌, length};
-ghost use Rattle.sense.specs.Conditions.{miscompare, unit_attention};
+ghost use Rattle.sense.specs.Conditions.{block_information, miscompare, unit_attention, unrecovered_read_error};
 ghost use Rattle.sense.specs.Descriptor.{descriptor, descriptor_header, information_descriptor};
 ghost use Rattle.sense.specs.Fixed.{fixed};
 ghost use Rattle.sense.specs.Format.{bytes_in, in_format, sent};
@@ -32,6 +32,9 @@ const INFORMATION_BYTES: usize = 12;
 
 /// The bytes of sense data, in one format or the other. They stand in place, so that making them takes no memory.
 pub type SenseBytes = ArrayVec<u8, MOST_SENSE_BYTES>;
+
+/// The sense key MEDIUM ERROR: the medium failed the command.
+pub const MEDIUM_ERROR: u8 = 0x03;
 
 /// The sense key ILLEGAL REQUEST: a field of the CDB or of the parameter list is refused.
 pub const ILLEGAL_REQUEST: u8 = 0x05;
@@ -77,7 +80,8 @@ pub struct Sense {
     pub ascq: u8,
     /// The format in which it is sent beside a status.
     pub format: SenseFormat,
-    /// The information field, if it is valid: of a miscompare the offset in bytes of the first unequal byte.
+    /// The information field, if it is valid: of a miscompare the offset in bytes of the first unequal byte, of a medium
+    /// error the block.
     pub information: Option<u32>,
 }
 
@@ -172,6 +176,20 @@ impl Sense {
         information: None,
     };
 
+    /// Makes UNRECOVERED READ ERROR: what a command answers that needs a block which can't be read. The block's number is its
+    /// information, where that is below 2^32 (SBC-3 §4.18).
+    pub fn unrecovered_read_error(block: u64) -> Sense
+        ensures { result ≡ unrecovered_read_error block }
+    {
+        Sense {
+            key: MEDIUM_ERROR,
+            asc: 0x11,
+            ascq: 0x00,
+            format: SenseFormat::Fixed,
+            information: block_information(block),
+        }
+    }
+
     /// Makes MISCOMPARE DURING VERIFY OPERATION: what a COMPARE AND WRITE answers where its data and the blocks differ.
     /// `offset` is the offset in bytes of the first unequal byte (SBC-3 §5.2).
     pub const fn miscompare(offset: u32) -> Sense
@@ -259,6 +277,17 @@ impl Sense {
             SenseFormat::Fixed => in_place(&self.to_fixed()),
             SenseFormat::Descriptor => self.to_descriptor(),
         }
+    }
+}
+
+/// Returns a block's number as information, where 4 bytes can hold it.
+fn block_information(block: u64) -> Option<u32>
+    ensures { result ≡ block_information block }
+{
+    if block <= u64::from(u32::MAX) {
+        Some(block as u32)
+    } else {
+        None
     }
 }
 

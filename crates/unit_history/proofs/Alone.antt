@@ -3,7 +3,7 @@ use Rattle.std.proofs.Common.{◌≡◌, ℕ, ◌+◌, ◌-◌, ◌≤◌, Bool,
 use Rattle.ring_core.specs.declared.log.Ticket.{Ticket}
 use Rattle.block_store.specs.Blocks.{Blocks}
 use Rattle.foundation.specs.declared.NoMemory.{NoMemory}
-use Rattle.block_store.specs.Storage.{Ledger}
+use Rattle.block_store.specs.Storage.{Ledger, IsLostIn}
 use Rattle.unit_attention.specs.declared.code.Code.{Code}
 use Rattle.block_commands.specs.declared.facts.UnitFacts.{UnitFacts}
 use Rattle.block_commands.specs.Inner.Told.{facts_of, protects}
@@ -45,9 +45,10 @@ use Rattle.unit_history.specs.Serving.{ServesAlone}
 use Rattle.unit_model.specs.Unit.{Steps}
 use Rattle.unit_history.specs.declared.outcomes.Entered.TheVariants as entered
 use Rattle.unit_history.proofs.Basing.{based_way, based_on, ran_folds}
-use Rattle.unit_history.proofs.Committing.{is_of, keep_run, commits_run}
+use Rattle.unit_history.proofs.Committing.{is_of, keep_run, commits_run, performed_comes}
 use Rattle.unit_history.proofs.Entering.{enters_task}
 use Rattle.unit_history.proofs.Keeping.{CameTo, is_ready, may_leave, keep_enter, keep_leave}
+use Rattle.unit_history.proofs.Losing.{none_met}
 use Rattle.unit_history.proofs.Noting.{recorded_on, recorded_run}
 use Rattle.unit_history.proofs.Stepping.{unit_with, steps_is}
 
@@ -89,12 +90,6 @@ ran_in_place facts facts' capacity command out bytes r blocks pending is reply s
       stored = λ b. sym (ap (λ (w : PlainReply). block_after command out w.status blocks b) replied ∙ same b);
       pends = none_taken command pending (ap (λ (f : UnitFacts). f.pending) (sym is) ∙ calm);
     }
-
-none_met : (command : Command) (pending : Option Sense) → pending ≡ None → met command pending ≡ None
-none_met command pending none = elim (is_stopped command) as (λ b. cond b pending None ≡ None) [
-  | true ↦ none
-  | false ↦ refl
-]
 
 -- what a command reads is in memory where it is ready, and meets no attention
 pub held_for : (held room : ℕ → Bool) (size : ℕ) (command : Command) (out : List ℕ) (facts facts' : UnitFacts) → facts' ≡ facts
@@ -160,7 +155,8 @@ module _ (o : Opening) (past : List Step) (block_at : Blocks) (pending : List Co
     kept_ran room2 less =
         subst (λ ts. AreKept o (step_for j.entry.ticket p ∷ Step.Enter j.entry ∷ past) block_at' pending' ts last_tickets' room2)
         (ends_so (length past) j)
-        (keep_run (kept_entered room1 reserve) j.entry.ticket j.entry false facts p block_at' pending' room2 ready as_told ran less)
+        (keep_run (kept_entered room1 reserve) j.entry.ticket j.entry false facts (IsLostIn None) p block_at' pending' room2 ready as_told
+        (performed_comes false facts (IsLostIn None) j.entry.command j.entry.data_out p block_at block_at' pending pending' ran) less)
 
     -- it left
     pub kept_left : (room2 room3 : ℕ) → room1 ≤ room2 + 1 → room2 ≤ room3 + 1
@@ -200,7 +196,7 @@ module _ (o : Opening) (past : List Step) (block_at : Blocks) (pending : List Co
           enters = enters storage named;
           commits = commits_run (kept_entered room1 reserve) j j.entry false storage storage facts p block_at' pending' refl
               (is_of (kept_entered room1 reserve) j (task_of_job (length past) j false false) (is_found (length past) j false) refl)
-              ready as_told ran;
+              ready as_told (performed_comes false facts (IsLostIn storage) j.entry.command j.entry.data_out p block_at block_at' pending pending' ran);
           answered = answered;
           leaves = subst (λ t. Steps (unit_with o (step_for j.entry.ticket p ∷ Step.Enter j.entry ∷ past) [] false storage) (Step.Leave t)
               (unit_with o (Step.Leave j.entry.ticket ∷ step_for j.entry.ticket p ∷ Step.Enter j.entry ∷ past) [] false storage))

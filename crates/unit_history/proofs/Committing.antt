@@ -1,19 +1,20 @@
 -- What a unit answers to a job that is committed, and what its parts are then.
-use Rattle.std.proofs.Common.{◌≡◌, ℕ, ◌+◌, ◌≤◌, ◌||◌, ◌&&◌, Bool, inl, inr, List, ◌∷◌, map, length, Option, Some, None, is_some, IsTrue, true, false, refl, sym, ◌∙◌, ap, subst}
+use Rattle.std.proofs.Common.{◌≡◌, ◌⊎◌, ℕ, ◌+◌, ◌≤◌, ◌||◌, ◌&&◌, Bool, inl, inr, List, ◌∷◌, map, length, Option, Some, None, is_some, IsTrue, true, false, refl, sym, ◌∙◌, ap, subst}
 use Rattle.ring_core.specs.declared.log.Ticket.{Ticket}
 use Rattle.block_store.specs.Blocks.{Blocks}
-use Rattle.block_store.specs.Storage.{Ledger}
+use Rattle.block_store.specs.Storage.{Ledger, IsLostIn}
 use Rattle.unit_attention.specs.declared.code.Code.{Code}
 use Rattle.command_model.specs.PlainReply.{PlainReply}
 use Rattle.command_model.specs.Effects.{block_after}
 use Rattle.command_model.specs.Facts.{Facts}
+use Rattle.command_model.specs.Failing.{IsUnread}
 use Rattle.command_model.specs.Replies.{reply_of}
 use Rattle.unit_model.specs.declared.reason.Reason.{Reason}
 use Rattle.unit_model.specs.Tasks.{Entry, task_of}
 use Rattle.unit_model.specs.Steps.{Step, alive, done}
 use Rattle.unit_model.specs.Marks.{mark_of}
 use Rattle.unit_model.specs.Seen.{Seen, seen, finished}
-use Rattle.unit_model.specs.Contents.{Opening, capacity_of, facts_after, reply_after}
+use Rattle.unit_model.specs.Contents.{Opening, capacity_of, facts_after, reply_after, MayReply}
 use Rattle.unit_model.specs.Lawful.{IsReady}
 use Rattle.unit_model.specs.Receipts.{unit_address, receipt_of}
 use Rattle.unit_model.specs.Jobs.{PlainJob}
@@ -24,7 +25,8 @@ use Rattle.command_model.specs.Waiting.{waits_at}
 use Rattle.unit_history.specs.Calls.{Commits, Waits}
 use Rattle.unit_history.specs.Inner.Parts.{AreKept}
 use Rattle.command_model.specs.Memory.{may_run_short}
-use Rattle.unit_history.specs.Inner.Performing.{PlainPerformed, Performs, step_for}
+use Rattle.cdb.specs.declared.commands.Command.{Command}
+use Rattle.unit_history.specs.Inner.Performing.{PlainPerformed, Performs, Comes, Ran, RanUnread, step_for, taken}
 use Rattle.unit_history.specs.Inner.Outcomes.{outcome_for}
 use Rattle.unit_history.specs.Inner.Turns.{Turns}
 use Rattle.unit_history.specs.declared.turn.Turn.TheVariants as turn
@@ -49,6 +51,34 @@ cannot : (s : Seen) (j : PlainJob) (past : List Step) → s ≡ seen past s.entr
 cannot s j past is (inl other) = inl other
 cannot s j past is (inr (inl done)) = inr (inl (sym (ap (λ (x : Seen). x.done) is) ∙ done))
 cannot s j past is (inr (inr waits)) = inr (inr (sym (ap (λ (x : Seen). is_some x.mark) is) ∙ ap (λ m. is_some m) waits.0, sym (ap (λ (x : Seen). x.enabled) is) ∙ waits.1))
+
+-- a command that was performed came so
+pub performed_comes : (keeps : Bool) (facts : Facts) (lost : ℕ → Type 0) (command : Command) (bytes : List ℕ) (p : Option PlainPerformed)
+    (blocks blocks' : Blocks) (pending pending' : List Code) → Performs keeps facts command bytes p blocks blocks' pending pending'
+    → Comes keeps facts lost command bytes p blocks blocks' pending pending'
+performed_comes keeps facts lost command bytes None blocks blocks' pending pending' short = short
+performed_comes keeps facts lost command bytes (Some p) blocks blocks' pending pending' ran = inl ran
+
+-- a reply that the medium can't be read changes no block
+unread_stores : (facts : Facts) (command : Command) (bytes out : List ℕ) (page : ℕ) (r : PlainReply) (blocks : Blocks) (b : ℕ)
+    → IsUnread facts command bytes page r → blocks b ≡ block_after command out r.status blocks b
+unread_stores facts command bytes out page r blocks b unread =
+    sym (ap (λ (w : PlainReply). block_after command out w.status blocks b) unread.is)
+
+-- what came of a command that ran, or needs what is lost: its data are in place
+came_stored : (keeps : Bool) (facts : Facts) (lost : ℕ → Type 0) (command : Command) (bytes : List ℕ) (p : PlainPerformed)
+    (blocks blocks' : Blocks) (pending pending' : List Code) → Comes keeps facts lost command bytes (Some p) blocks blocks' pending pending'
+    → (b : ℕ) → blocks' b ≡ block_after command bytes p.reply.status blocks b
+came_stored keeps facts lost command bytes p blocks blocks' pending pending' (inl ran) b =
+    ran.stored b ∙ ap (λ (r : PlainReply). block_after command bytes r.status blocks b) (sym ran.reply)
+came_stored keeps facts lost command bytes p blocks blocks' pending pending' (inr ran) b =
+    ran.stored b ∙ unread_stores facts command bytes bytes ran.page p.reply blocks b ran.unread
+
+came_pends : (keeps : Bool) (facts : Facts) (lost : ℕ → Type 0) (command : Command) (bytes : List ℕ) (p : PlainPerformed)
+    (blocks blocks' : Blocks) (pending pending' : List Code) → Comes keeps facts lost command bytes (Some p) blocks blocks' pending pending'
+    → pending' ≡ taken command pending
+came_pends keeps facts lost command bytes p blocks blocks' pending pending' (inl ran) = ran.pends
+came_pends keeps facts lost command bytes p blocks blocks' pending pending' (inr ran) = ran.pends
 
 module _ {o : Opening} {past : List Step} {block_at : Blocks} {pending : List Code} {tasks : List PlainTask} {last_tickets : List (Option ℕ)} {room : ℕ}
     (k : AreKept o past block_at pending tasks last_tickets room) where
@@ -84,19 +114,34 @@ module _ {o : Opening} {past : List Step} {block_at : Blocks} {pending : List Co
   ran_reply : (e : Entry) (facts : Facts) → facts ≡ facts_after o past → reply_of facts e.command e.data_out block_at ≡ reply_after o e past
   ran_reply e facts as_told = ap (λ f. reply_of f e.command e.data_out block_at) as_told ∙ replies_after k e
 
+  -- the reply is that of the history, or that the medium can't be read
+  came_replied : (e : Entry) (keeps : Bool) (facts : Facts) (lost : ℕ → Type 0) (p : PlainPerformed) (block_at' : Blocks) (pending' : List Code)
+      → facts ≡ facts_after o past → Comes keeps facts lost e.command e.data_out (Some p) block_at block_at' pending pending'
+      → (p.reply ≡ reply_after o e past) ⊎ ((page : ℕ) × IsUnread (facts_after o past) e.command e.data_out page p.reply × lost page)
+  came_replied e keeps facts lost p block_at' pending' as_told (inl ran) = inl (ran.reply ∙ ran_reply e facts as_told)
+  came_replied e keeps facts lost p block_at' pending' as_told (inr ran) =
+      inr (ran.page, subst (λ f. IsUnread f e.command e.data_out ran.page p.reply) as_told ran.unread, ran.is_lost)
+
+  may_reply : (e : Entry) (lost : ℕ → Type 0) (r : PlainReply)
+      → (r ≡ reply_after o e past) ⊎ ((page : ℕ) × IsUnread (facts_after o past) e.command e.data_out page r × lost page) → MayReply o e past r
+  may_reply e lost r (inl is) = inl is
+  may_reply e lost r (inr (page, unread, is_lost)) = inr (page, unread)
+
   -- the parts once a command ran, or was refused memory
-  pub keep_run : (t : Ticket) (e : Entry) (keeps : Bool) (facts : Facts) (p : Option PlainPerformed) (block_at' : Blocks) (pending' : List Code) (room' : ℕ)
-      → IsReady t e past → facts ≡ facts_after o past → Performs keeps facts e.command e.data_out p block_at block_at' pending pending' → room ≤ room' + 1
+  pub keep_run : (t : Ticket) (e : Entry) (keeps : Bool) (facts : Facts) (lost : ℕ → Type 0) (p : Option PlainPerformed) (block_at' : Blocks) (pending' : List Code) (room' : ℕ)
+      → IsReady t e past → facts ≡ facts_after o past → Comes keeps facts lost e.command e.data_out p block_at block_at' pending pending' → room ≤ room' + 1
       → AreKept o (step_for t p ∷ past) block_at' pending' (map (moved (finished t)) tasks) last_tickets room'
-  keep_run t e keeps facts None block_at' pending' room' ready as_told short reserve = keep_busy k t e block_at' pending' room' ready short.stored short.pends reserve
-  keep_run t e keeps facts (Some p) block_at' pending' room' ready as_told ran reserve =
-      keep_commit k t e p.reply block_at' pending' room' ready (ran.reply ∙ ran_reply e facts as_told)
-      (λ b. ran.stored b ∙ ap (λ (r : PlainReply). block_after e.command e.data_out r.status block_at b) (sym ran.reply))
-      ran.pends reserve
+  keep_run t e keeps facts lost None block_at' pending' room' ready as_told short reserve = keep_busy k t e block_at' pending' room' ready short.stored short.pends reserve
+  keep_run t e keeps facts lost (Some p) block_at' pending' room' ready as_told ran reserve =
+      keep_commit k t e p.reply block_at' pending' room' ready
+      (may_reply e lost p.reply (came_replied e keeps facts lost p block_at' pending' as_told ran))
+      (came_stored keeps facts lost e.command e.data_out p block_at block_at' pending pending' ran)
+      (came_pends keeps facts lost e.command e.data_out p block_at block_at' pending pending' ran) reserve
 
   -- and what is answered
   pub commits_run : (j : PlainJob) (e : Entry) (keeps : Bool) (storage storage' : Option Ledger) (facts : Facts) (p : Option PlainPerformed) (block_at' : Blocks) (pending' : List Code)
-      → storage' ≡ storage → IsOf j e past → IsReady j.entry.ticket e past → facts ≡ facts_after o past → Performs keeps facts e.command e.data_out p block_at block_at' pending pending'
+      → storage' ≡ storage → IsOf j e past → IsReady j.entry.ticket e past → facts ≡ facts_after o past
+      → Comes keeps facts (IsLostIn storage) e.command e.data_out p block_at block_at' pending pending'
       → Commits (record { opening = o; steps = past; parked = parked_of tasks; keeps_replies = keeps; storage = storage }) j
       (outcome_for (unit_address o) (length past) j.entry.ticket p)
       (record { opening = o; steps = step_for j.entry.ticket p ∷ past; parked = parked_of (map (moved (finished j.entry.ticket)) tasks); keeps_replies = keeps; storage = storage' })
@@ -110,14 +155,16 @@ module _ {o : Opening} {past : List Step} {block_at : Blocks} {pending : List Co
     },
   )
   commits_run j e keeps storage storage' facts (Some p) block_at' pending' kind of ready as_told ran =
-      let r : p.reply ≡ reply_after o e past = ran.reply ∙ ran_reply e facts as_told in (
+      let replied = came_replied e keeps facts (IsLostIn storage) p block_at' pending' as_told ran in (
         e,
         of,
         ready,
-        ap (λ w. receipt_of o past j.entry.ticket (Some w)) r,
+        p.reply,
+        replied,
+        refl,
         record {
-          may = may_commit k j.entry.ticket e (reply_after o e past) ready refl;
-          is = same_unit o _ _ _ _ keeps keeps storage storage' (ap (λ w. Step.Commit j.entry.ticket w ∷ past) r)
-              (parked_commit o past block_at pending tasks last_tickets room j.entry.ticket (reply_after o e past) k) refl kind;
+          may = may_commit k j.entry.ticket e p.reply ready (may_reply e (IsLostIn storage) p.reply replied);
+          is = same_unit o _ _ _ _ keeps keeps storage storage' refl
+              (parked_commit o past block_at pending tasks last_tickets room j.entry.ticket p.reply k) refl kind;
         },
       )

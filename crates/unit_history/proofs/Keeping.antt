@@ -26,7 +26,7 @@ use Rattle.unit_model.specs.Steps.{Step, alive, done, next_number}
 use Rattle.unit_model.specs.Marks.{marked}
 use Rattle.unit_model.specs.Enabling.{enabled}
 use Rattle.unit_model.specs.Seen.{Seen, seen, tasks_of, entries, seen_at, others, joined, finished, with_mark, freed, owed}
-use Rattle.unit_model.specs.Contents.{Opening, is_capacity, capacity_of, capacity_changed, blocks_of, block_with, pending_at_start, pending_of, taken_by, oldest, facts_after, reply_after}
+use Rattle.unit_model.specs.Contents.{Opening, is_capacity, capacity_of, capacity_changed, blocks_of, block_with, pending_at_start, pending_of, taken_by, oldest, facts_after, reply_after, MayReply}
 use Rattle.unit_model.specs.Lawful.{IsReady, May, IsLawful}
 use Rattle.unit_model.proofs.Fresh as never
 use Rattle.unit_model.proofs.Few.{alive_few}
@@ -166,7 +166,7 @@ module _ {o : Opening} {past : List Step} {block_at : Blocks} {pending : List Co
       → May o (Step.Enter e) past
   may_enter e few le = (subst (λ n. n < 64) length_alive few, le)
 
-  pub may_commit : (t : Ticket) (e : Entry) (r : PlainReply) → IsReady t e past → r ≡ reply_after o e past → May o (Step.Commit t r) past
+  pub may_commit : (t : Ticket) (e : Entry) (r : PlainReply) → IsReady t e past → MayReply o e past r → May o (Step.Commit t r) past
   may_commit t e r ready is = (e, ready, is)
 
   pub may_busy : (t : Ticket) (e : Entry) → IsReady t e past → May o (Step.Busy t) past
@@ -223,7 +223,7 @@ module _ {o : Opening} {past : List Step} {block_at : Blocks} {pending : List Co
         reserved = let same = ap owed (set_enter j lawful) in let most = alive_owed o (Step.Enter j.entry ∷ past) lawful in omega (arith, same, most, reserve);
       }
 
-  pub keep_commit : (t : Ticket) (e : Entry) (r : PlainReply) (block_at' : Blocks) (pending' : List Code) (room' : ℕ) → IsReady t e past → r ≡ reply_after o e past
+  pub keep_commit : (t : Ticket) (e : Entry) (r : PlainReply) (block_at' : Blocks) (pending' : List Code) (room' : ℕ) → IsReady t e past → MayReply o e past r
       → ((b : ℕ) → block_at' b ≡ block_after e.command e.data_out r.status block_at b) → pending' ≡ taken e.command pending → room ≤ room' + 1
       → AreKept o (Step.Commit t r ∷ past) block_at' pending' (map (moved (finished t)) tasks) last_tickets room'
   keep_commit t e r block_at' pending' room' ready is stored pends reserve =

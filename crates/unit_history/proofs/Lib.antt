@@ -14,6 +14,7 @@ pub mod Handing
 pub mod Stepping
 pub mod Entering
 pub mod Committing
+pub mod Losing
 pub mod Alone
 pub mod Noting
 pub mod Opening

@@ -4,13 +4,14 @@ use Rattle.ring_core.specs.declared.log.Ticket.{Ticket}
 use Rattle.unit_model.specs.Tasks.{Entry, task_of, is_blocked}
 use Rattle.unit_model.specs.Steps.{Step, alive, done, next_number}
 use Rattle.unit_model.specs.Marks.{mark_of, marked}
-use Rattle.unit_model.specs.Contents.{is_capacity, facts_after, reply_after}
+use Rattle.unit_model.specs.Contents.{is_capacity, facts_after}
 use Rattle.unit_model.specs.Lawful.{IsReady, May}
 use Rattle.unit_model.specs.Receipts.{receipt_of}
 use Rattle.unit_model.specs.Jobs.{PlainJob}
-use Rattle.unit_model.specs.Unit.{PlainUnit, may_wait, parking, Steps}
+use Rattle.unit_model.specs.Unit.{PlainUnit, may_wait, parking, Replies, Steps}
 use Rattle.unit_model.specs.Asking.{IsOf, IsNamed, IsMisdelivered, CannotCommit}
 use Rattle.command_model.specs.Memory.{may_run_short}
+use Rattle.command_model.specs.PlainReply.{PlainReply}
 use Rattle.unit_history.specs.declared.outcomes.Entered.{Entered}
 use Rattle.unit_history.specs.declared.outcomes.Entered.TheVariants as entered
 use Rattle.unit_history.specs.declared.outcomes.Outcome.{Outcome}
@@ -35,13 +36,14 @@ Enters old j (entered.Busy job) new = (job ≡ j) × IsNamed j old
     × (new ≡ old)
 Enters old j (entered.Stale job) new = (job ≡ j) × IsMisdelivered j old × (new ≡ old)
 
--- the command runs whole and its receipt has the reply; its task was marked, and nothing changes; it is refused memory,
--- and only a Busy stands for it; or no task of the job can take the step
+-- the command runs whole and its receipt has the reply, which may be that the medium can't be read; its task was marked, and
+-- nothing changes; it is refused memory, and only a Busy stands for it; or no task of the job can take the step
 abbrev pub Commits : PlainUnit → PlainJob → Outcome → PlainUnit → Type 0
 Commits old j (outcome.Reply receipt) new =
     (e : Entry) × IsOf j e old.steps × IsReady j.entry.ticket e old.steps
-    × (receipt ≡ receipt_of old.opening old.steps j.entry.ticket (Some (reply_after old.opening e old.steps)))
-    × Steps old (Step.Commit j.entry.ticket (reply_after old.opening e old.steps)) new
+    × (r : PlainReply) × Replies old e r
+    × (receipt ≡ receipt_of old.opening old.steps j.entry.ticket (Some r))
+    × Steps old (Step.Commit j.entry.ticket r) new
 Commits old j (outcome.Aborted reason) new =
     (e : Entry) × IsOf j e old.steps × (mark_of j.entry.ticket old.steps ≡ Some reason) × (new ≡ old)
 Commits old j outcome.Busy new =

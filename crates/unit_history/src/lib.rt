@@ -25,6 +25,7 @@ mod changes;
 mod commits;
 mod counted;
 mod execution;
+mod failing;
 mod flushing;
 mod folding;
 mod kept_replies;

@@ -7,14 +7,18 @@ use foundation::NoMemory;
 impl UnitState {
     ghost use Rattle.std.specs.Prelude.{◌≡◌, true, length, IsTrue, IsFalse, IfOk, OnErr, IfSome, IfNone};
     ghost use Rattle.block_store.specs.Storage.{IsPageOf, Dealing, storage_by};
+    ghost use Rattle.std.specs.Prelude.{◌*◌, ◌<◌};
+    ghost use Rattle.unit_model.specs.Contents.{capacity_of};
     ghost use Rattle.unit_model.specs.Unit.{is_backed, MayDeal, dealing};
 
     /// Returns the next page of its disk that the host is to read, 8 blocks each, and counts it as asked for. The host hands
-    /// it in by [`UnitState::load`], or says that it can't by [`UnitState::load_failed`]. `None` where no command waits for
-    /// a page that the host wasn't asked for; so always where the disk isn't backed.
+    /// it in by [`UnitState::load`], or says that it doesn't by [`UnitState::load_failed`], or that it can't by
+    /// [`UnitState::lost`]. `None` where no command waits for a page that the host wasn't asked for; so always where the disk
+    /// isn't backed.
     pub fn next_wanted(&mut self) -> Option<u64>
         ensures same { self.new ≡ self.old }
         ensures backed { IfSome result (λ page. is_backed self.old ≡ true) }
+        ensures below { IfSome result (λ page. 8 * page < capacity_of self.old.opening self.old.steps) }
     {
         self.store.next_wanted()
     }
@@ -36,6 +40,16 @@ impl UnitState {
         ensures same { self.new ≡ self.old }
     {
         self.store.load_failed(page)
+    }
+
+    /// Notes that the host's storage can't read a page that the host was asked for. Returns true if a command may wait for it:
+    /// then those that wait may be tried again, and one that needs the page ends with MEDIUM ERROR.
+    pub fn lost(&mut self, page: u64) -> bool
+        ensures may { IsTrue result → MayDeal self.old (Dealing.Lose page) }
+        ensures lost { IsTrue result → self.new ≡ dealing (Dealing.Lose page) self.old }
+        ensures otherwise { IsFalse result → self.new ≡ self.old }
+    {
+        self.store.lost(page)
     }
 
     /// Gives the host the next page that it is to write to its storage, as the unit's blocks are now. The host says by

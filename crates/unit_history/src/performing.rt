@@ -16,10 +16,12 @@ ghost use Rattle.sense.specs.Conditions.{unit_attention};
 ghost use Rattle.unit_model.specs.Contents.{pending_at_start};
 ghost use Rattle.unit_history.specs.Inner.Kept.{kept_reply};
 ghost use Rattle.unit_history.specs.Endings.{plain_run};
-ghost use Rattle.unit_history.specs.Inner.Performing.{Performs, performed_of, told, taken, unkept};
+ghost use Rattle.unit_history.specs.Inner.Performing.{Performs, Comes, performed_of, told, taken, unkept};
+ghost use Rattle.block_store.specs.Storage.{IsLostIn};
 
+use crate::failing::fail;
 use crate::log::LONGEST_KEPT;
-use crate::making_room::{OldestWaiting, make_ready_for};
+use crate::making_room::{OldestWaiting, forget, make_ready_for};
 use backed_store::Disk;
 use block_commands::{UnitFacts, exec_on, exec_prepared, takes_attention};
 use block_store::{Prepared, Readiness, Store};
@@ -63,7 +65,7 @@ pub fn tell_oldest(facts: &mut UnitFacts, attentions: &Attentions)
 
 /// Clears what is pending first, where the command takes it.
 #[inline(always)]
-fn clear_oldest(attentions: &mut Attentions, command: &Command)
+pub(crate) fn clear_oldest(attentions: &mut Attentions, command: &Command)
     ensures { attentions.new ≡ taken command.now attentions.old }
 {
     if attentions.peek().is_some() && takes_attention(command) {
@@ -90,7 +92,7 @@ fn again(alloc: Global, reply: &Reply) -> Result<Reply, AllocError>
 }
 
 /// Returns the reply again, where it isn't too long to be kept.
-fn kept_of(alloc: Global, reply: &Reply) -> Result<Option<Reply>, AllocError>
+pub(crate) fn kept_of(alloc: Global, reply: &Reply) -> Result<Option<Reply>, AllocError>
     ensures same { IfOk result (λ kept. option_map plain_of kept ≡ kept_reply true (plain_of reply.now)) }
     ensures want { OnErr result (0 < length reply.now.payload.items) }
 {
@@ -285,7 +287,7 @@ pub fn perform(
 /// Runs the command of a ticket as [`perform`] does, if what it needs of the disk is in memory. Else it waits, with blocks and
 /// attentions as before: `Asked` where the host is asked for each page at once, `Full` where there is no room for all.
 #[inline(always)]
-pub(crate) fn perform_if_ready(
+fn perform_in_memory(
     alloc: Global,
     room: &mut Vec<u8>,
     facts: &mut UnitFacts,
@@ -334,5 +336,69 @@ pub(crate) fn perform_if_ready(
         )),
         Readiness::Asked => Err(Readiness::Asked),
         Readiness::Full => Err(Readiness::Full),
+    }
+}
+
+/// Runs the command of a ticket as [`perform`] does, if what it needs of the disk is in memory. Where it needs a page that the
+/// host can't read, it ends with MEDIUM ERROR, and changes no block. Else it waits, with blocks and attentions as before:
+/// `Asked` where the host is asked for each page at once, `Full` where there is no room for all.
+#[inline(always)]
+pub(crate) fn perform_if_ready(
+    alloc: Global,
+    room: &mut Vec<u8>,
+    facts: &mut UnitFacts,
+    attentions: &mut Attentions,
+    store: &mut Disk,
+    command: &Command,
+    bytes: &[u8],
+    prepared: Option<Prepared>,
+    spare: &mut Option<Prepared>,
+    keeps_replies: bool,
+    oldest: &mut Option<OldestWaiting>,
+    ticket: Ticket,
+) -> Result<Option<Performed>, Readiness>
+    requires data { length bytes.now ≡ (need_of command.now).out }
+    requires own { IfSome prepared (λ pages. IsOf command.now bytes.now (prepared_draft pages)) }
+    ensures performed { IfOk result (λ ran. Comes keeps_replies
+        (facts_of (told facts.old attentions.old) (⟦<Disk as Store>⟧.size store.old)) (IsLostIn (⟦<Disk as Store>⟧.storage store.old))
+        command.now bytes.now (option_map performed_of ran)
+        (⟦<Disk as Store>⟧.block_at store.old) (⟦<Disk as Store>⟧.block_at store.new) attentions.old attentions.new) }
+    ensures waits { OnErr result ((⟦<Disk as Store>⟧.block_at store.new ≡ ⟦<Disk as Store>⟧.block_at store.old)
+        × (attentions.new ≡ attentions.old)) }
+    ensures backed { OnErr result (is_backed store.old ≡ true) }
+    ensures needed { OnErr result (needs (⟦<Disk as Store>⟧.size store.old) command.now ≡ true) }
+    ensures asked { IfErr result (λ why. why ≢ Full → met command.now (told facts.old attentions.old).pending ≡ None →
+        IsFalse (protects (told facts.old attentions.old) command.now) →
+        IsReady (⟦<Disk as Store>⟧.is_coming store.new) (⟦<Disk as Store>⟧.has_room store.new) (⟦<Disk as Store>⟧.size store.new)
+        command.now bytes.now) }
+    ensures whole { is_backed store.old ≡ false → IsOk result }
+    ensures facts { facts.new ≡ told facts.old attentions.old }
+    ensures size { ⟦<Disk as Store>⟧.size store.new ≡ ⟦<Disk as Store>⟧.size store.old }
+    ensures storage { ⟦<Disk as Store>⟧.storage store.new ≡ ⟦<Disk as Store>⟧.storage store.old }
+    ensures fits { IfOk result (λ ran. IfSome ran (λ p. length p.reply.payload.items ≤ (need_of command.now).into)) }
+{
+    let ran = perform_in_memory(
+        alloc,
+        room,
+        facts,
+        attentions,
+        store,
+        command,
+        bytes,
+        prepared,
+        spare,
+        keeps_replies,
+        oldest,
+        ticket,
+    );
+    match ran {
+        Ok(performed) => Ok(performed),
+        Err(why) => match fail(alloc, facts, attentions, store, command, bytes, keeps_replies) {
+            Some(failed) => {
+                forget(oldest, ticket);
+                Ok(Some(failed))
+            }
+            None => Err(why),
+        },
     }
 }

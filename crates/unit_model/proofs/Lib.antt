@@ -21,3 +21,4 @@ pub mod Kept
 pub mod Keeping
 pub mod Owing
 pub mod Base
+pub mod Failing

@@ -1,5 +1,5 @@
 -- What a unit's blocks contain, what it has pending, and what it replies to a command.
-use Rattle.std.specs.Prelude.{ℕ, ◌^◌, Bool, true, false, ◌&&◌, nat_le, nat_lt, min, List, [], ◌∷◌, Option, Some, None, if◌then◌else◌}
+use Rattle.std.specs.Prelude.{ℕ, ◌≡◌, ◌⊎◌, ◌^◌, Bool, true, false, ◌&&◌, nat_le, nat_lt, min, List, [], ◌∷◌, Option, Some, None, if◌then◌else◌}
 use Rattle.cdb.specs.declared.profile.Profile.{Profile}
 use Rattle.sense.specs.declared.Sense.{Sense}
 use Rattle.sense.specs.Conditions.{unit_attention}
@@ -13,6 +13,7 @@ use Rattle.command_model.specs.PlainReply.{PlainReply}
 use Rattle.command_model.specs.Attention.{takes}
 use Rattle.command_model.specs.Effects.{block_after}
 use Rattle.command_model.specs.Facts.{Facts}
+use Rattle.command_model.specs.Failing.{IsUnread}
 use Rattle.command_model.specs.Replies.{reply_of}
 use Rattle.unit_model.specs.Tasks.{Entry, task_of}
 use Rattle.unit_model.specs.Steps.{Step, alive}
@@ -98,3 +99,11 @@ facts_after o h =
 -- the reply to a task whose command runs next (SBC-3 §5, SPC-4 §6)
 abbrev pub reply_after : Opening → Entry → List Step → PlainReply
 reply_after o e h = reply_of (facts_after o h) e.command e.data_out (blocks_of o h)
+
+-- own: the reply to a task that needs page p, which can't be read, in place of that reply
+abbrev pub IsUnreadAfter : Opening → Entry → List Step → ℕ → PlainReply → Type 0
+IsUnreadAfter o e h p r = IsUnread (facts_after o h) e.command e.data_out p r
+
+-- own: either
+abbrev pub MayReply : Opening → Entry → List Step → PlainReply → Type 0
+MayReply o e h r = (r ≡ reply_after o e h) ⊎ ((p : ℕ) × IsUnreadAfter o e h p r)

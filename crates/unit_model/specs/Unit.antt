@@ -1,15 +1,17 @@
 -- A logical unit as a plain value: what it opened with, its history, and the jobs that it holds.
-use Rattle.std.specs.Prelude.{ℕ, ◌≡◌, ◌++◌, ◌&&◌, Bool, true, min, List, [], ◌∷◌, map, filter, Option, None, is_some, ⊤}
+use Rattle.std.specs.Prelude.{ℕ, ◌≡◌, ◌⊎◌, ◌++◌, ◌&&◌, Bool, true, min, List, [], ◌∷◌, map, filter, Option, Some, None, is_some, ⊤}
 use Rattle.std.specs.Option.{option_map}
-use Rattle.block_store.specs.Storage.{Ledger, Dealing, IsPageOf, and_then}
+use Rattle.block_store.specs.Storage.{Ledger, Dealing, IsPageOf, IsLostIn, and_then}
 use Rattle.cdb.specs.declared.commands.Command.{Command}
+use Rattle.command_model.specs.PlainReply.{PlainReply}
 use Rattle.command_model.specs.Waiting.{waits_at}
+use Rattle.ring_core.specs.declared.log.Ticket.{Ticket}
 use Rattle.unit_model.specs.Tasks.{Entry}
 use Rattle.unit_model.specs.Steps.{Step, alive}
 use Rattle.unit_model.specs.Enabling.{is_parked}
 use Rattle.unit_model.specs.Released.{released}
-use Rattle.unit_model.specs.Contents.{Opening, blocks_of, capacity_of}
-use Rattle.unit_model.specs.Lawful.{May, IsLawful}
+use Rattle.unit_model.specs.Contents.{Opening, blocks_of, capacity_of, reply_after, IsUnreadAfter}
+use Rattle.unit_model.specs.Lawful.{May, IsLawful, IsReady}
 use Rattle.unit_model.specs.Jobs.{PlainJob, Jobs, of_tasks, but_tasks}
 
 pub record PlainUnit : Type 0 where
@@ -30,6 +32,20 @@ is_backed u = is_some u.storage
 -- own: whether a command may have to wait at the unit: for pages of its disk, or for what was changed before it
 abbrev pub may_wait : PlainUnit → Command → Bool
 may_wait u command = is_backed u && waits_at (capacity_of u.opening u.steps) command
+
+-- own: the host said that it can't read page p of the unit's disk
+abbrev pub HasLost : PlainUnit → ℕ → Type 0
+HasLost u p = IsLostIn u.storage p
+
+-- own: the command of a task, which runs next at the unit, may be replied to so: as the history says, or since it needs a
+-- page that the host can't read
+abbrev pub Replies : PlainUnit → Entry → PlainReply → Type 0
+Replies u e r =
+    (r ≡ reply_after u.opening e u.steps) ⊎ ((p : ℕ) × IsUnreadAfter u.opening e u.steps p r × HasLost u p)
+
+-- own: the command of a ticket's task may run next at the unit, and be replied to so
+abbrev pub MayCommit : PlainUnit → Ticket → PlainReply → Type 0
+MayCommit u t r = (e : Entry) × IsReady t e u.steps × Replies u e r
 
 -- own: a unit of which no step was taken, with all of its disk in memory
 abbrev pub opening_unit : Opening → Bool → PlainUnit
@@ -66,10 +82,12 @@ tasks_of_jobs jobs = map (λ (j : PlainJob). j.entry) jobs
 abbrev pub dealing : Dealing → PlainUnit → PlainUnit
 dealing d u = record u { storage = option_map (and_then d) u.storage }
 
--- own: the host is given what the unit's blocks are, and says itself what it kept; a Resize cuts the storage off
+-- own: the host is given what the unit's blocks are, and says itself what it kept and what it can't read; a Resize cuts the
+-- storage off
 abbrev pub IsAsItIs : PlainUnit → Dealing → Type 0
 IsAsItIs u (Dealing.Give page bytes) = IsPageOf (blocks_of u.opening u.steps) page bytes
 IsAsItIs u (Dealing.Keep page) = ⊤
+IsAsItIs u (Dealing.Lose page) = ⊤
 IsAsItIs u (Dealing.Cut blocks) = ⊥
 
 -- own: the host may deal so with the storage of the unit's disk: there is one, and it is given what the blocks are

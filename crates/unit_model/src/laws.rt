@@ -3,6 +3,7 @@
 mod base;
 mod cases;
 mod contents;
+mod failing;
 mod handing;
 mod keeping;
 mod marks;
@@ -20,6 +21,7 @@ pub use contents::{
     attention_is_taken_by_its_taker, commits_alone_change_blocks, resets_raise,
     resizes_keep_the_blocks_below,
 };
+pub use failing::{a_unit_fails_as_its_host_said, what_cant_be_read_changes_nothing};
 pub use handing::{
     a_leave_hands_out_what_was_parked, an_enter_parks_what_is_blocked, fewer_are_parked_than_alive,
     marks_hand_out_what_was_parked, other_steps_hand_out_nothing,

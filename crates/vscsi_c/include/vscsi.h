@@ -49,9 +49,9 @@
 extern "C" {
 #endif
 
-/* The version of this header: 1.7.0. VSCSI_VERSION is major * 65,536 + minor * 256 + patch. */
+/* The version of this header: 1.8.0. VSCSI_VERSION is major * 65,536 + minor * 256 + patch. */
 #define VSCSI_VERSION_MAJOR 1
-#define VSCSI_VERSION_MINOR 7
+#define VSCSI_VERSION_MINOR 8
 #define VSCSI_VERSION_PATCH 0
 #define VSCSI_VERSION ((uint32_t)VSCSI_VERSION_MAJOR << 16 | (uint32_t)VSCSI_VERSION_MINOR << 8 | (uint32_t)VSCSI_VERSION_PATCH)
 
@@ -573,7 +573,8 @@ enum vscsi_answer vscsi_live_destroy(struct vscsi_live *device);
  * capacity: where the disk grows again, what it reads there is zeros.
  *
  * The host's loop, behind each kick and each read or write of its own that is over:
- * 1. vscsi_live_load, vscsi_live_load_failed or vscsi_live_written for what is over; if there was any, vscsi_live_wake.
+ * 1. vscsi_live_load, vscsi_live_load_failed, vscsi_live_lost or vscsi_live_written for what is over; if there was any,
+ *    vscsi_live_wake.
  * 2. vscsi_live_serve until `more` is false; vscsi_live_owed, and notify.
  * 3. vscsi_live_give of each backed disk until nothing is found: begin these writes. vscsi_live_wanted until nothing is found:
  *    begin these reads.
@@ -603,11 +604,19 @@ enum vscsi_answer vscsi_live_wanted(struct vscsi_live *device, uint8_t target, u
  * again. */
 enum vscsi_answer vscsi_live_load(struct vscsi_live *device, uint8_t target, uint16_t lun, uint64_t page, const void *bytes);
 
-/* Says that a page which the host was told to read doesn't come: its storage failed, or was given the page meanwhile. No command
- * fails by that. Behind the next vscsi_live_wake those that need the page have it told again, so a host whose storage failed lets
+/* Says that a page which the host was told to read doesn't come: its storage can't be had now, or was given the page meanwhile. No
+ * command fails by that. Behind the next vscsi_live_wake those that need the page have it told again, so a host whose storage failed lets
  * some time pass. Takes no memory. Since 1.7.
  * The first of these, in this order, that is so: VSCSI_NO_DEVICE; VSCSI_NO_UNIT. */
 enum vscsi_answer vscsi_live_load_failed(struct vscsi_live *device, uint8_t target, uint16_t lun, uint64_t page);
+
+/* Says that the storage can't read a page which the host was told to read. Behind the next vscsi_live_wake one command that needs
+ * the page ends with CHECK CONDITION, MEDIUM ERROR, UNRECOVERED READ ERROR (03/11/00), and changes no block. The page is told again
+ * where another command needs it, also where the guest sends the same again. A WRITE of all 8 blocks needs no page. 64 such pages
+ * are noted for a disk at most; for another the oldest of these is told again, as behind vscsi_live_load_failed. Takes no memory.
+ * Since 1.8.
+ * The first of these, in this order, that is so: VSCSI_NO_DEVICE; VSCSI_NO_UNIT. */
+enum vscsi_answer vscsi_live_lost(struct vscsi_live *device, uint8_t target, uint16_t lun, uint64_t page);
 
 /* Gives the host the next page of a unit's disk that it is to write: its number, and into `bytes` its 4,096 bytes as they are now.
  * `found` is false, and `bytes` as it was, where each changed page was given. The host answers by vscsi_live_written. Until then

@@ -90,6 +90,7 @@ uint32_t vscsi_raw_live_changed(struct vscsi_live *device, uint8_t target, uint1
 uint32_t vscsi_raw_live_wanted(struct vscsi_live *device, uint8_t target, uint16_t lun, uint64_t *page, bool *found);
 uint32_t vscsi_raw_live_load(struct vscsi_live *device, uint8_t target, uint16_t lun, uint64_t page, const uint8_t *bytes, size_t length);
 uint32_t vscsi_raw_live_load_failed(struct vscsi_live *device, uint8_t target, uint16_t lun, uint64_t page);
+uint32_t vscsi_raw_live_lost(struct vscsi_live *device, uint8_t target, uint16_t lun, uint64_t page);
 uint32_t vscsi_raw_live_give(struct vscsi_live *device, uint8_t target, uint16_t lun, uint64_t *page, uint8_t *bytes, size_t length,
                              bool *found);
 uint32_t vscsi_raw_live_written(struct vscsi_live *device, uint8_t target, uint16_t lun, uint64_t page, bool kept);
@@ -547,6 +548,10 @@ enum vscsi_answer vscsi_live_load(struct vscsi_live *device, uint8_t target, uin
 
 enum vscsi_answer vscsi_live_load_failed(struct vscsi_live *device, uint8_t target, uint16_t lun, uint64_t page) {
   return device ? (enum vscsi_answer)vscsi_raw_live_load_failed(device, target, lun, page) : VSCSI_NULL;
+}
+
+enum vscsi_answer vscsi_live_lost(struct vscsi_live *device, uint8_t target, uint16_t lun, uint64_t page) {
+  return device ? (enum vscsi_answer)vscsi_raw_live_lost(device, target, lun, page) : VSCSI_NULL;
 }
 
 enum vscsi_answer vscsi_live_give(struct vscsi_live *device, uint8_t target, uint16_t lun, uint64_t *page, void *bytes, bool *found) {

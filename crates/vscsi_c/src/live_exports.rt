@@ -6,7 +6,7 @@ ghost use Rattle.c_calls.specs.Kept.{live_at, disks_at};
 ghost use Rattle.c_calls.specs.LiveAsked.{ServesAskedPortion};
 ghost use Rattle.c_calls.specs.Live.{ServingLive, Maps, AsksDriver, ServesPortion, Owes, IsStatus, Breaks, Resets, Resizes, Holds, Gives, TellsCounts, TellsPosition, TellsChanges, CreatesLive, DestroysLive};
 ghost use Rattle.c_calls.specs.LiveDisks.{CreatesLiveOver, ClosesLive};
-ghost use Rattle.c_calls.specs.Storage.{OwesPage, WantsPage, LoadsPage, FailsPage, GivesPage, KeepsPage, Wakes};
+ghost use Rattle.c_calls.specs.Storage.{OwesPage, WantsPage, LoadsPage, FailsPage, LosesPage, GivesPage, KeepsPage, Wakes};
 
 use c_calls::{
     BlockRange, Disk, Fault, LiveDevice, Region, RingPosition, Told, UnitCounts, WantedRing,
@@ -327,6 +327,20 @@ pub extern "C" fn vscsi_raw_live_load_failed(
     ensures { Tells result (λ a. ServingLive (FailsPage target lun) (Unit {0}) (live_at device.old) a (live_at device.new)) }
 {
     storage_calls::load_failed(device, alloc, target, lun, page).code()
+}
+
+/// Notes that the host can't read a page.
+#[unsafe(no_mangle)]
+pub extern "C" fn vscsi_raw_live_lost(
+    device: &mut LiveDevice,
+    alloc: Global,
+    target: u8,
+    lun: u16,
+    page: u64,
+) -> u32
+    ensures { Tells result (λ a. ServingLive (LosesPage target lun page) (Unit {0}) (live_at device.old) a (live_at device.new)) }
+{
+    storage_calls::lost(device, alloc, target, lun, page).code()
 }
 
 /// Gives the host the next page that it is to write.

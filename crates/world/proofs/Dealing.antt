@@ -44,6 +44,14 @@ done_or P N S f g (Ok true) is not_so err = f (is refl)
 done_or P N S f g (Ok false) is not_so err = g (not_so refl)
 done_or P N S f g (Err x) is not_so err = g err
 
+-- the same of a call that isn't refused
+pub each_lost : (P Q : Type 0) → (P → Q) → (b : Bool) → (IsTrue b → P) → IsTrue b → Q
+each_lost P Q f b h = λ is. f (h is)
+
+pub lost_or : (P N S : Type 0) → (P → S) → (N → S) → (b : Bool) → (IsTrue b → P) → (IsFalse b → N) → S
+lost_or P N S f g true is not_so = f (is refl)
+lost_or P N S f g false is not_so = g (not_so refl)
+
 -- A deal
 module _ (old : PlainDevice) (place : ℕ) (x : Dealing) (new : PlainDevice) (h : IsDealt old place x new) where
   -- it is a turn of the device, whatever stands in memory

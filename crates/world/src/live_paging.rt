@@ -12,7 +12,7 @@ use guest_mem::WritableMemory;
 impl<M: WritableMemory> LiveWorld<M> {
     ghost use Rattle.std.specs.Prelude.{◌≡◌, ◌+◌, length, IsTrue, IsFalse, IfOk, OnErr, IfSome, IfNone};
     ghost use Rattle.block_store.specs.Storage.{Dealing};
-    ghost use Rattle.device_steps.specs.Paging.{IsBackedAt, IsKeptPage};
+    ghost use Rattle.device_steps.specs.Paging.{HasPage, IsKeptPage};
     ghost use Rattle.world.specs.Paging.{DealsPromised};
 
     /// Returns how many jobs wait for pages of their disks, or for what was written to be kept, those that are to be tried again
@@ -24,11 +24,12 @@ impl<M: WritableMemory> LiveWorld<M> {
     }
 
     /// Returns the next page of the disk of the unit at a place that the host is to read, 8 blocks each, and counts it as
-    /// asked for. The host hands it in by [`LiveWorld::load`], or says that it can't by [`LiveWorld::load_failed`]. `None` where no
-    /// command waits for a page that the host wasn't asked for, where the disk isn't backed, or where there is no such unit.
+    /// asked for. The host hands it in by [`LiveWorld::load`], or says that it doesn't by [`LiveWorld::load_failed`], or that it can't
+    /// by [`LiveWorld::lost`]. `None` where no command waits for a page that the host wasn't asked for, where the disk isn't
+    /// backed, or where there is no such unit.
     pub fn next_wanted(&mut self, place: u16) -> Option<u64>
         ensures same { self.new ≡ self.old }
-        ensures backed { IfSome result (λ page. IsBackedAt self.old.device.units place) }
+        ensures page { IfSome result (λ page. HasPage self.old.device.units place page) }
     {
         self.device.next_wanted(place)
     }
@@ -50,6 +51,20 @@ impl<M: WritableMemory> LiveWorld<M> {
         ensures same { self.new ≡ self.old }
     {
         self.device.load_failed(place, page)
+    }
+
+    /// Notes that the host's storage can't read a page that the host was asked for. Returns true if a command may wait for it:
+    /// then a Wake has those that wait tried again, and one that needs the page ends with MEDIUM ERROR.
+    pub fn lost(&mut self, place: u16, page: u64) -> bool
+        ensures memory { self.new.memory ≡ self.old.memory }
+        ensures lost { IsTrue result → DealsPromised M.shared (M.extent self.old.memory) self.old.device place
+            (Dealing.Lose page) self.new.device }
+        ensures otherwise { IsFalse result → self.new ≡ self.old }
+    {
+        a_live_run_is_a_run();
+        every_run_goes_on();
+        the_promise_is_kept();
+        self.device.lost(place, page)
     }
 
     /// Gives the host the next page that it is to write to the storage of the unit at a place, as the unit's blocks are now.

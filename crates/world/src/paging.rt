@@ -9,7 +9,7 @@ use foundation::NoMemory;
 impl World {
     ghost use Rattle.std.specs.Prelude.{◌≡◌, ◌+◌, length, IsTrue, IsFalse, IfOk, OnErr, IfSome, IfNone};
     ghost use Rattle.block_store.specs.Storage.{Dealing};
-    ghost use Rattle.device_steps.specs.Paging.{IsBackedAt, IsKeptPage};
+    ghost use Rattle.device_steps.specs.Paging.{HasPage, IsKeptPage};
     ghost use Rattle.world.specs.Paging.{DealsAsPromised};
 
     /// Returns how many jobs wait for pages of their disks, or for what was written to be kept, those that are to be tried again
@@ -21,11 +21,12 @@ impl World {
     }
 
     /// Returns the next page of the disk of the unit at a place that the host is to read, 8 blocks each, and counts it as
-    /// asked for. The host hands it in by [`World::load`], or says that it can't by [`World::load_failed`]. `None` where no
-    /// command waits for a page that the host wasn't asked for, where the disk isn't backed, or where there is no such unit.
+    /// asked for. The host hands it in by [`World::load`], or says that it doesn't by [`World::load_failed`], or that it can't
+    /// by [`World::lost`]. `None` where no command waits for a page that the host wasn't asked for, where the disk isn't
+    /// backed, or where there is no such unit.
     pub fn next_wanted(&mut self, place: u16) -> Option<u64>
         ensures same { self.new ≡ self.old }
-        ensures backed { IfSome result (λ page. IsBackedAt self.old.units place) }
+        ensures page { IfSome result (λ page. HasPage self.old.units place page) }
     {
         self.device.next_wanted(place)
     }
@@ -47,6 +48,17 @@ impl World {
         ensures same { self.new ≡ self.old }
     {
         self.device.load_failed(place, page)
+    }
+
+    /// Notes that the host's storage can't read a page that the host was asked for. Returns true if a command may wait for it:
+    /// then a Wake has those that wait tried again, and one that needs the page ends with MEDIUM ERROR.
+    pub fn lost(&mut self, place: u16, page: u64) -> bool
+        ensures lost { IsTrue result → DealsAsPromised self.old place (Dealing.Lose page) self.new }
+        ensures otherwise { IsFalse result → self.new ≡ self.old }
+    {
+        every_run_goes_on();
+        the_promise_is_kept();
+        self.device.lost(place, page)
     }
 
     /// Gives the host the next page that it is to write to the storage of the unit at a place, as the unit's blocks are now.

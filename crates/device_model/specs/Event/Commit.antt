@@ -6,7 +6,7 @@ use Rattle.unit_model.specs.Steps.{Step, alive, is_alive}
 use Rattle.unit_model.specs.Marks.{mark_of}
 use Rattle.unit_model.specs.Lawful as history
 use Rattle.unit_model.specs.Jobs.{PlainJob}
-use Rattle.unit_model.specs.Unit.{after as stepped}
+use Rattle.unit_model.specs.Unit.{MayCommit, after as stepped}
 use Rattle.unit_model.specs.Asking.{IsOf}
 use Rattle.device_model.specs.Parts.{Outcome, Hand}
 use Rattle.device_model.specs.World.{PlainWorld, change}
@@ -15,9 +15,10 @@ use Rattle.command_model.specs.PlainReply.{PlainReply}
 use Rattle.device_model.specs.Found.{HandAtUnit, MayStep, MayYield}
 use Rattle.device_model.specs.Changing.{with_hand}
 
-pub record Commits (w : PlainWorld) (k : ℕ) (x : PlainJob) (s : Step) : Type 0 where
+-- it may run next, and be replied to so
+pub record Commits (w : PlainWorld) (k : ℕ) (x : PlainJob) (r : PlainReply) : Type 0 where
   pub holds : HandAtUnit w k (Hand.Taken x) x.unit
-  pub may : MayStep holds.unit s
+  pub may : MayCommit holds.unit x.entry.ticket r
 
 -- the reply is in the seat's hand
 abbrev pub after_commit : ℕ → PlainJob → PlainReply → PlainWorld → PlainWorld

@@ -1,8 +1,7 @@
 -- Rests on `specs/Sound.antt`; no promise rests on it.
 use Rattle.std.specs.Prelude.{◌≡◌, ◌≤◌, ◌+◌, length}
-use Rattle.device_model.specs.World.{PlainWorld}
+use Rattle.device_model.specs.World.{PlainWorld, AreAddressed}
 use Rattle.device_model.specs.Lawful.{AreNumbered}
-use Rattle.device_model.specs.Addressed.{AreAddressed}
 use Rattle.device_model.specs.Standing.{AreOwned, AreAtWork, AreBehind, AreNamedThere, HaveRoom, FunctionIsThere, BuffersAreOutstanding}
 use Rattle.device_steps.specs.Sound.{IsReached}
 

@@ -1,5 +1,5 @@
 -- What running a command leaves, by cases.
-use Rattle.std.specs.Prelude.{ℕ, ◌≡◌, Bool, IsTrue, List, Option, Some, None, Result, Ok, Err, if◌then◌else◌, ⊤}
+use Rattle.std.specs.Prelude.{ℕ, ◌≡◌, ◌⊎◌, Bool, IsTrue, List, Option, Some, None, Result, Ok, Err, if◌then◌else◌, ⊤}
 use Rattle.cdb.specs.declared.commands.Command.{Command}
 use Rattle.block_store.specs.Blocks.{Blocks}
 use Rattle.foundation.specs.declared.NoMemory.{NoMemory}
@@ -12,6 +12,7 @@ use Rattle.unit_attention.specs.Pending.{without_first}
 use Rattle.unit_attention.specs.declared.code.Code.{Code}
 use Rattle.command_model.specs.Effects.{block_after}
 use Rattle.command_model.specs.Facts.{Facts}
+use Rattle.command_model.specs.Failing.{IsUnread}
 use Rattle.command_model.specs.Replies.{reply_of}
 use Rattle.ring_core.specs.declared.log.Ticket.{Ticket}
 use Rattle.unit_model.specs.Steps.{Step}
@@ -56,6 +57,25 @@ abbrev pub Performs : Bool → Facts → Command → List ℕ → Option PlainPe
 Performs keeps facts command bytes (Some p) blocks blocks' pending pending' =
     Ran keeps facts command bytes p blocks blocks' pending pending'
 Performs keeps facts command bytes None blocks blocks' pending pending' =
+    RanShort keeps facts command blocks blocks' pending pending'
+
+-- own: the command needs a page that is lost: its reply, and no block changed
+pub record RanUnread (keeps : Bool) (facts : Facts) (lost : ℕ → Type 0) (command : Command) (bytes : List ℕ) (p : PlainPerformed)
+    (blocks blocks' : Blocks) (pending pending' : List Code) : Type 0 where
+  pub page : ℕ
+  pub unread : IsUnread facts command bytes page p.reply
+  pub is_lost : lost page
+  pub kept : p.kept ≡ kept_reply keeps p.reply
+  pub stored : (b : ℕ) → blocks' b ≡ blocks b
+  pub pends : pending' ≡ taken command pending
+
+-- own: it was performed, or needs a page that is lost
+abbrev pub Comes : Bool → Facts → (ℕ → Type 0) → Command → List ℕ → Option PlainPerformed → Blocks → Blocks → List Code
+    → List Code → Type 0
+Comes keeps facts lost command bytes (Some p) blocks blocks' pending pending' =
+    Ran keeps facts command bytes p blocks blocks' pending pending'
+    ⊎ RanUnread keeps facts lost command bytes p blocks blocks' pending pending'
+Comes keeps facts lost command bytes None blocks blocks' pending pending' =
     RanShort keeps facts command blocks blocks' pending pending'
 
 -- own: what came of a command whose reply isn't kept

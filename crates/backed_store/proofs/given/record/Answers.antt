@@ -1,6 +1,8 @@
 use Rattle.std.proofs.Common.{ap, map, ◌∙◌}
+use Rattle.std.specs.List.{list_any}
+use Rattle.block_store.specs.Storage.{loses}
 use Rattle.backed_store.specs.Backing.{plain, after_all}
-use Rattle.backed_store.proofs.Dealt.{after-last, plain-last}
+use Rattle.backed_store.proofs.Dealt.{after-last, plain-last, lost-on}
 use Rattle.backed_store.proofs.given.record.Goals as goal
 
 pub returns-clause-storage : goal.returns-clause-storage
@@ -8,3 +10,7 @@ returns-clause-storage c = λ h. ap (λ ds. after_all ds h) c.push.ensures ∙ a
 
 pub returns-clause-ledger : goal.returns-clause-ledger
 returns-clause-ledger c = ap (λ ds. map plain ds) c.push.ensures ∙ plain-last c.args.dealings.now.items c.args.dealing.now
+
+pub returns-clause-lost : goal.returns-clause-lost
+returns-clause-lost c = λ p is.
+    ap (λ l. list_any (loses p) l) (returns-clause-ledger c) ∙ lost-on p (map plain c.args.dealings.now.items) (plain c.args.dealing.now) is

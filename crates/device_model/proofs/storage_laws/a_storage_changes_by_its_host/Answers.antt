@@ -1,4 +1,4 @@
-use Rattle.device_model.proofs.Storing.{given_stays, kept_stays, deals_alone}
+use Rattle.device_model.proofs.Storing.{given_stays, kept_stays, lost_stays, deals_alone}
 use Rattle.device_model.proofs.storage_laws.a_storage_changes_by_its_host.Goals as goal
 
 pub returns-clause-given : goal.returns-clause-given
@@ -9,3 +9,6 @@ returns-clause-kept c = λ w d place u v. kept_stays d w place u v
 
 pub returns-clause-deals : goal.returns-clause-deals
 returns-clause-deals c = deals_alone
+
+pub returns-clause-lost : goal.returns-clause-lost
+returns-clause-lost c = λ w d place p u v. lost_stays d w place p u v

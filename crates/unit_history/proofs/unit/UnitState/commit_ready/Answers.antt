@@ -3,6 +3,7 @@ use Rattle.unit_model.specs.Seen.{finished}
 use Rattle.unit_history.specs.Inner.Parts.{AreBehind}
 use Rattle.unit_history.proofs.Basing.{based_on, behind_moved, ran_folds, ran_sized}
 use Rattle.std.specs.Option.{option_copied, option_map}
+use Rattle.block_store.specs.Storage.{IsLostIn}
 use Rattle.backed_store.specs.Disks as disks
 use Rattle.block_commands.specs.Inner.Told.{facts_of}
 use Rattle.command_model.specs.Waiting.{needs}
@@ -41,7 +42,8 @@ invariant_of-self-in-Ready c =
       kept =
           rw (c.record_run.ensures.tasks, c.record_run.ensures.steps, c.perform_if_ready.ensures.facts)
           (keep_run c.self.invariant.kept c.ticket-ticket.result c.in-Some.task.now.seen.entry c.keeps_replies-keeps.result
-          (facts_of (told c.self.inside.facts c.self.inside.attentions) (disks.size_of c.self.inside.store)) (option_map performed_of c.in-Ok.performed) _ _ _
+          (facts_of (told c.self.inside.facts c.self.inside.attentions) (disks.size_of c.self.inside.store)) (IsLostIn (disks.storage_of c.self.inside.store))
+          (option_map performed_of c.in-Ok.performed) _ _ _
           (is_ready c.self.invariant.kept c.ticket-ticket.result c.in-Some.task.now at turns.1 turns.2 turns.3)
           (told_is c.self.invariant.kept c.self.inside.facts (disks.size_of c.self.inside.store) refl refl refl refl refl c.self.invariant.sized)
           (rw (c.command-command.ensures, c.data-bytes.ensures.data) at c.in-Ok.ensures.performed) c.record_run.ensures.room);

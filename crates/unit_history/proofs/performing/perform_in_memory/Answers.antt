@@ -4,7 +4,7 @@ use Rattle.backed_store.specs.Disks as disks
 use Rattle.block_store.specs.declared.readiness.Readiness.TheVariants.{Ready, Asked, Full}
 use Rattle.unit_history.specs.Inner.Performing.{performed_of, told}
 use Rattle.unit_history.proofs.Readied.{readied, needs-some}
-use Rattle.unit_history.proofs.performing.perform_if_ready.Goals as goal
+use Rattle.unit_history.proofs.performing.perform_in_memory.Goals as goal
 
 pub returns-in-Ready-clause-performed : goal.returns-in-Ready-clause-performed
 returns-in-Ready-clause-performed c =

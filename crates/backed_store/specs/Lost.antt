@@ -1,0 +1,12 @@
+-- The pages that are noted as lost.
+use Rattle.std.specs.Prelude.{ℕ, Bool, List, nat_eq}
+use Rattle.std.specs.List.{list_any}
+use Rattle.backed_store.specs.declared.lost.LostPages.{LostPages}
+
+-- the pages, the oldest first
+abbrev pub noted : LostPages → List ℕ
+noted l = l.pages.items
+
+-- whether page p is one of them
+abbrev pub is_noted : LostPages → ℕ → Bool
+is_noted l p = list_any (nat_eq p) (noted l)

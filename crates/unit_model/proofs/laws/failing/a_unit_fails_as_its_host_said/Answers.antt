@@ -1,0 +1,8 @@
+use Rattle.unit_model.proofs.Failing.{commit_steps, replies_in_memory}
+use Rattle.unit_model.proofs.laws.failing.a_unit_fails_as_its_host_said.Goals as goal
+
+pub returns-clause-may : goal.returns-clause-may
+returns-clause-may c = commit_steps
+
+pub returns-clause-memory : goal.returns-clause-memory
+returns-clause-memory c = replies_in_memory
