@@ -393,7 +393,15 @@ pub(crate) fn perform_if_ready(
     );
     match ran {
         Ok(performed) => Ok(performed),
-        Err(why) => match fail(alloc, facts, attentions, store, command, bytes, keeps_replies) {
+        Err(why) => match fail(
+            alloc,
+            facts,
+            attentions,
+            store,
+            command,
+            bytes,
+            keeps_replies,
+        ) {
             Some(failed) => {
                 forget(oldest, ticket);
                 Ok(Some(failed))
