@@ -72,6 +72,7 @@ static bool make(struct backend *backend, char *why, size_t room) {
   struct vscsi_unit units[DEVICE_MOST_UNITS];
   uint8_t profiles[DEVICE_MOST_UNITS];
   struct vscsi_identity identities[DEVICE_MOST_UNITS];
+  bool read_only[DEVICE_MOST_UNITS];
   struct ring rings[DEVICE_MOST_QUEUES];
   for (size_t i = 0; i < backend->disks->count; i++) {
     const struct disk *disk = &backend->disks->disks[i];
@@ -79,6 +80,7 @@ static bool make(struct backend *backend, char *why, size_t room) {
     units[i] = (struct vscsi_unit){.blocks = disk->blocks, .lun = disk->lun, .target = disk->target, .calm = 1};
     profiles[i] = disk->wide ? VSCSI_PROFILE_WIDE : VSCSI_PROFILE_NARROW;
     identities[i] = disk->names;
+    read_only[i] = disk->is_protected;
   }
   backend->made = count_of(backend);
   for (unsigned q = 0; q < backend->made; q++) rings[q] = backend->queues[q].ready ? backend->queues[q].ring : idle_ring();
@@ -91,7 +93,8 @@ static bool make(struct backend *backend, char *why, size_t room) {
                                            .units = units,
                                            .unit_count = backend->disks->count,
                                            .profiles = profiles,
-                                           .identities = identities};
+                                           .identities = identities,
+                                           .read_only = read_only};
   memset(backend->noted, 0, sizeof backend->noted);
   memset(backend->idle, 0, sizeof backend->idle);
   paging_end_rest(backend->disks);

@@ -49,7 +49,7 @@ static const char *fault_of(const struct disk *disk) {
   if (!storage_is_built()) return "write-cache=on: this daemon is built without liburing";
   if (!disk->path) return "write-cache=on wants file=PATH";
   if (!disk->wide) return "write-cache=on wants profile=wide";
-  if (disk->read_only) return "write-cache=on takes no snapshot";
+  if (disk->read_only && !disk->is_protected) return "write-cache=on takes no snapshot";
   return caches_pages(disk) < VSCSI_LEAST_PAGES ? "cache-size= is 33M at least" : NULL;
 }
 

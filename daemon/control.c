@@ -117,6 +117,7 @@ static json_t *resize(const struct controlled *controlled, json_t *arguments) {
   struct backend *backend = live(controlled);
   uint64_t blocks = (uint64_t)bytes / DEVICE_BLOCK;
   bool is_kept = disk->file >= 0 && !disk->read_only, shrinks = blocks < disk->blocks;
+  if (disk->is_protected) return error("BadSize", "with read-only=on a disk has the size of its file");
   if (controlled->disks->moves && !controlled->disks->held) return error("NoDevice", "another daemon may have the file");
   if (!backend && !is_kept) return error("NoDevice", "what isn't kept on a file has another size only while a guest uses it");
   if (disk->is_direct && bytes % PAGE_BYTES) return error("BadSize", "with direct=on a size is a multiple of 4096 bytes");
@@ -162,7 +163,7 @@ static json_t *attach(const struct controlled *controlled, json_t *arguments, in
   disks_find(disks, words, &which);
   struct disk *disk = &disks->disks[which];
   bool taken = disks_are_whole(disks) || (snprintf(why, sizeof why, "its target has no LUN 0"), false);
-  if (taken && disks->moves && (!disk->path || disk->read_only))
+  if (taken && disks->moves && (!disk->path || (disk->read_only && !disk->is_protected)))
     taken = (snprintf(why, sizeof why, "--migratable: each disk has to be kept on a file"), false);
   if (taken && disk->is_backed) taken = (snprintf(why, sizeof why, "write-cache=on: the daemon has to begin with such a disk"), false);
   if (taken && !disk->path != (*file < 0)) taken = (snprintf(why, sizeof why, "a file, and only that, comes with its descriptor"), false);

@@ -64,6 +64,7 @@ static char *take_path(const char **at) {
 // a name isn't one.
 static bool take_word(const char **at, struct disk *disk, char *why, size_t room) {
   static const char file[] = "file=", punching[] = "detect-zeroes=unmap", narrow[] = "profile=narrow", wide[] = "profile=wide";
+  static const char protected[] = "read-only=on", writable[] = "read-only=off";
   size_t length = strcspn(*at, ",");
   if (!strncmp(*at, file, sizeof file - 1)) {
     *at += sizeof file - 1;
@@ -79,8 +80,13 @@ static bool take_word(const char **at, struct disk *disk, char *why, size_t room
   bool is_punching = length == sizeof punching - 1 && !strncmp(*at, punching, length);
   bool is_narrow = length == sizeof narrow - 1 && !strncmp(*at, narrow, length);
   bool is_wide = length == sizeof wide - 1 && !strncmp(*at, wide, length);
-  if (!is_grow && !is_snapshot && !is_punching && !is_narrow && !is_wide) return false;
+  bool is_protected = length == sizeof protected - 1 && !strncmp(*at, protected, length);
+  bool is_writable = length == sizeof writable - 1 && !strncmp(*at, writable, length);
+  if (!is_grow && !is_snapshot && !is_punching && !is_narrow && !is_wide && !is_protected && !is_writable) return false;
   if ((is_narrow || is_wide) && disk->has_profile) return false;
+  if ((is_protected || is_writable) && disk->has_access) return false;
+  disk->has_access = disk->has_access || is_protected || is_writable;
+  disk->is_protected = disk->is_protected || is_protected;
   disk->has_profile = disk->has_profile || is_narrow || is_wide;
   disk->wide = disk->wide && !is_narrow;
   disk->punches = disk->punches || is_punching;
@@ -90,14 +96,21 @@ static bool take_word(const char **at, struct disk *disk, char *why, size_t room
   return true;
 }
 
-static const char no_read_only[] = "ro: no command is answered DATA PROTECT yet. snapshot leaves the file alone, and loses what is written";
+static const char no_read_only[] = "ro: read-only=on refuses what the guest writes, and snapshot loses it";
+
+// Returns why a disk can't be read-only for its guest, or NULL.
+static const char *protection_fault(const struct disk *disk) {
+  if (disk->read_only || disk->grows) return "read-only=on takes no snapshot and no grow";
+  if (!disk->path) return "read-only=on wants file=PATH";
+  return disk->wide ? NULL : "read-only=on wants profile=wide";
+}
 
 // Takes all words of a disk.
 static bool take_disk(struct disk *disk, const char *at, char *why, size_t room) {
   uint64_t target, lun;
   snprintf(why, room,
            "%s: not T:L=SIZE[,file=PATH][,grow][,snapshot][,detect-zeroes=unmap][,write-cache=on][,cache-size=SIZE][,direct=on]"
-           "[,profile=narrow|wide][,NAMES], or T:L=file=PATH[,..]",
+           "[,read-only=on][,profile=narrow|wide][,NAMES], or T:L=file=PATH[,..]",
            at);
   if (!number(&at, 255, ':', &target) || !number(&at, 16383, '=', &lun)) return false;
   disk->target = (uint8_t)target;
@@ -109,6 +122,9 @@ static bool take_disk(struct disk *disk, const char *at, char *why, size_t room)
     stands = take_word(&at, disk, why, room);
   }
   if (!stands || *at) return false;
+  const char *fault = disk->is_protected ? protection_fault(disk) : NULL;
+  if (fault) return snprintf(why, room, "%s", fault), false;
+  disk->read_only = disk->read_only || disk->is_protected;
   if (!disk->path && (disk->read_only || disk->grows || !has_size)) return snprintf(why, room, "grow and snapshot want file=PATH"), false;
   if (disk->grows && (disk->read_only || !has_size)) return snprintf(why, room, "grow wants a size, and no snapshot"), false;
   return true;

@@ -30,6 +30,8 @@ struct disk {
   char *path;       // of its image; NULL: the disk is in memory alone
   int file;         // below 0: there is no image, or it isn't open
   bool read_only;   // never written to that image
+  bool has_access;  // its words say whether its guest may write it
+  bool is_protected;  // it may not: the device refuses what would change the disk
   bool grows;       // a shorter image is made as long as the disk
   bool made;        // there was no image
   bool grown;       // there was a shorter one
@@ -69,7 +71,7 @@ struct disks {
 };
 
 // Adds the disk of words T:L=SIZE[,file=PATH][,grow][,snapshot][,detect-zeroes=unmap][,write-cache=on|off][,cache-size=SIZE][,direct=on|off]
-// [,profile=narrow|wide][,NAMES] or T:L=file=PATH[,..], in its place of the order. A comma of the path stands there twice. Opens nothing:
+// [,read-only=on|off][,profile=narrow|wide][,NAMES] or T:L=file=PATH[,..], in its place of the order. A comma of the path stands there twice. Opens nothing:
 // images_open does that. Returns false, and says why, where the words name no disk.
 bool disks_add(struct disks *disks, const char *words, char *why, size_t room);
 

@@ -103,10 +103,18 @@ static bool fits(struct disk *disk, char *why, size_t room) {
   return (!fstat(disk->file, &stat) && S_ISREG(stat.st_mode)) || refuse(disk, "shorter than the disk, and no file that grows", why, room);
 }
 
+// Says why an image can't be had for writing, as errno has it.
+static bool refuse_writing(const struct disk *disk, char *why, size_t room) {
+  snprintf(why, room, "%s: %s. With read-only=on it is opened for reading alone", disk->path, strerror(errno));
+  return false;
+}
+
 static bool open_image(struct disk *disk, bool is_locked_now, char *why, size_t room) {
   // O_NONBLOCK: a FIFO is refused, and isn't waited for.
   disk->file = open(disk->path, (disk->read_only ? O_RDONLY : O_RDWR) | O_NONBLOCK | O_NOCTTY | O_CLOEXEC);
   if (disk->file < 0 && errno == ENOENT && disk->blocks && !disk->read_only) return true;
+  bool is_barred = disk->file < 0 && (errno == EACCES || errno == EPERM || errno == EROFS);
+  if (is_barred && !disk->read_only) return refuse_writing(disk, why, room);
   if (disk->file < 0) return refuse(disk, NULL, why, room);
   return measure(disk, why, room) && (!is_locked_now || lock_first(disk, why, room)) && fits(disk, why, room) && make_direct(disk, why, room);
 }
@@ -145,7 +153,8 @@ static bool grow(const struct disks *disks, struct disk *disk, char *why, size_t
 
 bool image_take(const struct disks *disks, struct disk *disk, char *why, size_t room) {
   int flags = fcntl(disk->file, F_GETFL), wanted = disk->read_only ? O_RDONLY : O_RDWR;
-  if ((flags & O_ACCMODE) != wanted && (flags & O_ACCMODE) != O_RDWR) return refuse(disk, "its descriptor isn't for writing", why, room);
+  bool suits = (flags & O_ACCMODE) == wanted || (flags & O_ACCMODE) == O_RDWR;
+  if (!suits) return refuse(disk, "its descriptor isn't for writing. With read-only=on it is for reading alone", why, room);
   // What is written goes to the end of the file by the one, and has to be aligned by the other.
   if (flags & (O_APPEND | O_DIRECT)) return refuse(disk, "its descriptor has O_APPEND or O_DIRECT", why, room);
   if (!measure(disk, why, room) || (!is_loose(disks) && !lock(disk, why, room)) || !fits(disk, why, room)) return false;

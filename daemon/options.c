@@ -24,7 +24,7 @@
 
 static const char usage[] =
     "vscsi-vhost-user --socket PATH|--fd N --disk T:L=SIZE[,file=PATH][,grow][,snapshot][,detect-zeroes=unmap]"
-    "[,write-cache=on][,cache-size=SIZE][,direct=on][,profile=narrow|wide][,NAMES] ..\n"
+    "[,write-cache=on][,cache-size=SIZE][,direct=on][,read-only=on][,profile=narrow|wide][,NAMES] ..\n"
     "A virtio SCSI device for a vhost-user front end.\n"
     "\n"
     "  --socket PATH        listen there (also --socket-path)\n"
@@ -40,6 +40,7 @@ static const char usage[] =
     "                       What the guest hasn't flushed is lost where the daemon is killed\n"
     "      cache-size=SIZE  have at most SIZE bytes of it in memory, 33M or more; 64M is the default\n"
     "      direct=on        read and write it with no cache of the system's (O_DIRECT)\n"
+    "      read-only=on     refuse what the guest would write, and open the file for reading alone\n"
     "      profile=narrow   know the commands of the narrow profile alone, in place of profile=wide\n"
     "      serial=TEXT, naa=HEX, vendor=TEXT, product=TEXT, revision=TEXT, physical-block-exp=N, rotation-rate=N,\n"
     "      sense=fixed or sense=descriptor\n"
@@ -156,7 +157,7 @@ static bool is_whole(const struct options *options, const struct disks *disks) {
   if (!disks_are_whole(disks)) return fputs("there is no disk, or a target without LUN 0\n", stderr), false;
   for (size_t i = 0; i < disks->count; i++) {
     const char *image = disks->disks[i].path;
-    bool is_kept = image && !disks->disks[i].read_only;
+    bool is_kept = image && (!disks->disks[i].read_only || disks->disks[i].is_protected);
     if (disks->moves && !is_kept) return fputs("--migratable: each disk has to be kept on a file\n", stderr), false;
     if (image && options->log && is_same(image, options->log)) return fprintf(stderr, "--log %s: a disk is kept there\n", image), false;
   }

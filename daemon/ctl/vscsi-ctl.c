@@ -76,7 +76,7 @@ static const char *take_word(const char *at, struct image *image) {
     return take_path(at + strlen(file), image->path);
   }
   image->has_naa = image->has_naa || begins(at, "naa=") || is_word(at, length, "profile=narrow");
-  image->reads = image->reads || is_word(at, length, "snapshot");
+  image->reads = image->reads || is_word(at, length, "snapshot") || is_word(at, length, "read-only=on");
   image->makes = image->makes || is_word(at, length, "grow");
   return at + length;
 }

@@ -291,8 +291,12 @@ static void test_words(void) {
                                       "0:0=1M,profile=wide,rotation-rate=1024", "0:0=1M,profile=wide,rotation-rate=65535",
                                       "0:0=1M,profile=wide,rotation-rate=-1", "0:0=1M,profile=wide,sense=", "0:0=1M,profile=wide,sense=fix",
                                       "0:0=1M,profile=wide,sense=descriptors", "0:0=1M,profile=narrow,sense=descriptor",
-                                      "0:0=1M,profile=wide,sense=fixed,sense=descriptor"};
-  static const char *const refused[] = {"0:0=1M,file=/", "0:0=1M,file=/nowhere/x", "0:0=file=/nowhere/x", "0:0=1M,file=/nowhere/x,snapshot"};
+                                      "0:0=1M,profile=wide,sense=fixed,sense=descriptor",
+                                      "0:0=1M,read-only=on", "0:0=1M,file=x,read-only=maybe", "0:0=1M,file=x,read-only=on,read-only=on",
+                                      "0:0=1M,file=x,read-only=on,snapshot", "0:0=1M,file=x,grow,read-only=on",
+                                      "0:0=1M,file=x,profile=narrow,read-only=on", "0:0=1M,file=x,read-only=on,read-only=off"};
+  static const char *const refused[] = {"0:0=1M,file=/", "0:0=1M,file=/nowhere/x", "0:0=file=/nowhere/x", "0:0=1M,file=/nowhere/x,snapshot",
+                                        "0:0=1M,file=/nowhere/x,read-only=on"};
   char why[300];
   struct disks disks = {0};
   for (size_t i = 0; i < sizeof wrong / sizeof *wrong; i++) MUST(!disks_add(&disks, wrong[i], why, sizeof why) && *why);
@@ -305,6 +309,10 @@ static void test_words(void) {
     disks_close(&disks);
   }
   MUST(disks_add(&disks, "0:0=1M,snapshot,file=a,,b,,,,c", why, sizeof why) && !strcmp(disks.disks[0].path, "a,b,,c") && disks.disks[0].read_only);
+  disks_close(&disks);
+  MUST(disks_add(&disks, "0:0=file=a,read-only=on", why, sizeof why) && disks.disks[0].read_only && disks.disks[0].is_protected);
+  MUST(disks_add(&disks, "0:1=1M,file=b,read-only=off", why, sizeof why) && !disks.disks[1].read_only && !disks.disks[1].is_protected);
+  MUST(disks_add(&disks, "0:2=1M,file=c,snapshot", why, sizeof why) && disks.disks[2].read_only && !disks.disks[2].is_protected);
   disks_close(&disks);
   MUST(disks_add(&disks, "0:0=1M,profile=wide", why, sizeof why) && disks.disks[0].wide);
   MUST(disks_add(&disks, "0:1=1M,profile=narrow", why, sizeof why) && !disks.disks[1].wide);

@@ -23,6 +23,7 @@ static struct vscsi_unit units[2];
 static const uint8_t profiles[2] = {VSCSI_PROFILE_WIDE, VSCSI_PROFILE_WIDE + 1};
 static const uint8_t wide[2] = {VSCSI_PROFILE_WIDE, VSCSI_PROFILE_WIDE};
 static struct vscsi_identity identities[2];
+static bool read_only[2];
 static struct vscsi_config config;
 
 // A configuration that the device takes.
@@ -162,6 +163,29 @@ static void each_format(void) {
   config.profiles = 0, refused(__LINE__, VSCSI_CAUSE_UNIT_IDENTITY, 1, 0);
 }
 
+// That a read-only unit tells WP (SBC-3 6.5.1) and refuses FORMAT UNIT (4.12), a unit beside it doesn't, and a narrow one can't be so.
+static void each_access(void) {
+  static const uint8_t mode_sense[6] = {0x1a, 8, 8, 0, 4}, format[6] = {4}, protected[14] = {0x70, 0, 7, [7] = 10, [12] = 0x27};
+  struct vscsi device = {0};
+  struct guest guest = {.device = &device};
+  uint8_t found[RESPONSE], header[4];
+  begin(), units[1].calm = 1, config.profiles = wide, config.read_only = read_only;
+  read_only[0] = false, read_only[1] = true;
+  IS(vscsi_create(&device, &config, 0), VSCSI_DONE);
+  IS(asks(&guest, 0, mode_sense).status, 0);
+  load(&guest, IN_AT, header, sizeof header);
+  IS(header[2], 0x10);
+  IS(asks(&guest, 4, mode_sense).status, 0);
+  load(&guest, IN_AT, header, sizeof header);
+  IS(header[2], 0x90);
+  IS(asks(&guest, 0, format).status, 0);
+  IS(asks(&guest, 4, format).status, 2);
+  load(&guest, RESPONSE_AT, found, sizeof found);
+  IS(memcmp(found + 12, protected, sizeof protected), 0);
+  IS(vscsi_destroy(&device), VSCSI_DONE);
+  config.profiles = 0, refused(__LINE__, VSCSI_CAUSE_UNIT_IDENTITY, 1, 0);
+}
+
 // That each unit has the commands of its profile: MODE SENSE is one of the wide profile alone.
 static void each_profile(void) {
   static const uint8_t wide_second[2] = {VSCSI_PROFILE_NARROW, VSCSI_PROFILE_WIDE}, mode_sense[6] = {0x1a, 0, 0x3f, 0, 0xff};
@@ -194,6 +218,14 @@ static void older(void) {
   config.profiles = profiles;
   IS(vscsi_create(&device, &config, 0), VSCSI_BAD_CONFIG);
   begin();
+  read_only[1] = true;
+  config.read_only = read_only, config.size = offsetof(struct vscsi_config, read_only);
+  IS(vscsi_create(&device, &config, 0), VSCSI_DONE);
+  IS(vscsi_destroy(&device), VSCSI_DONE);
+  identities[0] = (struct vscsi_identity){.sense_format = 2};
+  config.identities = identities;
+  IS(vscsi_create(&device, &config, 0), VSCSI_BAD_CONFIG);
+  begin();
   config.profiles = profiles, config.size = offsetof(struct vscsi_config, profiles);
   IS(vscsi_create(&device, &config, 0), VSCSI_DONE);
   IS(vscsi_destroy(&device), VSCSI_DONE);
@@ -223,6 +255,10 @@ static void older_live(void) {
   live.identities = identities;
   IS(vscsi_live_create(&device, &live, 0, 0), VSCSI_DONE);
   IS(vscsi_live_destroy(&device), VSCSI_DONE);
+  live.size = offsetof(struct vscsi_live_config, read_only);
+  IS(vscsi_live_create(&device, &live, 0, &fault), VSCSI_BAD_CONFIG);
+  IS(fault.cause, VSCSI_CAUSE_UNIT_IDENTITY);
+  IS(fault.place, 0);
   live.size = sizeof live;
   IS(vscsi_live_create(&device, &live, 0, &fault), VSCSI_BAD_CONFIG);
   IS(fault.cause, VSCSI_CAUSE_UNIT_IDENTITY);
@@ -809,6 +845,7 @@ int main(void) {
   names();
   each_name();
   each_format();
+  each_access();
   older();
   older_live();
   sizes();

@@ -224,7 +224,7 @@ def test_conventions(room):
 
 def test_documents(room):
     """The manual page and --help have the same words, and the page on the daemon has no other."""
-    words = r"--[a-z][a-z-]*|\b(?:grow|snapshot|detect-zeroes|write-cache|cache-size|direct)\b"
+    words = r"--[a-z][a-z-]*|\b(?:grow|snapshot|detect-zeroes|write-cache|cache-size|direct|read-only)\b"
     said = [set(re.findall(words, text.replace("\\-", "-"))) for text in (
         room.ends("--help", status=0),
         (DOCS / "vscsi-vhost-user.1").read_text().split(".SH OPTIONS")[1].split(".SH ")[0],
@@ -249,6 +249,28 @@ def test_read_only_is_refused(room):
     with room.runs("--disk", f"0:0=1M,file={disk},snapshot"):
         assert serves(room.socket)
         room.ends("--socket", room.folder / "other", "--disk", f"0:0=1M,file={disk}", status=1, says="disk.img: ")
+
+
+def test_read_only(room):
+    """With `read-only=on` a file is opened for reading alone, and daemons share it. What makes no sense beside it is refused by name."""
+    disk = room.file("disk.img")
+    named = ("--socket", room.socket, "--disk")
+    refused = {f"1M,file={disk},read-only=on,snapshot": "read-only=on takes no snapshot", "1M,read-only=on": "read-only=on wants file=PATH",
+               f"2M,file={disk},grow,read-only=on": "read-only=on takes no snapshot and no grow",
+               f"1M,file={disk},read-only=on,profile=narrow": "read-only=on wants profile=wide"}
+    for words, says in refused.items():
+        room.ends(*named, f"0:0={words}", status=2, says=says)
+    room.refuses("--disk", f"0:0=1M,file={room.folder / 'missing.img'},read-only=on", says="missing.img: No such file")
+    disk.chmod(0o400)
+    with room.runs("--disk", f"0:0=file={disk},read-only=on"):
+        assert serves(room.socket)
+        with disk.open("rb") as file:
+            assert [is_locked(file, at) for at in (100, 101, 103, 200, 201, 203)] == [True, False, False, False, True, True]
+        with room.runs("--disk", f"0:0=1M,file={disk},read-only=on", path=room.folder / "other"):
+            pass
+    with room.runs("--disk", f"0:0=1M,file={room.file('other.img')},read-only=off"):
+        assert serves(room.socket)
+    assert disk.read_bytes() == b"\x5a" * MIB
 
 
 def test_system_refuses(room):

@@ -4,6 +4,7 @@ pub mod ModePages
 pub mod Oring
 pub mod Passing
 pub mod Ranges
+pub mod ReadOnly
 pub mod Unmapping
 pub mod Usages
 pub mod Zeros

@@ -20,8 +20,8 @@ use Rattle.command_model.specs.Comparing.{to_compare, to_verify, first_unequal, 
 use Rattle.command_model.specs.Effects.{block_after, where_covered}
 use Rattle.command_model.specs.Facts.{Facts}
 use Rattle.command_model.specs.Provisioning.{alike, looked_at, lba_status, provisioning}
-use Rattle.command_model.specs.Replies.{answer_of, cache_told, format_told, reported}
-use Rattle.sense.specs.Conditions.{lba_out_of_range}
+use Rattle.command_model.specs.Replies.{answer_of, cache_told, format_told, read_only_told, reported}
+use Rattle.sense.specs.Conditions.{lba_out_of_range, write_protected}
 
 -- blocks that agree below a number give the same run below it
 pub run-agree : (p q : Blocks) (first n limit : ℕ) → first + n ≤ limit → ((b : ℕ) → b < limit → p b ≡ q b) → run p first n ≡ run q first n
@@ -61,12 +61,12 @@ status-agree capacity lba p q below agree =
     (λ b less. rw (same, agree b less) refl) in
     rw (count, same) refl
 
-wide_answer-agree : (format : SenseFormat) (write_cache : Bool) (capacity : ℕ) (command : WideCommand) (bytes : List ℕ) (p q : Blocks) → ((b : ℕ) → b < capacity → p b ≡ q b) →
-    wide_answer format write_cache capacity command bytes p ≡ wide_answer format write_cache capacity command bytes q
-wide_answer-agree format write_cache capacity (Verify sent count lba) bytes p q agree =
+wide_answer-agree : (format : SenseFormat) (write_cache read_only : Bool) (capacity : ℕ) (command : WideCommand) (bytes : List ℕ) (p q : Blocks) → ((b : ℕ) → b < capacity → p b ≡ q b) →
+    wide_answer format write_cache read_only capacity command bytes p ≡ wide_answer format write_cache read_only capacity command bytes q
+wide_answer-agree format write_cache read_only capacity (Verify sent count lba) bytes p q agree =
     within-same capacity lba count _ _
     (λ below. ap (λ l. compared (first_unequal (run (to_verify sent bytes) 0 count) l)) (run-agree p q lba count capacity below agree))
-wide_answer-agree format write_cache capacity (GetLbaStatus allocation lba) bytes p q agree =
+wide_answer-agree format write_cache read_only capacity (GetLbaStatus allocation lba) bytes p q agree =
     told (nat_lt lba capacity) refl
   where
     told : (inside : Bool) → nat_lt lba capacity ≡ inside →
@@ -74,7 +74,7 @@ wide_answer-agree format write_cache capacity (GetLbaStatus allocation lba) byte
         ≡ (if inside then Ok (take allocation (lba_status capacity lba q)) else Err lba_out_of_range)
     told true is = ap (λ l. Ok (take allocation l)) (status-agree capacity lba p q (ltb-true lba capacity is) agree)
     told false is = refl
-wide_answer-agree format write_cache capacity _ bytes p q agree = refl
+wide_answer-agree format write_cache read_only capacity _ bytes p q agree = refl
 
 pub answer_of-agree : (facts : Facts) (command : Command) (bytes : List ℕ) (p q : Blocks) → ((b : ℕ) → b < facts.capacity → p b ≡ q b) →
     answer_of facts command bytes p ≡ answer_of facts command bytes q
@@ -83,13 +83,19 @@ answer_of-agree facts (Read lba count) bytes p q agree =
 answer_of-agree facts (CompareAndWrite lba count) bytes p q agree =
     within-same facts.capacity lba count _ _
     (λ below. ap (λ l. compared (first_unequal (to_compare count bytes) l)) (run-agree p q lba count facts.capacity below agree))
-answer_of-agree facts (Wide command) bytes p q agree = wide_answer-agree (format_told facts) (cache_told facts) facts.capacity command bytes p q agree
+answer_of-agree facts (Wide command) bytes p q agree = wide_answer-agree (format_told facts) (cache_told facts) (read_only_told facts) facts.capacity command bytes p q agree
 answer_of-agree facts _ bytes p q agree = refl
 
 -- no attention stopped what ended with GOOD
 pub reported-good : (attention : Option Sense) (reply : PlainReply) → (reported attention reply).status ≡ good → attention ≡ None
 reported-good None reply ended = refl
 reported-good (Some s) reply ended = absurd (omega arith)
+
+-- nor that the unit is read-only
+pub permitted-good : (command : Command) (protected : Bool) (answer : Answer) → (replied command (if protected then Err write_protected else answer)).status ≡ good →
+    protected ≡ false
+permitted-good command true answer ended = absurd (omega arith)
+permitted-good command false answer ended = refl
 
 -- and its range was in range
 pub within-good : (command : Command) (inside : Bool) (bytes : List ℕ) → (replied command (if inside then Ok bytes else Err lba_out_of_range)).status ≡ good → inside ≡ true

@@ -3,14 +3,14 @@ use Rattle.std.proofs.Common.{◌≡◌, ℕ, ◌≤◌, true, false, Bool, List
 use Rattle.std.proofs.lemmas.Bool.Decides.{nat_tests, eqb_tells}
 use Rattle.command_model.specs.PlainReply.{replied}
 use Rattle.command_model.specs.Statuses.{good}
-use Rattle.block_commands.proofs.Ranges.{reported-good}
+use Rattle.block_commands.proofs.Ranges.{permitted-good, reported-good}
 use Rattle.std.specs.Prelude.{◌||◌, ◌&&◌, nat_lt}
 use Rattle.sense.specs.Conditions.{parameter_list_length_error, lba_out_of_range, invalid_field_in_parameter_list}
 use Rattle.cdb.specs.declared.commands.Command.TheVariants.{Unmap}
 use Rattle.block_store.specs.Blocks.{Blocks}
 use Rattle.command_model.specs.Facts.{Facts}
 use Rattle.command_model.specs.Data.{done}
-use Rattle.command_model.specs.Replies.{unmap_answer, reply_of}
+use Rattle.command_model.specs.Replies.{read_only_told, unmap_answer, reply_of}
 use Rattle.command_model.specs.UnmapList.{descriptors, descriptors_in, descriptor_count, blocks_named, are_in_range}
 use Rattle.block_commands.proofs.Descriptors.{length-descriptors_in}
 
@@ -67,9 +67,10 @@ pub unmapped-in_range : (facts : Facts) (n : ℕ) (bytes : List ℕ) (blocks : B
     IsTrue (are_in_range facts.capacity (descriptors bytes))
 unmapped-in_range facts n bytes blocks ended =
     let none : facts.pending ≡ None = reported-good facts.pending _ ended in
+    let writable : read_only_told facts ≡ false = permitted-good (Unmap n) _ _ (rw none at ended) in
     elim (eqb_tells (length bytes) 0) [
       | inl empty ↦ rw (descriptors-none bytes empty.1) refl
-      | inr some ↦ tested-good n _ _ _ (rw (none, some.0) at ended)
+      | inr some ↦ tested-good n _ _ _ (rw (none, writable, some.0) at ended)
     ]
 
 -- and it passed the test on its number of descriptors and of blocks
@@ -89,9 +90,10 @@ pub unmapped-counted : (facts : Facts) (n : ℕ) (bytes : List ℕ) (blocks : Bl
     (nat_lt 16 (length (descriptors bytes)) ≡ false) × (nat_lt 65536 (blocks_named (descriptors bytes)) ≡ false)
 unmapped-counted facts n bytes blocks ended =
     let none : facts.pending ≡ None = reported-good facts.pending _ ended in
+    let writable : read_only_told facts ≡ false = permitted-good (Unmap n) _ _ (rw none at ended) in
     elim (eqb_tells (length bytes) 0) [
       | inl empty ↦ rw (descriptors-none bytes empty.1) (refl, refl)
-      | inr some ↦ neither _ _ (counted-good n _ _ _ (rw (none, some.0) at ended))
+      | inr some ↦ neither _ _ (counted-good n _ _ _ (rw (none, writable, some.0) at ended))
     ]
 
 pub or-first : (a b : Bool) → IsTrue a → IsTrue (a || b)

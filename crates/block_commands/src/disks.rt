@@ -1,6 +1,6 @@
 //! One command, run whole on a disk.
 
-ghost use Rattle.std.specs.Prelude.{◌≡◌, ◌≤◌, ℕ, length, vec_len, IfOk, OnErr, IsTrue, None};
+ghost use Rattle.std.specs.Prelude.{◌≡◌, ◌≤◌, ℕ, length, vec_len, IfOk, OnErr, IsTrue, IsFalse, None};
 ghost use Rattle.cdb.specs.Need.{need_of};
 ghost use Rattle.command_model.specs.Data.{data_of};
 ghost use Rattle.command_model.specs.PlainReply.{plain_of};
@@ -8,7 +8,7 @@ ghost use Rattle.command_model.specs.Effects.{block_after};
 ghost use Rattle.command_model.specs.Memory.{may_want};
 ghost use Rattle.command_model.specs.Replies.{reply_of};
 ghost use Rattle.command_model.specs.Attention.{met};
-ghost use Rattle.block_commands.specs.Inner.Told.{facts_of};
+ghost use Rattle.block_commands.specs.Inner.Told.{facts_of, protects};
 ghost use Rattle.block_commands.specs.Inner.Ready.{IsReady};
 
 use crate::execution::exec;
@@ -32,6 +32,7 @@ pub fn exec_on(
 ) -> Result<Reply, NoMemory>
     requires data { (need_of command.now).out ≤ length out.now }
     requires ready { met command.now facts.now.pending ≡ None →
+        IsFalse (protects facts.now command.now) →
         IsReady (⟦<Disk as Store>⟧.is_held disk.old) (⟦<Disk as Store>⟧.has_room disk.old) (⟦<Disk as Store>⟧.size disk.old)
         command.now (data_of command.now out.now) }
     ensures reply { IfOk result (λ reply. plain_of reply

@@ -1,12 +1,12 @@
 //! One command, run whole.
 
-ghost use Rattle.std.specs.Prelude.{◌≡◌, ◌≤◌, ◌+◌, ◌<◌, ◌^◌, ℕ, length, vec_len, IfOk, OnOk, OnErr, unwrap_or, IsTrue, None};
+ghost use Rattle.std.specs.Prelude.{◌≡◌, ◌≤◌, ◌+◌, ◌<◌, ◌^◌, ℕ, length, vec_len, IfOk, OnOk, OnErr, unwrap_or, IsTrue, IsFalse, None};
 ghost use Rattle.std.specs.Result.{ForOk};
 ghost use Rattle.cdb.specs.Need.{need_of};
 ghost use Rattle.command_model.specs.Data.{data_of};
 ghost use Rattle.command_model.specs.PlainReply.{plain_of, refusal, sent_in};
 ghost use Rattle.command_model.specs.Effects.{block_after, given};
-ghost use Rattle.block_commands.specs.Inner.Told.{facts_of, sense_told};
+ghost use Rattle.block_commands.specs.Inner.Told.{facts_of, protects, sense_told};
 ghost use Rattle.command_model.specs.Memory.{may_want, wants};
 ghost use Rattle.command_model.specs.Replies.{reply_of, answer_of};
 ghost use Rattle.command_model.specs.Attention.{met};
@@ -21,6 +21,7 @@ use crate::facts::UnitFacts;
 use crate::failure::Failure;
 use crate::inquiry::inquiry;
 use crate::luns::{listed_luns, lun_list};
+use crate::protection::is_protected;
 use crate::transfer::{read, synchronize, write, write_same};
 use crate::unmap::unmap;
 use crate::wide::wide;
@@ -35,7 +36,8 @@ use std::alloc::Global;
 ///
 /// `out` is what the driver sent. It has at least the bytes that the command needs, and only those are used. Where an
 /// attention is pending, a command that meets it is answered with it and isn't run. The caller takes the attention from
-/// its list where `takes_attention` says so. REQUEST SENSE takes it too, and returns it as data.
+/// its list where `takes_attention` says so. REQUEST SENSE takes it too, and returns it as data. Behind an attention a
+/// read-only unit refuses each command that may change the medium.
 ///
 /// Refuses only where memory for the data to the driver or for the store can't be had; the blocks are then as before.
 /// The data of a READ take the room that is given, whatever stands there, in place of memory.
@@ -50,6 +52,7 @@ pub fn exec<S: Store>(
 ) -> Result<Reply, NoMemory>
     requires data { (need_of command.now).out ≤ length out.now }
     requires ready { met command.now facts.now.pending ≡ None →
+        IsFalse (protects facts.now command.now) →
         IsReady (S.is_held store.old) (S.has_room store.old) (S.size store.old) command.now (data_of command.now out.now) }
     ensures reply { IfOk result (λ reply. plain_of reply
         ≡ reply_of (facts_of facts.now (S.size store.old)) command.now (data_of command.now out.now)
@@ -65,12 +68,15 @@ pub fn exec<S: Store>(
     if let Some(attention) = met_attention(command, facts.pending) {
         return Ok(refused(alloc, facts, attention));
     }
+    if is_protected(facts, command) {
+        return Ok(refused(alloc, facts, Sense::WRITE_PROTECTED));
+    }
     let bytes = &out[..need(command).out as usize];
     let answer = run(alloc, room, store, command, bytes, facts);
     replied(alloc, facts, command, answer)
 }
 
-/// Runs a command that no attention stops, on exactly the data that it needs. After an error nothing
+/// Runs a command that nothing stops, on exactly the data that it needs. After an error nothing
 /// is changed.
 fn run<S: Store>(
     alloc: Global,
@@ -141,6 +147,7 @@ fn run<S: Store>(
             store,
             facts.format_told(),
             facts.cache_told(),
+            facts.read_only_told(),
             &command,
             bytes,
         ),

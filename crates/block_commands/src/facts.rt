@@ -62,4 +62,14 @@ impl UnitFacts {
             Profile::Wide => self.identity.write_cache,
         }
     }
+
+    /// Returns true if the unit is read-only: one of the narrow profile never is.
+    pub(crate) fn read_only_told(&self) -> bool
+        ensures { result ≡ (told_by self.now.profile self.now.identity).read_only }
+    {
+        match self.profile {
+            Profile::Wide => self.identity.read_only,
+            _ => false,
+        }
+    }
 }

@@ -1,12 +1,12 @@
 //! A READ whose data are taken from where they stand.
 
-ghost use Rattle.std.specs.Prelude.{◌≡◌, ℕ, List, length, None, IfSome, IsTrue};
+ghost use Rattle.std.specs.Prelude.{◌≡◌, ℕ, List, length, None, IfSome, IsFalse, IsTrue};
 ghost use Rattle.cdb.specs.Need.{need_of};
 ghost use Rattle.command_model.specs.Effects.{block_after};
 ghost use Rattle.command_model.specs.PlainReply.{success};
 ghost use Rattle.command_model.specs.Replies.{reply_of};
 ghost use Rattle.command_model.specs.Statuses.{good};
-ghost use Rattle.block_commands.specs.Inner.Told.{facts_of};
+ghost use Rattle.block_commands.specs.Inner.Told.{facts_of, protects};
 ghost use Rattle.block_commands.specs.Inner.Ready.{is_read};
 
 use crate::capacity::is_in_range;
@@ -25,7 +25,8 @@ pub fn read_in_place<'a>(
     command: &Command,
     facts: &UnitFacts,
 ) -> Option<BlocksInPlace<'a>>
-    requires held { facts.now.pending ≡ None → (b : ℕ) → IsTrue (is_read (⟦<Disk as Store>⟧.size store.now) command.now b)
+    requires held { facts.now.pending ≡ None → IsFalse (protects facts.now command.now) → (b : ℕ) →
+        IsTrue (is_read (⟦<Disk as Store>⟧.size store.now) command.now b)
         → IsTrue (⟦<Disk as Store>⟧.is_held store.now b) }
     ensures reply { IfSome result (λ found. (out : List ℕ) →
         reply_of (facts_of facts.now (⟦<Disk as Store>⟧.size store.now)) command.now out (⟦<Disk as Store>⟧.block_at store.now)

@@ -3,7 +3,8 @@
 ghost use Rattle.std.specs.Prelude.{◌≡◌, ◌≢◌, ◌∷◌, ◌⊎◌, ℕ, ◌+◌, ◌*◌, ◌<◌, ◌≤◌, [], List, length, slice_index, IsTrue, IsFalse, Some, None};
 ghost use Rattle.sense.specs.declared.Sense.{Sense};
 ghost use Rattle.sense.specs.declared.SenseFormat.{SenseFormat};
-ghost use Rattle.sense.specs.Conditions.{miscompare};
+ghost use Rattle.sense.specs.Conditions.{miscompare, write_protected};
+ghost use Rattle.cdb.specs.declared.commands.Command.{Command as ACommand};
 ghost use Rattle.cdb.specs.declared.commands.InquiryData.{InquiryData};
 ghost use Rattle.cdb.specs.declared.commands.SelectReport.{SelectReport};
 ghost use Rattle.cdb.specs.Decoding.{command};
@@ -17,10 +18,10 @@ ghost use Rattle.command_model.specs.Attention.{takes};
 ghost use Rattle.command_model.specs.Capacity.{is_in_range};
 ghost use Rattle.command_model.specs.Codes.{is_told};
 ghost use Rattle.command_model.specs.Comparing.{to_compare};
-ghost use Rattle.command_model.specs.Effects.{block_after};
+ghost use Rattle.command_model.specs.Effects.{block_after, changes_medium, given};
 ghost use Rattle.command_model.specs.Facts.{Facts};
 ghost use Rattle.command_model.specs.Inquiry.{limits_page};
-ghost use Rattle.command_model.specs.Replies.{format_told, reply_of};
+ghost use Rattle.command_model.specs.Replies.{format_told, read_only_told, reply_of};
 ghost use Rattle.command_model.specs.UnmapList.{blocks_named, descriptors, are_in_range, is_named};
 
 use block_store::written_is_read_back;
@@ -68,17 +69,30 @@ pub fn refused_changes_nothing()
         block_after command bytes code blocks b ≡ blocks b }
 {}
 
+/// A read-only unit refuses each command that may change its medium, whatever the command names, unless an attention is
+/// reported. So no command changes a block of it. The other commands change no block of any unit.
+pub fn read_only_is_kept()
+    ensures refused { (facts : Facts) (command : ACommand) (bytes : List ℕ) (blocks : Blocks) →
+        IsTrue (read_only_told facts) → IsTrue (changes_medium command) → facts.pending ≡ None →
+        reply_of facts command bytes blocks ≡ sent_in (format_told facts) (refusal write_protected) }
+    ensures blocks { (facts : Facts) (command : ACommand) (bytes : List ℕ) (blocks : Blocks) (b : ℕ) →
+        IsTrue (read_only_told facts) →
+        block_after command bytes (reply_of facts command bytes blocks).status blocks b ≡ blocks b }
+    ensures others { (command : ACommand) (bytes : List ℕ) (b : ℕ) (old : List ℕ) →
+        IsFalse (changes_medium command) → given command bytes b old ≡ None }
+{}
+
 /// COMPARE AND WRITE with equal data is GOOD; else it changes nothing, and its sense has the offset
-/// of the first unequal byte.
+/// of the first unequal byte. So it is where the unit isn't read-only.
 pub fn compared_first()
     ensures equal { (facts : Facts) (lba count : ℕ) (bytes : List ℕ) (blocks : Blocks) → facts.pending ≡ None →
-        IsTrue (is_in_range facts.capacity lba count) →
+        IsFalse (read_only_told facts) → IsTrue (is_in_range facts.capacity lba count) →
         run blocks lba count ≡ to_compare count bytes →
         reply_of facts (Command.CompareAndWrite lba count) bytes blocks
         ≡ success (Command.CompareAndWrite lba count) [] }
     ensures unequal { (facts : Facts) (lba count : ℕ) (bytes : List ℕ) (blocks : Blocks) (k : ℕ)
         → facts.pending ≡ None →
-        IsTrue (is_in_range facts.capacity lba count) →
+        IsFalse (read_only_told facts) → IsTrue (is_in_range facts.capacity lba count) →
         k < length (to_compare count bytes) → k < length (run blocks lba count) →
         ((j : ℕ) → j < k → slice_index (to_compare count bytes) j ≡ slice_index (run blocks lba count) j) →
         slice_index (to_compare count bytes) k ≢ slice_index (run blocks lba count) k →

@@ -30,6 +30,7 @@ mod mode_lists;
 mod modes;
 mod or_write;
 mod prepared;
+mod protection;
 mod provisioning;
 mod readiness;
 mod transfer;

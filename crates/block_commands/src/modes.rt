@@ -15,6 +15,9 @@ const MOST_BYTES: usize = 80;
 /// The device-specific parameter of a unit without a write cache: DPOFUA.
 const DPOFUA: u8 = 0x10;
 
+/// The same of a read-only unit: WP.
+const WP: u8 = 0x80;
+
 /// Read-Write Error Recovery.
 const ERROR_RECOVERY: [u8; 12] = [0x01, 0x0a, 0, 0, 0, 0, 0, 0, 0, 0, 0, 0];
 
@@ -43,14 +46,15 @@ pub(crate) fn mode_data(
     alloc: Global,
     format: SenseFormat,
     write_cache: bool,
+    read_only: bool,
     request: &ModeRequest,
     capacity: u64,
 ) -> Result<Vec<u8>, AllocError>
     ensures { IfOk result (λ bytes. bytes.items
-        ≡ take request.now.allocation (mode_data format write_cache request.now capacity)) }
+        ≡ take request.now.allocation (mode_data format write_cache read_only request.now capacity)) }
 {
     let mut list = Vec::with_capacity(alloc, MOST_BYTES)?;
-    put_header(&mut list, format, write_cache, request)?;
+    put_header(&mut list, format, write_cache, read_only, request)?;
     put_descriptor(&mut list, request.descriptor, capacity)?;
     put_pages(
         &mut list,
@@ -82,24 +86,40 @@ fn put_header(
     list: &mut Vec<u8>,
     format: SenseFormat,
     write_cache: bool,
+    read_only: bool,
     request: &ModeRequest,
 ) -> Result<(), AllocError>
     ensures { OnOk result (list.new.items ≡ list.old.items
-        ++ mode_header write_cache request.now.form request.now.descriptor
+        ++ mode_header write_cache read_only request.now.form request.now.descriptor
         (length (page_list format write_cache false request.now.pages))) }
 {
     let pages = pages_length(format, write_cache, request.pages);
     match request.form {
-        ModeForm::Six => list.extend_from_slice(&header_6(write_cache, request.descriptor, pages)),
-        ModeForm::Ten => list.extend_from_slice(&header_10(write_cache, request.descriptor, pages)),
+        ModeForm::Six => list.extend_from_slice(&header_6(
+            write_cache,
+            read_only,
+            request.descriptor,
+            pages,
+        )),
+        ModeForm::Ten => list.extend_from_slice(&header_10(
+            write_cache,
+            read_only,
+            request.descriptor,
+            pages,
+        )),
     }
 }
 
 /// Returns the device-specific parameter.
-fn device_specific(write_cache: bool) -> u8
-    ensures { result ≡ device_specific write_cache }
+fn device_specific(write_cache: bool, read_only: bool) -> u8
+    ensures { result ≡ device_specific write_cache read_only }
 {
-    if write_cache { 0x00 } else { DPOFUA }
+    match (write_cache, read_only) {
+        (false, false) => DPOFUA,
+        (true, false) => 0x00,
+        (false, true) => WP + DPOFUA,
+        (true, true) => WP,
+    }
 }
 
 /// Returns how many bytes the pages have, whatever the format and the cache.
@@ -142,29 +162,29 @@ fn long_lba(descriptor: ModeDescriptor) -> u8
 
 /// Makes the header of 4 bytes before pages of so many bytes.
 #[tactic(auto, unfolding(command_model::specs::Modes::mode_header))]
-fn header_6(write_cache: bool, descriptor: ModeDescriptor, pages: u8) -> [u8; 4]
+fn header_6(write_cache: bool, read_only: bool, descriptor: ModeDescriptor, pages: u8) -> [u8; 4]
     requires { pages ≤ 56 }
-    ensures { result ≡ mode_header write_cache ModeForm.Six descriptor pages }
+    ensures { result ≡ mode_header write_cache read_only ModeForm.Six descriptor pages }
 {
     let descriptor = descriptor_length(descriptor);
     [
         3 + descriptor + pages,
         0x00,
-        device_specific(write_cache),
+        device_specific(write_cache, read_only),
         descriptor,
     ]
 }
 
 /// Makes the header of 8 bytes before pages of so many bytes.
 #[tactic(auto, unfolding(command_model::specs::Modes::mode_header))]
-fn header_10(write_cache: bool, descriptor: ModeDescriptor, pages: u8) -> [u8; 8]
+fn header_10(write_cache: bool, read_only: bool, descriptor: ModeDescriptor, pages: u8) -> [u8; 8]
     requires { pages ≤ 56 }
-    ensures { result ≡ mode_header write_cache ModeForm.Ten descriptor pages }
+    ensures { result ≡ mode_header write_cache read_only ModeForm.Ten descriptor pages }
 {
     let length = u16::from(descriptor_length(descriptor));
     let mut header = [0; 8];
     header[..2].copy_from_slice(&(6 + length + u16::from(pages)).to_be_bytes());
-    header[3] = device_specific(write_cache);
+    header[3] = device_specific(write_cache, read_only);
     header[4] = long_lba(descriptor);
     header[6..].copy_from_slice(&length.to_be_bytes());
     header

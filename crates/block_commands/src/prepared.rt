@@ -11,7 +11,7 @@ ghost use Rattle.command_model.specs.Attention.{met};
 ghost use Rattle.command_model.specs.Capacity.{is_in_range};
 ghost use Rattle.command_model.specs.Effects.{block_after};
 ghost use Rattle.command_model.specs.Replies.{reply_of};
-ghost use Rattle.block_commands.specs.Inner.Told.{facts_of};
+ghost use Rattle.block_commands.specs.Inner.Told.{facts_of, protects};
 ghost use Rattle.command_model.specs.Memory.{may_want};
 ghost use Rattle.block_commands.specs.Prepared.{IsOf};
 ghost use Rattle.block_commands.specs.Inner.Ready.{IsReady};
@@ -20,6 +20,7 @@ use crate::attention::met_attention;
 use crate::capacity::is_in_range;
 use crate::disks::exec_on;
 use crate::facts::UnitFacts;
+use crate::protection::is_protected;
 use backed_store::Disk;
 use block_store::{Prepared, Store};
 use cdb::{Command, need};
@@ -44,6 +45,7 @@ pub fn exec_prepared(
     requires data { (need_of command.now).out ≤ length out.now }
     requires own { IfSome prepared (λ pages. IsOf command.now (data_of command.now out.now) (prepared_draft pages)) }
     requires ready { met command.now facts.now.pending ≡ None →
+        IsFalse (protects facts.now command.now) →
         IsReady (⟦<Disk as Store>⟧.is_held store.old) (⟦<Disk as Store>⟧.has_room store.old) (⟦<Disk as Store>⟧.size store.old)
         command.now (data_of command.now out.now) }
     ensures reply { IfOk result (λ answer. plain_of answer.0
@@ -66,7 +68,7 @@ pub fn exec_prepared(
     Ok((reply, back))
 }
 
-/// Installs the pages of a command, if there are any and no attention stops it. Returns true if it did, and the pages
+/// Installs the pages of a command, if there are any and nothing stops it. Returns true if it did, and the pages
 /// that come back.
 fn exchange(
     store: &mut Disk,
@@ -75,6 +77,7 @@ fn exchange(
     prepared: Option<Prepared>,
 ) -> Result<(bool, Option<Prepared>), NoMemory>
     ensures installed { IfOk result (λ answer. IsTrue answer.0 → (met command.now facts.now.pending ≡ None)
+        × IsFalse (protects facts.now command.now)
         × IsSomeAnd prepared (λ pages. IsTrue (is_in_range (⟦<Disk as Store>⟧.size store.old)
         (prepared_draft pages).first (prepared_draft pages).count)
         × ((b : ℕ) → ⟦<Disk as Store>⟧.block_at store.new b
@@ -96,6 +99,9 @@ fn exchange(
         return Ok((false, None));
     };
     if met_attention(command, facts.pending).is_some() {
+        return Ok((false, Some(pages)));
+    }
+    if is_protected(facts, command) {
         return Ok((false, Some(pages)));
     }
     let (installed, back) = installs(store, pages)?;

@@ -1,6 +1,6 @@
 //! The pages that a command needs before it runs.
 
-ghost use Rattle.std.specs.Prelude.{◌≡◌, ◌≢◌, ◌≤◌, ◌*◌, ◌&&◌, ℕ, false, None, is_some, length, IsTrue};
+ghost use Rattle.std.specs.Prelude.{◌≡◌, ◌≢◌, ◌≤◌, ◌*◌, ◌&&◌, ℕ, false, None, is_some, length, IsTrue, IsFalse};
 ghost use Rattle.cdb.specs.Need.{need_of};
 ghost use Rattle.block_store.specs.declared.readiness.Readiness.TheVariants.{Ready, Full};
 ghost use Rattle.command_model.specs.Capacity.{is_in_range};
@@ -9,12 +9,14 @@ ghost use Rattle.command_model.specs.Attention.{met};
 ghost use Rattle.command_model.specs.UnmapList.{descriptors_in, descriptors, is_named, are_in_range};
 ghost use Rattle.command_model.specs.Replies.{unmap_answer};
 ghost use Rattle.command_model.specs.Waiting.{needs, needs_wide};
+ghost use Rattle.block_commands.specs.Inner.Told.{protects};
 ghost use Rattle.block_commands.specs.Inner.Ready.{IsReady, is_inside, is_read_wide, is_changed_wide, is_near_wide, is_near_to, is_near_any, is_done};
 
 use crate::attention::met_attention;
 use crate::capacity::is_in_range;
 use crate::extents::{UNMAP_HEADER_BYTES, extent_at, taken_descriptors};
 use crate::facts::UnitFacts;
+use crate::protection::is_protected;
 use crate::provisioning::looked_at;
 use crate::unmap::{are_in_range, is_too_much};
 use block_store::{Readiness, Store};
@@ -174,11 +176,14 @@ pub fn make_ready<S: Store>(
 ) -> Readiness
     requires data { (need_of command.now).out ≤ length out.now }
     ensures ready { result ≡ Ready → met command.now facts.now.pending ≡ None →
+        IsFalse (protects facts.now command.now) →
         IsReady (S.is_held store.new) (S.has_room store.new) (S.size store.new) command.now (data_of command.now out.now) }
     ensures asked { result ≢ Full → met command.now facts.now.pending ≡ None →
+        IsFalse (protects facts.now command.now) →
         IsReady (S.is_coming store.new) (S.has_room store.new) (S.size store.new) command.now (data_of command.now out.now) }
     ensures idle { needs (S.size store.old) command.now ≡ false → result ≡ Ready }
     ensures met { IsTrue (is_some (met command.now facts.now.pending)) → result ≡ Ready }
+    ensures protected { IsTrue (protects facts.now command.now) → result ≡ Ready }
     ensures whole { is_some (S.storage store.old) ≡ false → result ≡ Ready }
     ensures blocks { (b : ℕ) → S.block_at store.new b ≡ S.block_at store.old b }
     ensures size { S.size store.new ≡ S.size store.old }
@@ -186,6 +191,9 @@ pub fn make_ready<S: Store>(
     ensures held { (b : ℕ) → IsTrue (S.is_held store.old b) → IsTrue (S.is_held store.new b) }
 {
     if met_attention(command, facts.pending).is_some() {
+        return Readiness::Ready;
+    }
+    if is_protected(facts, command) {
         return Readiness::Ready;
     }
     let bytes = &out[..need(command).out as usize];

@@ -33,13 +33,14 @@ const EXTENDED_TASK_MANAGEMENT: [u8; 16] = [
     0xdc, 0x03, 0x00, 0x0c, 0, 0, 0, 0, 0, 0, 0, 0, 0, 0, 0, 0,
 ];
 
-/// Runs a command of the wide profile alone on the blocks of a unit, which sends sense data in this format and has a volatile
-/// write cache or none, on exactly the data that it needs. After an error nothing is changed.
+/// Runs a command of the wide profile alone on the blocks of a unit, which sends sense data in this format, has a volatile
+/// write cache or none, and is read-only or not, on exactly the data that it needs. After an error nothing is changed.
 pub(crate) fn wide<S: Store>(
     alloc: Global,
     store: &mut S,
     format: SenseFormat,
     write_cache: bool,
+    read_only: bool,
     command: &WideCommand,
     bytes: &[u8],
 ) -> Result<Vec<u8>, Failure>
@@ -48,7 +49,7 @@ pub(crate) fn wide<S: Store>(
     requires changed { (b : ℕ) → IsTrue (is_changed_wide (S.size store.old) command.now b) → IsTrue (S.has_room store.old b) }
     requires near { (b : ℕ) → IsTrue (is_near_wide (S.size store.old) command.now b) → IsTrue (S.is_held store.old b) }
     ensures answer { Gives (λ bytes. bytes.items)
-        (wide_answer format write_cache (S.size store.old) command.now bytes.now (S.block_at store.old)) result }
+        (wide_answer format write_cache read_only (S.size store.old) command.now bytes.now (S.block_at store.old)) result }
     ensures ok { OnOk result ((b : ℕ) → S.block_at store.new b
         ≡ unwrap_or (wide_given command.now bytes.now b (S.block_at store.old b)) (S.block_at store.old b)) }
     ensures err { OnErr result ((b : ℕ) → S.block_at store.new b ≡ S.block_at store.old b) }
@@ -62,6 +63,7 @@ pub(crate) fn wide<S: Store>(
             alloc,
             format,
             write_cache,
+            read_only,
             &request,
             store.capacity(),
         ),
@@ -101,16 +103,17 @@ fn mode_sense(
     alloc: Global,
     format: SenseFormat,
     write_cache: bool,
+    read_only: bool,
     request: &ModeRequest,
     capacity: u64,
 ) -> Result<Vec<u8>, Failure>
-    ensures answer { Gives (λ bytes. bytes.items) (mode_answer format write_cache request.now capacity) result }
+    ensures answer { Gives (λ bytes. bytes.items) (mode_answer format write_cache read_only request.now capacity) result }
     ensures room { IfOk result (λ bytes. vec_len bytes ≤ request.now.allocation) }
 {
     if is_saved(request.values) {
         return Err(Failure::Refused(Sense::SAVING_PARAMETERS_NOT_SUPPORTED));
     }
-    Ok(mode_data(alloc, format, write_cache, request, capacity)?)
+    Ok(mode_data(alloc, format, write_cache, read_only, request, capacity)?)
 }
 
 /// Returns the task management functions that a unit has, cut to the allocation length (SPC-4 §6.36).

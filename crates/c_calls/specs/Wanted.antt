@@ -34,6 +34,7 @@ identity_of u =
       rotation_rate = u.rotation_rate;
       sense_format = sense_format_of u.sense_format;
       write_cache = not (u.write_cache == 0);
+      read_only = not (u.read_only == 0);
     }
 
 abbrev pub spec_of : WantedUnit → UnitSpec

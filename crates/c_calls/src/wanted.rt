@@ -60,6 +60,8 @@ pub struct WantedUnit {
     pub sense_format: u8,
     /// 0: the unit has no write cache.
     pub write_cache: u8,
+    /// 0: the unit may be written.
+    pub read_only: u8,
 }
 
 /// Returns the profile of this number.
@@ -105,6 +107,7 @@ impl WantedUnit {
             rotation_rate: self.rotation_rate,
             sense_format: sense_format(self.sense_format),
             write_cache: self.write_cache != 0,
+            read_only: self.read_only != 0,
         }
     }
 

@@ -1,5 +1,5 @@
 -- What a command leaves in each block.
-use Rattle.std.specs.Prelude.{ℕ, ◌-◌, ◌==◌, Bool, List, map, Option, Some, None, if◌then◌else◌, unwrap_or, bit_or}
+use Rattle.std.specs.Prelude.{ℕ, ◌-◌, ◌==◌, Bool, true, false, List, map, Option, Some, None, if◌then◌else◌, unwrap_or, bit_or}
 use Rattle.std.specs.List.{zip}
 use Rattle.cdb.specs.declared.commands.Command.{Command}
 use Rattle.cdb.specs.declared.commands.Command.TheVariants.{Write, WriteSame, Unmap, CompareAndWrite, Wide}
@@ -37,6 +37,22 @@ given (CompareAndWrite lba count) bytes b old =
     where_covered (is_within lba count b) (nth_block (to_write count bytes) (b - lba))
 given (Wide command) bytes b old = wide_given command bytes b old
 given _ bytes b old = None
+
+-- whether a command of the wide profile alone may change the medium, SBC-3 §4.12
+abbrev pub changes_wide : WideCommand → Bool
+changes_wide (WriteZeros count lba) = true
+changes_wide (OrWrite count lba) = true
+changes_wide (FormatUnit list) = true
+changes_wide _ = false
+
+-- whether a command may change the medium, whatever it names: a read-only unit refuses it
+abbrev pub changes_medium : Command → Bool
+changes_medium (Write lba count) = true
+changes_medium (WriteSame lba count) = true
+changes_medium (Unmap list_length) = true
+changes_medium (CompareAndWrite lba count) = true
+changes_medium (Wide command) = changes_wide command
+changes_medium _ = false
 
 -- block b once the command ended with this status, over the blocks before
 abbrev pub block_after : Command → List ℕ → ℕ → Blocks → Blocks

@@ -8,7 +8,7 @@ use Rattle.command_model.specs.StandardData.{vendor, product, revision}
 use Rattle.command_model.specs.declared.identity.Identity.{Identity}
 
 -- the disk of which a configuration says nothing: its serial number is made of its address, its medium doesn't rotate, it
--- sends sense data in the fixed format, and it has no volatile write cache
+-- sends sense data in the fixed format, it has no volatile write cache, and it may be written
 abbrev pub plain_identity : Identity
 plain_identity =
     record {
@@ -22,6 +22,7 @@ plain_identity =
       rotation_rate = 1;
       sense_format = Fixed;
       write_cache = false;
+      read_only = false;
     }
 
 -- own: what a unit of this profile tells

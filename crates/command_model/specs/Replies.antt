@@ -1,9 +1,9 @@
 -- What a command is answered, by what the unit is told of itself, the data from the driver and the
 -- blocks before.
-use Rattle.std.specs.Prelude.{ℕ, ◌==◌, Bool, ◌||◌, nat_lt, List, length, take, Option, Some, None, Ok, Err, if◌then◌else◌, unwrap_or}
+use Rattle.std.specs.Prelude.{ℕ, ◌==◌, Bool, ◌&&◌, ◌||◌, nat_lt, List, length, take, Option, Some, None, Ok, Err, if◌then◌else◌, unwrap_or}
 use Rattle.sense.specs.declared.Sense.{Sense}
 use Rattle.sense.specs.declared.SenseFormat.{SenseFormat}
-use Rattle.sense.specs.Conditions.{no_sense, parameter_list_length_error, invalid_opcode, lba_out_of_range, invalid_field_in_cdb, invalid_field_in_parameter_list}
+use Rattle.sense.specs.Conditions.{no_sense, parameter_list_length_error, invalid_opcode, lba_out_of_range, invalid_field_in_cdb, invalid_field_in_parameter_list, write_protected}
 use Rattle.sense.specs.Format.{bytes_in}
 use Rattle.cdb.specs.declared.commands.Command.{Command}
 use Rattle.cdb.specs.declared.commands.Command.TheVariants.{TestUnitReady, RequestSense, Read, Write, Inquiry, ReadCapacity10, ReadCapacity16, SynchronizeCache, WriteSame, Unmap, CompareAndWrite, ReportLuns, Wide, Bad, Unknown}
@@ -13,6 +13,7 @@ use Rattle.command_model.specs.PlainReply.{PlainReply, refusal, replied, sent_in
 use Rattle.command_model.specs.Attention.{met}
 use Rattle.command_model.specs.Capacity.{within, capacity_10, capacity_16}
 use Rattle.command_model.specs.Comparing.{to_compare, first_unequal, compared}
+use Rattle.command_model.specs.Effects.{changes_medium}
 use Rattle.command_model.specs.Facts.{Facts}
 use Rattle.command_model.specs.Identity.{told_by}
 use Rattle.command_model.specs.declared.identity.Identity.{Identity}
@@ -45,7 +46,15 @@ format_told facts = (identity_told facts).sense_format
 abbrev pub cache_told : Facts → Bool
 cache_told facts = (identity_told facts).write_cache
 
--- the answer of a command that no attention stops
+-- WP
+abbrev pub read_only_told : Facts → Bool
+read_only_told facts = (identity_told facts).read_only
+
+-- whether the unit refuses a command since it is read-only, SBC-3 §4.12
+abbrev pub is_protected : Facts → Command → Bool
+is_protected facts command = changes_medium command && read_only_told facts
+
+-- the answer of a command that nothing stops
 abbrev pub answer_of : Facts → Command → List ℕ → Blocks → Answer
 -- SPC-4 §6.47
 answer_of facts TestUnitReady bytes blocks = done
@@ -74,10 +83,14 @@ answer_of facts (CompareAndWrite lba count) bytes blocks =
 answer_of facts (ReportLuns select allocation) bytes blocks =
     Ok (take allocation (lun_list (listed select facts.luns)))
 answer_of facts (Wide command) bytes blocks =
-    wide_answer (format_told facts) (cache_told facts) facts.capacity command bytes blocks
+    wide_answer (format_told facts) (cache_told facts) (read_only_told facts) facts.capacity command bytes blocks
 -- SPC-4 §4.5
 answer_of facts (Bad opcode) bytes blocks = Err invalid_field_in_cdb
 answer_of facts Unknown bytes blocks = Err invalid_opcode
+
+-- the answer of a command that no attention stops: a protected medium is told before the range or the data are looked at
+abbrev pub permitted : Facts → Command → Answer → Answer
+permitted facts command answer = if is_protected facts command then Err write_protected else answer
 
 -- the reply where this attention is reported in place of the answer, SAM-5 §5.14
 abbrev pub reported : Option Sense → PlainReply → PlainReply
@@ -88,4 +101,5 @@ reported (Some attention) reply = refusal attention
 abbrev pub reply_of : Facts → Command → List ℕ → Blocks → PlainReply
 reply_of facts command bytes blocks =
     sent_in (format_told facts)
-    (reported (met command facts.pending) (replied command (answer_of facts command bytes blocks)))
+    (reported (met command facts.pending)
+    (replied command (permitted facts command (answer_of facts command bytes blocks))))

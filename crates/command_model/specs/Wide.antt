@@ -1,5 +1,5 @@
 -- What a command of the wide profile alone is answered in a unit of so many blocks that sends sense data in a format, with a
--- volatile write cache or without, by the data from the driver and the blocks.
+-- volatile write cache or without, and is read-only or not, by the data from the driver and the blocks.
 use Rattle.std.specs.Prelude.{ℕ, Bool, true, false, ◌&&◌, nat_lt, List, [], ◌∷◌, ◌++◌, replicate, take, Ok, Err, if◌then◌else◌}
 use Rattle.sense.specs.Conditions.{lba_out_of_range}
 use Rattle.sense.specs.declared.SenseFormat.{SenseFormat}
@@ -23,26 +23,26 @@ task_management_data extended =
     if extended then (0xdc ∷ 0x03 ∷ 0x00 ∷ 0x0c ∷ []) ++ replicate 12 0x00
     else 0xdc ∷ 0x03 ∷ 0x00 ∷ 0x00 ∷ []
 
-abbrev pub wide_answer : SenseFormat → Bool → ℕ → WideCommand → List ℕ → Blocks → Answer
-wide_answer format write_cache capacity (ModeSense request) bytes blocks = mode_answer format write_cache request capacity
-wide_answer format write_cache capacity (ModeSelect form list_length) bytes blocks = select_answer format write_cache form bytes
-wide_answer format write_cache capacity (ReportTaskManagement extended allocation) bytes blocks =
+abbrev pub wide_answer : SenseFormat → Bool → Bool → ℕ → WideCommand → List ℕ → Blocks → Answer
+wide_answer format write_cache read_only capacity (ModeSense request) bytes blocks = mode_answer format write_cache read_only request capacity
+wide_answer format write_cache read_only capacity (ModeSelect form list_length) bytes blocks = select_answer format write_cache form bytes
+wide_answer format write_cache read_only capacity (ReportTaskManagement extended allocation) bytes blocks =
     Ok (take allocation (task_management_data extended))
-wide_answer format write_cache capacity (GetLbaStatus allocation lba) bytes blocks =
+wide_answer format write_cache read_only capacity (GetLbaStatus allocation lba) bytes blocks =
     if nat_lt lba capacity then Ok (take allocation (lba_status capacity lba blocks)) else Err lba_out_of_range
-wide_answer format write_cache capacity (ReportOperationCodes asked timeouts allocation) bytes blocks =
+wide_answer format write_cache read_only capacity (ReportOperationCodes asked timeouts allocation) bytes blocks =
     codes_answer write_cache asked timeouts allocation
 -- SBC-3 §5.29
-wide_answer format write_cache capacity (Verify sent count lba) bytes blocks =
+wide_answer format write_cache read_only capacity (Verify sent count lba) bytes blocks =
     within capacity lba count (compared (first_unequal (run (to_verify sent bytes) 0 count) (run blocks lba count)))
 -- SBC-3 §5.44
-wide_answer format write_cache capacity (WriteZeros count lba) bytes blocks = within capacity lba count done
+wide_answer format write_cache read_only capacity (WriteZeros count lba) bytes blocks = within capacity lba count done
 -- SBC-3 §5.5
-wide_answer format write_cache capacity (OrWrite count lba) bytes blocks = within capacity lba count done
+wide_answer format write_cache read_only capacity (OrWrite count lba) bytes blocks = within capacity lba count done
 -- SBC-3 §5.3
-wide_answer format write_cache capacity (FormatUnit list) bytes blocks = format_answer list bytes
+wide_answer format write_cache read_only capacity (FormatUnit list) bytes blocks = format_answer list bytes
 -- SBC-3 §5.17, §5.18
-wide_answer format write_cache capacity (ReadDefectData request) bytes blocks = Ok (take request.allocation (defect_data request))
+wide_answer format write_cache read_only capacity (ReadDefectData request) bytes blocks = Ok (take request.allocation (defect_data request))
 
 -- whether it may be refused memory
 abbrev pub wide_wants : ℕ → WideCommand → Bool

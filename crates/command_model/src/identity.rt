@@ -32,6 +32,8 @@ pub struct Identity {
     pub sense_format: SenseFormat,
     /// True if the unit has a volatile write cache: WCE (SBC-3 §6.5).
     pub write_cache: bool,
+    /// True if the medium may not be changed: WP (SBC-3 §6.5.1). Commands that would change it are refused.
+    pub read_only: bool,
 }
 
 impl Identity {
@@ -47,6 +49,7 @@ impl Identity {
         rotation_rate: 1,
         sense_format: SenseFormat::Fixed,
         write_cache: false,
+        read_only: false,
     };
 
     /// Returns true if a unit may have it: its texts are printable, its NAA, exponent and rotation rate the standards'.

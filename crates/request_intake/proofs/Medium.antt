@@ -1,14 +1,12 @@
 -- What a request that asks for the medium comes to a unit with a volatile write cache as.
 use Rattle.std.proofs.Common.{◌≡◌, ℕ, Bool, true, false, List, Option, None, Some, ap, ◌∙◌, refl, if◌then◌else◌}
 use Rattle.std.specs.Prelude.{⊤, slice_get, unwrap_or}
-use Rattle.cdb.specs.Fields.{byte}
 use Rattle.cdb.specs.Medium.{asks_medium}
 use Rattle.cdb.specs.declared.commands.Command.{Command}
-use Rattle.cdb.specs.declared.commands.Command.TheVariants.{Bad}
 use Rattle.cdb.specs.declared.profile.Profile.{Profile}
 use Rattle.scsi_codec.specs.declared.requests.Request.{Request}
 use Rattle.scsi_codec.specs.declared.responses.ResponseCode.TheVariants as code
-use Rattle.request_intake.specs.Decision.{attribute_of, command_for, decide_address, decide_attribute, decide_command, decide_unit, fails, goes_both_ways, overruns}
+use Rattle.request_intake.specs.Decision.{attribute_of, command_for, decide_address, decide_attribute, decide_command, decide_unit, fails, goes_both_ways, overruns, unpromised}
 use Rattle.request_intake.specs.Inventory.{PlainInventory, cache_at, has_target, is_cached, place_of, profile_of}
 use Rattle.request_intake.specs.declared.answer.ChainLengths.{ChainLengths}
 use Rattle.request_intake.specs.declared.attribute.TaskAttribute.{TaskAttribute}
@@ -35,21 +33,21 @@ attribute_gets : (a : Option TaskAttribute) (o : Option ℕ) (n : ChainLengths) 
 attribute_gets None o n bytes q command c place h = tt
 attribute_gets (Some a) o n bytes q command c place h = unit_gets o n bytes q a command c place h
 
--- where both hold, it is bad
-bad_for : (cached : Bool) (profile : Profile) (cdb : List ℕ) → cached ≡ true → asks_medium cdb ≡ true
-    → command_for cached profile cdb ≡ Bad (byte 0 cdb)
-bad_for cached profile cdb is asks = rw (is, asks) refl
+-- where both hold, it isn't promised
+unpromised_for : (cached : Bool) (profile : Profile) (cdb : List ℕ) → cached ≡ true → asks_medium cdb ≡ true
+    → command_for cached profile cdb ≡ unpromised cdb
+unpromised_for cached profile cdb is asks = rw (is, asks) refl
 
 pub address_gets : (units : PlainInventory) (n : ChainLengths) (bytes : List ℕ) (q : Request) (place : ℕ)
     → asks_medium q.cdb ≡ true → slice_get units.caches place ≡ Some true
-    → Gets (Bad (byte 0 q.cdb)) place (if goes_both_ways n then fails code.Failure else decide_address units n bytes q)
+    → Gets (unpromised q.cdb) place (if goes_both_ways n then fails code.Failure else decide_address units n bytes q)
 address_gets units n bytes q place asks there =
     let c = command_for (is_cached units q.address) (profile_of units q.address) q.cdb in
-    let bad = Bad (byte 0 q.cdb) in
+    let bad = unpromised q.cdb in
     let at = place_of units.addresses q.address in
     gets_either (goes_both_ways n) bad place (fails code.Failure) (decide_address units n bytes q) tt
     (gets_either (has_target units.addresses q.address.target) bad place (decide_command at n bytes q c) (fails code.BadTarget)
     (gets_either (overruns n c) bad place (fails code.Overrun) (decide_attribute (attribute_of q.attribute) at n bytes q c) tt
     (attribute_gets (attribute_of q.attribute) at n bytes q c bad place
-    (λ e. bad_for (is_cached units q.address) (profile_of units q.address) q.cdb
+    (λ e. unpromised_for (is_cached units q.address) (profile_of units q.address) q.cdb
     (ap (cache_at units) e ∙ ap (λ o. unwrap_or o false) there) asks))) tt)

@@ -1,5 +1,5 @@
 -- A number that is kept is that of the address at its place.
-use Rattle.std.proofs.Common.{◌≡◌, ℕ, ◌<◌, List, map, length, slice_index_or, sym, ◌∙◌, ap}
+use Rattle.std.proofs.Common.{◌≡◌, ℕ, ◌<◌, List, length, slice_index_or, sym, ◌∙◌, ap}
 use Rattle.std.proofs.lemmas.List.{get_or-map}
 use Rattle.scsi_codec.specs.declared.lun.Address.{Address}
 use Rattle.scsi_codec.specs.Lun.{number_of}

@@ -1,12 +1,13 @@
 -- What is decided of a request when it is fetched: the first case that holds.
 use Rattle.std.specs.Prelude.{ℕ, ◌-◌, ◌==◌, ◌&&◌, ◌||◌, nat_lt, Bool, List, [], drop, Option, Some, None, Result, Ok, Err, if◌then◌else◌}
+use Rattle.std.specs.List.{list_any}
 use Rattle.sense.specs.Conditions.{invalid_message_error}
 use Rattle.cdb.specs.Decoding.{command}
 use Rattle.cdb.specs.Fields.{byte}
-use Rattle.cdb.specs.Medium.{asks_medium}
+use Rattle.cdb.specs.Medium.{asks_medium, opcodes_that_verify}
 use Rattle.cdb.specs.Need.{need_of}
 use Rattle.cdb.specs.declared.commands.Command.{Command}
-use Rattle.cdb.specs.declared.commands.Command.TheVariants.{Bad}
+use Rattle.cdb.specs.declared.commands.Command.TheVariants.{Bad, Unknown}
 use Rattle.cdb.specs.declared.profile.Profile.{Profile}
 use Rattle.scsi_codec.specs.Requests.{reading}
 use Rattle.scsi_codec.specs.declared.requests.Request.{Request}
@@ -38,10 +39,15 @@ goes_both_ways n = nat_lt 51 n.readable && nat_lt 108 n.writable
 abbrev pub overruns : ChainLengths → Command → Bool
 overruns n c = nat_lt (n.readable - 51) (need_of c).out || nat_lt (n.writable - 108) (need_of c).into
 
--- the command of a CDB for a unit of a profile: one that asks for the medium is bad where the unit has a volatile write
--- cache, since what it asks for isn't promised there
+-- a CDB that asks for the medium, where that isn't promised: there is no WRITE AND VERIFY, and another has FUA, a bad field
+abbrev pub unpromised : List ℕ → Command
+unpromised cdb =
+    if list_any (λ known. known == byte 0 cdb) opcodes_that_verify then Unknown else Bad (byte 0 cdb)
+
+-- the command of a CDB for a unit of a profile: one that asks for the medium isn't promised where the unit has a volatile
+-- write cache
 abbrev pub command_for : Bool → Profile → List ℕ → Command
-command_for cached profile cdb = if cached && asks_medium cdb then Bad (byte 0 cdb) else command profile cdb
+command_for cached profile cdb = if cached && asks_medium cdb then unpromised cdb else command profile cdb
 
 -- The answers that need no unit, and the request that goes to one
 

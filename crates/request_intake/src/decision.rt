@@ -2,7 +2,7 @@
 
 ghost use Rattle.std.specs.Prelude.{◌≡◌, ◌+◌, ◌<◌, ◌≤◌, ◌^◌, ℕ, length, min, IfSome};
 ghost use Rattle.cdb.specs.Need.{need_of};
-ghost use Rattle.request_intake.specs.Decision.{command_for, decided, goes_both_ways, decide_command, decide_address, fails};
+ghost use Rattle.request_intake.specs.Decision.{command_for, unpromised, decided, goes_both_ways, decide_command, decide_address, fails};
 ghost use Rattle.request_intake.specs.Inner.Decision.{IfDirect, Suits};
 
 use crate::answer::ChainLengths;
@@ -40,15 +40,27 @@ fn fail(code: ResponseCode) -> Decision
     Decision::Direct(DirectAnswer::failed(code))
 }
 
+/// Returns the command of a CDB that asks for the medium, where that isn't promised. There is no WRITE AND VERIFY. Another
+/// has FUA, which is a bad field.
+fn unpromised(cdb: &[u8; CDB_BYTES]) -> Command
+    ensures meaning { result ≡ unpromised cdb.now }
+    ensures data_out { (need_of result).out ≤ 1048576 }
+{
+    match cdb[0] {
+        0x2e | 0x8e | 0xae => Command::Unknown,
+        opcode => Command::Bad { opcode },
+    }
+}
+
 /// Returns the command of a CDB for a unit of this profile. Where the unit has a volatile write cache, a CDB that asks for
-/// the medium is `Bad`. A unit without one pays a test.
+/// the medium is refused. A unit without one pays a test.
 #[inline(always)]
 fn command_for(is_cached: bool, profile: Profile, cdb: &[u8; CDB_BYTES]) -> Command
     ensures meaning { result ≡ command_for is_cached profile cdb.now }
     ensures data_out { (need_of result).out ≤ 1048576 }
 {
     if is_cached && asks_medium(cdb) {
-        return Command::Bad { opcode: cdb[0] };
+        return unpromised(cdb);
     }
     decode(profile, cdb)
 }

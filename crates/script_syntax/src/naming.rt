@@ -10,8 +10,8 @@ use hex::FromHex;
 use sense::SenseFormat;
 
 /// The words that name a disk, each with a value behind it.
-const WORDS: [&str; 9] = [
-    "vendor", "product", "revision", "serial", "naa", "exponent", "rotation", "sense", "cache",
+const WORDS: [&str; 10] = [
+    "vendor", "product", "revision", "serial", "naa", "exponent", "rotation", "sense", "cache", "access",
 ];
 
 /// Returns true if a word names a disk by the value behind it.
@@ -61,6 +61,19 @@ pub(crate) fn write_cache(word: &str) -> Result<bool, LineFault>
     }
 }
 
+/// Reads whether a disk is read-only.
+pub(crate) fn read_only(word: &str) -> Result<bool, LineFault>
+    ensures kept { IfOk result (λ kept. kept ≡ true → word.now ≡ codes "read-only") }
+    ensures written { IfOk result (λ kept. kept ≡ false → word.now ≡ codes "read-write") }
+    ensures fault { IfErr result (λ fault. fault ≡ LineFault.BadValue) }
+{
+    match word {
+        "read-write" => Ok(false),
+        "read-only" => Ok(true),
+        _ => Err(LineFault::BadValue),
+    }
+}
+
 /// Returns what a disk says of itself once a word with its value is added to it. `BadValue` where no name has that word,
 /// or the value isn't one of it. It isn't known here which texts and numbers the device takes.
 pub(crate) fn named(identity: Identity, word: &str, value: &str) -> Result<Identity, LineFault>
@@ -85,6 +98,9 @@ pub(crate) fn named(identity: Identity, word: &str, value: &str) -> Result<Ident
     ensures cache { word.now ≡ codes "cache" → IfOk result (λ i. i ≡ record identity { write_cache = i.write_cache }) }
     ensures volatile { word.now ≡ codes "cache" → IfOk result (λ i. i.write_cache ≡ true → value.now ≡ codes "volatile") }
     ensures uncached { word.now ≡ codes "cache" → IfOk result (λ i. i.write_cache ≡ false → value.now ≡ codes "none") }
+    ensures access { word.now ≡ codes "access" → IfOk result (λ i. i ≡ record identity { read_only = i.read_only }) }
+    ensures kept { word.now ≡ codes "access" → IfOk result (λ i. i.read_only ≡ true → value.now ≡ codes "read-only") }
+    ensures written { word.now ≡ codes "access" → IfOk result (λ i. i.read_only ≡ false → value.now ≡ codes "read-write") }
     ensures fault { IfErr result (λ fault. fault ≡ LineFault.BadValue) }
 {
     match word {
@@ -146,6 +162,13 @@ pub(crate) fn named(identity: Identity, word: &str, value: &str) -> Result<Ident
             let write_cache = write_cache(value)?;
             Ok(Identity {
                 write_cache,
+                ..identity
+            })
+        }
+        "access" => {
+            let read_only = read_only(value)?;
+            Ok(Identity {
+                read_only,
                 ..identity
             })
         }

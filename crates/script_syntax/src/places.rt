@@ -6,7 +6,7 @@ use crate::command::notify;
 use crate::fault::Stop;
 use crate::guest_line::{attribute, command_block};
 use crate::header::{Features, LARGEST_SIZE, profile};
-use crate::naming::{is_naming, named, sense_format, write_cache};
+use crate::naming::{is_naming, named, read_only, sense_format, write_cache};
 use crate::ring_place::ring_place;
 use crate::values::{Bytes, LAST_LUN, capacity, name, number, ordinal, unit_pair};
 use command_model::Identity;
@@ -73,6 +73,8 @@ enum Place {
     SenseFormat,
     /// `volatile` or `none`.
     WriteCache,
+    /// `read-only` or `read-write`.
+    Access,
     /// `live`, if anything.
     Live,
     /// `before`.
@@ -124,6 +126,7 @@ impl Place {
             Place::Naa => named(Identity::PLAIN, "naa", word).is_ok(),
             Place::SenseFormat => sense_format(word).is_ok(),
             Place::WriteCache => write_cache(word).is_ok(),
+            Place::Access => read_only(word).is_ok(),
             Place::Live => word == "live",
             Place::Before => word == "before",
             Place::OutOrIn => word == "out" || word == "in",
@@ -202,6 +205,7 @@ fn naming_place(before: &str, index: usize) -> Place {
         "exponent" => Place::Number8,
         "sense" => Place::SenseFormat,
         "cache" => Place::WriteCache,
+        "access" => Place::Access,
         _ => Place::Number16,
     }
 }

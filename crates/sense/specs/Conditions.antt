@@ -50,6 +50,11 @@ invalid_message_error = condition 0x5 0x49 0x00
 abbrev pub unit_attention : ℕ → ℕ → Sense
 unit_attention asc ascq = condition 0x6 asc ascq
 
+-- sense key 7h, DATA PROTECT: WRITE PROTECTED, where a command would change the medium of a unit that is read-only (SBC-3
+-- §4.12)
+abbrev pub write_protected : Sense
+write_protected = condition 0x7 0x27 0x00
+
 -- sense key eh, MISCOMPARE: MISCOMPARE DURING VERIFY OPERATION, with the offset in bytes of the
 -- first unequal byte as its information
 abbrev pub miscompare : ℕ → Sense

@@ -1,7 +1,7 @@
 //! The meaning of the constants, and of the bytes.
 
 ghost use Rattle.std.specs.Prelude.{◌≡◌, ◌<◌, ◌^◌, ℕ, Some, IfSome};
-ghost use Rattle.sense.specs.Conditions.{no_sense, parameter_list_length_error, invalid_opcode, lba_out_of_range, invalid_field_in_cdb, logical_unit_not_supported, invalid_field_in_parameter_list, saving_parameters_not_supported, invalid_message_error};
+ghost use Rattle.sense.specs.Conditions.{no_sense, parameter_list_length_error, invalid_opcode, lba_out_of_range, invalid_field_in_cdb, logical_unit_not_supported, invalid_field_in_parameter_list, saving_parameters_not_supported, invalid_message_error, write_protected};
 ghost use Rattle.sense.specs.Format.{bytes_in, in_format};
 ghost use Rattle.sense.specs.Reading.{read_sense};
 ghost use Rattle.sense.specs.declared.Sense.{Sense as ASense};
@@ -20,6 +20,7 @@ pub fn constants()
     ensures list { Sense.INVALID_FIELD_IN_PARAMETER_LIST ≡ invalid_field_in_parameter_list }
     ensures saving { Sense.SAVING_PARAMETERS_NOT_SUPPORTED ≡ saving_parameters_not_supported }
     ensures message { Sense.INVALID_MESSAGE_ERROR ≡ invalid_message_error }
+    ensures protected { Sense.WRITE_PROTECTED ≡ write_protected }
 {}
 
 /// Both formats say the same: the bytes of either read back as the sense data that they were made of.

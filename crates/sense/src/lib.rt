@@ -42,6 +42,9 @@ pub const ILLEGAL_REQUEST: u8 = 0x05;
 /// The sense key UNIT ATTENTION: the state of the logical unit changed.
 pub const UNIT_ATTENTION: u8 = 0x06;
 
+/// The sense key DATA PROTECT: the medium may not be changed.
+pub const DATA_PROTECT: u8 = 0x07;
+
 /// The sense key MISCOMPARE: data didn't match the blocks.
 pub const MISCOMPARE: u8 = 0x0e;
 
@@ -159,6 +162,15 @@ impl Sense {
     pub const INVALID_MESSAGE_ERROR: Sense = Sense {
         key: ILLEGAL_REQUEST,
         asc: 0x49,
+        ascq: 0x00,
+        format: SenseFormat::Fixed,
+        information: None,
+    };
+
+    /// WRITE PROTECTED: the command would change the medium of a unit that is read-only.
+    pub const WRITE_PROTECTED: Sense = Sense {
+        key: DATA_PROTECT,
+        asc: 0x27,
         ascq: 0x00,
         format: SenseFormat::Fixed,
         information: None,

@@ -1,12 +1,12 @@
 -- A request that is served where no task is alive: what its unit is then.
-use Rattle.std.proofs.Common.{◌≡◌, ℕ, ◌+◌, ◌-◌, ◌≤◌, Bool, true, false, not, ◌||◌, cond, List, [], ◌∷◌, map, length, Option, Some, None, is_some, IsTrue, Result, Ok, Err, refl, sym, ◌∙◌, ap, subst, arith}
+use Rattle.std.proofs.Common.{◌≡◌, ℕ, ◌+◌, ◌-◌, ◌≤◌, Bool, true, false, not, ◌||◌, cond, List, [], ◌∷◌, map, length, Option, Some, None, is_some, IsTrue, IsFalse, Result, Ok, Err, refl, sym, ◌∙◌, ap, subst, arith}
 use Rattle.ring_core.specs.declared.log.Ticket.{Ticket}
 use Rattle.block_store.specs.Blocks.{Blocks}
 use Rattle.foundation.specs.declared.NoMemory.{NoMemory}
 use Rattle.block_store.specs.Storage.{Ledger, IsLostIn}
 use Rattle.unit_attention.specs.declared.code.Code.{Code}
 use Rattle.block_commands.specs.declared.facts.UnitFacts.{UnitFacts}
-use Rattle.block_commands.specs.Inner.Told.{facts_of}
+use Rattle.block_commands.specs.Inner.Told.{facts_of, protects}
 use Rattle.block_commands.specs.Inner.Ready.{is_read, IsReady as CommandReady}
 use Rattle.cdb.specs.declared.commands.Command.{Command}
 use Rattle.cdb.specs.Need.{need_of}
@@ -93,10 +93,12 @@ ran_in_place facts facts' capacity command out bytes r blocks pending is reply s
 
 -- what a command reads is in memory where it is ready, and meets no attention
 pub held_for : (held room : ℕ → Bool) (size : ℕ) (command : Command) (out : List ℕ) (facts facts' : UnitFacts) → facts' ≡ facts
-    → (met command facts.pending ≡ None → CommandReady held room size command out) → facts'.pending ≡ None
+    → (met command facts.pending ≡ None → IsFalse (protects facts command) → CommandReady held room size command out) → facts'.pending ≡ None
+    → IsFalse (protects facts' command)
     → (b : ℕ) → IsTrue (is_read size command b) → IsTrue (held b)
-held_for held room size command out facts facts' is ready calm =
-    (ready (none_met command facts.pending (sym (ap (λ (f : UnitFacts). f.pending) is) ∙ calm))).read
+held_for held room size command out facts facts' is ready calm free =
+    (ready (none_met command facts.pending (sym (ap (λ (f : UnitFacts). f.pending) is) ∙ calm))
+    (subst (λ (f : UnitFacts). IsFalse (protects f command)) is free)).read
 
 by_none : (a : TaskAttribute) → blocks a [] [] ≡ false
 by_none Simple = refl

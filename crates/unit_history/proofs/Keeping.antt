@@ -16,7 +16,7 @@ use Rattle.command_model.specs.Effects.{block_after}
 use Rattle.command_model.specs.Facts.{Facts}
 use Rattle.block_commands.specs.Inner.Told.{facts_of}
 use Rattle.block_commands.specs.declared.facts.UnitFacts.{UnitFacts}
-use Rattle.command_model.specs.Replies.{format_told, reply_of, reported}
+use Rattle.command_model.specs.Replies.{format_told, permitted, reply_of, reported}
 use Rattle.block_commands.proofs.Ranges.{answer_of-agree}
 use Rattle.unit_model.specs.declared.rule.Rule.{Rule}
 use Rattle.unit_model.specs.declared.rule.Rule.TheVariants as rules
@@ -130,7 +130,8 @@ module _ {o : Opening} {past : List Step} {block_at : Blocks} {pending : List Co
   -- the reply over the blocks that are stored is that of the history
   pub replies_after : (e : Entry) → reply_of (facts_after o past) e.command e.data_out block_at ≡ reply_after o e past
   replies_after e =
-      ap (λ a. sent_in (format_told (facts_after o past)) (reported (met e.command (facts_after o past).pending) (replied e.command a)))
+      ap (λ a. sent_in (format_told (facts_after o past)) (reported (met e.command (facts_after o past).pending)
+      (replied e.command (permitted (facts_after o past) e.command a))))
       (answer_of-agree (facts_after o past) e.command e.data_out block_at (blocks_of o past) (λ b below. k.stored b))
 
   -- what a command is told is what the history says of the unit

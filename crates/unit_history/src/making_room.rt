@@ -1,12 +1,13 @@
 //! Pages that go from memory, so that those of a command find room there.
 
-ghost use Rattle.std.specs.Prelude.{◌≡◌, ◌≢◌, ◌≤◌, ℕ, true, false, None, IsTrue, length};
+ghost use Rattle.std.specs.Prelude.{◌≡◌, ◌≢◌, ◌≤◌, ℕ, true, false, None, IsTrue, IsFalse, length};
 ghost use Rattle.command_model.specs.Capacity.{is_in_range};
 ghost use Rattle.cdb.specs.Need.{need_of};
 ghost use Rattle.command_model.specs.Attention.{met};
 ghost use Rattle.command_model.specs.Waiting.{needs};
 ghost use Rattle.backed_store.specs.Disks.{size_of, blocks_of, holds, has_room, is_coming, storage_of, is_backed};
 ghost use Rattle.block_store.specs.declared.readiness.Readiness.TheVariants.{Ready, Full};
+ghost use Rattle.block_commands.specs.Inner.Told.{protects};
 ghost use Rattle.block_commands.specs.Inner.Ready.{IsReady};
 ghost use Rattle.command_model.specs.Data.{data_of};
 
@@ -148,8 +149,10 @@ fn make_ready_in_turns(
 ) -> Readiness
     requires data { (need_of command.now).out ≤ length bytes.now }
     ensures ready { result ≡ Ready → met command.now facts.now.pending ≡ None →
+        IsFalse (protects facts.now command.now) →
         IsReady (holds store.new) (has_room store.new) (size_of store.new) command.now (data_of command.now bytes.now) }
     ensures asked { result ≢ Full → met command.now facts.now.pending ≡ None →
+        IsFalse (protects facts.now command.now) →
         IsReady (is_coming store.new) (has_room store.new) (size_of store.new) command.now (data_of command.now bytes.now) }
     ensures idle { needs (size_of store.old) command.now ≡ false → result ≡ Ready }
     ensures blocks { (b : ℕ) → blocks_of store.new b ≡ blocks_of store.old b }
@@ -189,8 +192,10 @@ pub(crate) fn make_ready_for(
 ) -> Readiness
     requires data { (need_of command.now).out ≤ length bytes.now }
     ensures ready { result ≡ Ready → met command.now facts.now.pending ≡ None →
+        IsFalse (protects facts.now command.now) →
         IsReady (holds store.new) (has_room store.new) (size_of store.new) command.now (data_of command.now bytes.now) }
     ensures asked { result ≢ Full → met command.now facts.now.pending ≡ None →
+        IsFalse (protects facts.now command.now) →
         IsReady (is_coming store.new) (has_room store.new) (size_of store.new) command.now (data_of command.now bytes.now) }
     ensures idle { needs (size_of store.old) command.now ≡ false → result ≡ Ready }
     ensures blocks { (b : ℕ) → blocks_of store.new b ≡ blocks_of store.old b }

@@ -1,6 +1,6 @@
 //! Running a command whole.
 
-ghost use Rattle.std.specs.Prelude.{◌≡◌, ◌≢◌, ◌≤◌, ◌<◌, IfSome, if◌then◌else◌, length, true, IfOk, IfErr, OnErr, false, None, IsOk, IsTrue};
+ghost use Rattle.std.specs.Prelude.{◌≡◌, ◌≢◌, ◌≤◌, ◌<◌, IfSome, if◌then◌else◌, length, true, IfOk, IfErr, OnErr, false, None, IsOk, IsTrue, IsFalse};
 ghost use Rattle.std.specs.Option.{option_map};
 ghost use Rattle.cdb.specs.Need.{need_of};
 ghost use Rattle.command_model.specs.PlainReply.{plain_of};
@@ -8,7 +8,7 @@ ghost use Rattle.block_store.specs.Drafts.{prepared_draft};
 ghost use Rattle.backed_store.specs.Disks.{is_backed};
 ghost use Rattle.block_store.specs.declared.readiness.Readiness.TheVariants.{Ready, Full};
 ghost use Rattle.block_commands.specs.Prepared.{IsOf};
-ghost use Rattle.block_commands.specs.Inner.Told.{facts_of};
+ghost use Rattle.block_commands.specs.Inner.Told.{facts_of, protects};
 ghost use Rattle.block_commands.specs.Inner.Ready.{IsReady};
 ghost use Rattle.command_model.specs.Waiting.{needs};
 ghost use Rattle.command_model.specs.Attention.{met};
@@ -128,9 +128,11 @@ pub(crate) fn ready_for(
     requires data { length bytes.now ≡ (need_of command.now).out }
     ensures facts { facts.new ≡ told facts.old attentions.now }
     ensures ready { result ≡ Ready → met command.now (told facts.old attentions.now).pending ≡ None →
+        IsFalse (protects (told facts.old attentions.now) command.now) →
         IsReady (⟦<Disk as Store>⟧.is_held store.new) (⟦<Disk as Store>⟧.has_room store.new) (⟦<Disk as Store>⟧.size store.new)
         command.now bytes.now }
     ensures asked { result ≢ Full → met command.now (told facts.old attentions.now).pending ≡ None →
+        IsFalse (protects (told facts.old attentions.now) command.now) →
         IsReady (⟦<Disk as Store>⟧.is_coming store.new) (⟦<Disk as Store>⟧.has_room store.new) (⟦<Disk as Store>⟧.size store.new)
         command.now bytes.now }
     ensures idle { needs (⟦<Disk as Store>⟧.size store.old) command.now ≡ false → result ≡ Ready }
@@ -159,6 +161,7 @@ pub fn is_ready(
     requires data { length bytes.now ≡ (need_of command.now).out }
     ensures facts { facts.new ≡ told facts.old attentions.now }
     ensures ready { IsTrue result → met command.now (told facts.old attentions.now).pending ≡ None →
+        IsFalse (protects (told facts.old attentions.now) command.now) →
         IsReady (⟦<Disk as Store>⟧.is_held store.new) (⟦<Disk as Store>⟧.has_room store.new) (⟦<Disk as Store>⟧.size store.new)
         command.now bytes.now }
     ensures whole { is_backed store.old ≡ false → IsTrue result }
@@ -187,6 +190,7 @@ pub fn run(
 ) -> Result<Reply, NoMemory>
     requires data { length bytes.now ≡ (need_of command.now).out }
     requires ready { met command.now facts.now.pending ≡ None →
+        IsFalse (protects facts.now command.now) →
         IsReady (⟦<Disk as Store>⟧.is_held store.old) (⟦<Disk as Store>⟧.has_room store.old) (⟦<Disk as Store>⟧.size store.old)
         command.now bytes.now }
     ensures performed { Performs false (facts_of facts.now (⟦<Disk as Store>⟧.size store.old))
@@ -220,6 +224,7 @@ fn run_prepared(
     requires data { length bytes.now ≡ (need_of command.now).out }
     requires own { IfSome prepared (λ pages. IsOf command.now bytes.now (prepared_draft pages)) }
     requires ready { met command.now facts.now.pending ≡ None →
+        IsFalse (protects facts.now command.now) →
         IsReady (⟦<Disk as Store>⟧.is_held store.old) (⟦<Disk as Store>⟧.has_room store.old) (⟦<Disk as Store>⟧.size store.old)
         command.now bytes.now }
     ensures performed { Performs false (facts_of facts.now (⟦<Disk as Store>⟧.size store.old))
@@ -254,6 +259,7 @@ pub fn perform(
     requires data { length bytes.now ≡ (need_of command.now).out }
     requires own { IfSome prepared (λ pages. IsOf command.now bytes.now (prepared_draft pages)) }
     requires ready { met command.now facts.now.pending ≡ None →
+        IsFalse (protects facts.now command.now) →
         IsReady (⟦<Disk as Store>⟧.is_held store.old) (⟦<Disk as Store>⟧.has_room store.old) (⟦<Disk as Store>⟧.size store.old)
         command.now bytes.now }
     ensures performed { Performs keeps_replies (facts_of facts.now (⟦<Disk as Store>⟧.size store.old))
@@ -306,6 +312,7 @@ fn perform_in_memory(
     ensures backed { OnErr result (is_backed store.old ≡ true) }
     ensures needed { OnErr result (needs (⟦<Disk as Store>⟧.size store.old) command.now ≡ true) }
     ensures asked { IfErr result (λ why. why ≢ Full → met command.now (told facts.old attentions.old).pending ≡ None →
+        IsFalse (protects (told facts.old attentions.old) command.now) →
         IsReady (⟦<Disk as Store>⟧.is_coming store.new) (⟦<Disk as Store>⟧.has_room store.new) (⟦<Disk as Store>⟧.size store.new)
         command.now bytes.now) }
     ensures whole { is_backed store.old ≡ false → IsOk result }
@@ -361,6 +368,7 @@ pub(crate) fn perform_if_ready(
     ensures backed { OnErr result (is_backed store.old ≡ true) }
     ensures needed { OnErr result (needs (⟦<Disk as Store>⟧.size store.old) command.now ≡ true) }
     ensures asked { IfErr result (λ why. why ≢ Full → met command.now (told facts.old attentions.old).pending ≡ None →
+        IsFalse (protects (told facts.old attentions.old) command.now) →
         IsReady (⟦<Disk as Store>⟧.is_coming store.new) (⟦<Disk as Store>⟧.has_room store.new) (⟦<Disk as Store>⟧.size store.new)
         command.now bytes.now) }
     ensures whole { is_backed store.old ≡ false → IsOk result }
@@ -385,7 +393,15 @@ pub(crate) fn perform_if_ready(
     );
     match ran {
         Ok(performed) => Ok(performed),
-        Err(why) => match fail(alloc, facts, attentions, store, command, bytes, keeps_replies) {
+        Err(why) => match fail(
+            alloc,
+            facts,
+            attentions,
+            store,
+            command,
+            bytes,
+            keeps_replies,
+        ) {
             Some(failed) => {
                 forget(oldest, ticket);
                 Ok(Some(failed))

@@ -1,10 +1,10 @@
 //! A request that is served to its end in one call, where no other task is alive.
 
-ghost use Rattle.std.specs.Prelude.{◌≡◌, ℕ, IsTrue, true, false, None};
+ghost use Rattle.std.specs.Prelude.{◌≡◌, ℕ, IsTrue, IsFalse, true, false, None};
 ghost use Rattle.std.specs.Bool.{OnFalse};
 ghost use Rattle.backed_store.specs.Disks.{is_backed, latest_of, owes};
 ghost use Rattle.block_commands.specs.Inner.Ready.{IsReady};
-ghost use Rattle.block_commands.specs.Inner.Told.{facts_of};
+ghost use Rattle.block_commands.specs.Inner.Told.{facts_of, protects};
 ghost use Rattle.command_model.specs.Attention.{met};
 ghost use Rattle.command_model.specs.Waiting.{is_flush};
 ghost use Rattle.unit_history.specs.Endings.{ending_of_run, plain_run};
@@ -57,6 +57,7 @@ fn run_and_answer<A: Answering>(
 ) -> Result<RecordedReply, NoMemory>
     requires may { A.may_answer answering.old arrival.now }
     requires ready { met arrival.now.entry.command (told facts.old attentions.old).pending ≡ None →
+        IsFalse (protects (told facts.old attentions.old) arrival.now.entry.command) →
         IsReady (⟦<Disk as Store>⟧.is_held store.old) (⟦<Disk as Store>⟧.has_room store.old) (⟦<Disk as Store>⟧.size store.old)
         arrival.now.entry.command arrival.now.entry.data_out }
     ensures performed { Performs false (facts_of (told facts.old attentions.old) (⟦<Disk as Store>⟧.size store.old))
@@ -109,6 +110,7 @@ fn may_run(
 ) -> bool
     ensures facts { facts.new ≡ record facts.old { pending = facts.new.pending } }
     ensures ready { IsTrue result → met arrival.now.entry.command (told facts.old attentions.now).pending ≡ None →
+        IsFalse (protects (told facts.old attentions.now) arrival.now.entry.command) →
         IsReady (⟦<Disk as Store>⟧.is_held store.new) (⟦<Disk as Store>⟧.has_room store.new) (⟦<Disk as Store>⟧.size store.new)
         arrival.now.entry.command arrival.now.entry.data_out }
     ensures whole { is_backed store.old ≡ false → IsTrue result }
@@ -135,6 +137,7 @@ fn is_arrival_ready(
 ) -> bool
     ensures facts { facts.new ≡ told facts.old attentions.now }
     ensures ready { IsTrue result → met arrival.now.entry.command (told facts.old attentions.now).pending ≡ None →
+        IsFalse (protects (told facts.old attentions.now) arrival.now.entry.command) →
         IsReady (⟦<Disk as Store>⟧.is_held store.new) (⟦<Disk as Store>⟧.has_room store.new) (⟦<Disk as Store>⟧.size store.new)
         arrival.now.entry.command arrival.now.entry.data_out }
     ensures whole { is_backed store.old ≡ false → IsTrue result }

@@ -171,6 +171,9 @@ struct vscsi_identity {
  *
  * `identities` is optional: what each unit says of itself. A narrow unit has zeros there. Since 1.6.
  *
+ * `read_only` is optional: for each unit whether its guest may only read it. Such a unit tells WP, and answers each command that
+ * may change its blocks with DATA PROTECT, WRITE PROTECTED (07/27/00). A narrow unit has false there. Since 1.8.
+ *
  * Firmware that sets up queue 2 alone leaves queues 0 and 1 without areas. Give the device some pages more than the guest
  * has, and let those queues lie there: an area of zeros is an empty ring, and nothing ever changes it. */
 struct vscsi_config {
@@ -183,6 +186,7 @@ struct vscsi_config {
   uint32_t pages;
   const uint8_t *profiles;
   const struct vscsi_identity *identities;
+  const bool *read_only;
 };
 
 /* Why a configuration isn't taken: the first of these, in this order, that is so. But queues are looked at one after the
@@ -202,7 +206,8 @@ enum vscsi_cause {
   VSCSI_CAUSE_UNIT_DISK = 13,   /* a unit that is given no disk, or one of another capacity; a backed one where the unit is
                                    narrow, or the device is none on live memory */
   VSCSI_CAUSE_UNIT_PROFILE = 14, /* a unit whose profile isn't among `enum vscsi_profile`. Since 1.5 */
-  VSCSI_CAUSE_UNIT_IDENTITY = 15, /* a unit that says of itself what none may, or a narrow one that says anything. Since 1.6 */
+  VSCSI_CAUSE_UNIT_IDENTITY = 15, /* a unit that says of itself what none may, or a narrow one that says anything or
+                                     is read-only. Since 1.6 */
   VSCSI_CAUSE_UNIT_NAA = 16       /* a unit whose NAA designator another has. Since 1.6 */
 };
 
@@ -305,7 +310,8 @@ struct vscsi_ring {
  * is left, and looks once more behind that (VIRTIO 1.2, 2.7.10 and 2.8.10). A host that waits for kicks then calls nothing else
  * before it sleeps. Where it is false the device writes nothing of its own: the host calls vscsi_live_ask, or polls. Since 1.4.
  *
- * A configuration that ends before `asks` has false there, and one that ends before `profiles` or `identities` none. */
+ * A configuration that ends before `asks` has false there, and one that ends before `profiles`, `identities` or
+ * `read_only` none. */
 struct vscsi_live_config {
   size_t size;
   uint64_t features;
@@ -316,6 +322,7 @@ struct vscsi_live_config {
   bool asks;
   const uint8_t *profiles;
   const struct vscsi_identity *identities;
+  const bool *read_only;
 };
 
 /* Makes the device of a configuration, with zeros for guest memory, of which nothing has happened yet. A guest that had

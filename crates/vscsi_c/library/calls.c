@@ -28,6 +28,7 @@ struct wanted_unit {
   uint8_t naa[8];
   uint8_t sense_format;
   uint8_t write_cache;
+  uint8_t read_only;
 };
 
 /* What the device exports (`src/exports.rt`). */
@@ -143,14 +144,27 @@ static bool name(struct wanted_unit *unit, const struct vscsi_identity *said) {
   return true;
 }
 
-/* Reads the units that are wanted, with their profiles and what they say of themselves, where there is any. Returns false where the
- * device doesn't know the profile of one, or C alone can tell that one says what it may not, and tells of the first of these. */
-static bool read_units(struct wanted_units *wanted, const struct vscsi_unit *units, size_t count, const uint8_t *profiles,
-                       const struct vscsi_identity *identities, struct vscsi_fault *fault) {
+/* What a configuration may say of each unit beside its place, as far as its header knows: null is nothing of any. */
+struct said {
+  const uint8_t *profiles;
+  const struct vscsi_identity *identities;
+  const bool *read_only;
+};
+
+/* Takes whether a unit is read-only. Returns false where a narrow one is. */
+static bool protect(struct wanted_unit *unit, bool read_only) {
+  unit->read_only = read_only;
+  return !read_only || unit->profile != VSCSI_PROFILE_NARROW;
+}
+
+/* Reads the units that are wanted, and what is said of them. Returns false where the device doesn't know the profile of one, or C alone
+ * can tell that one says what it may not, and tells of the first of these. */
+static bool read_units(struct wanted_units *wanted, const struct vscsi_unit *units, size_t count, struct said said,
+                       struct vscsi_fault *fault) {
   wanted->count = count < UNITS_READ ? count : UNITS_READ;
   for (size_t place = 0; place < wanted->count; place++) {
     const struct vscsi_unit *unit = &units[place];
-    uint8_t profile = profiles ? profiles[place] : VSCSI_PROFILE_NARROW;
+    uint8_t profile = said.profiles ? said.profiles[place] : VSCSI_PROFILE_NARROW;
     if (profile > VSCSI_PROFILE_WIDE) {
       *fault = (struct vscsi_fault){.place = place, .cause = VSCSI_CAUSE_UNIT_PROFILE, .detail = 0};
       return false;
@@ -163,8 +177,10 @@ static bool read_units(struct wanted_units *wanted, const struct vscsi_unit *uni
     item->calm = unit->calm;
     item->profile = profile;
   }
-  for (size_t place = 0; identities && place < wanted->count; place++) {
-    if (name(&wanted->items[place], &identities[place])) continue;
+  for (size_t place = 0; place < wanted->count; place++) {
+    struct wanted_unit *item = &wanted->items[place];
+    bool is_named = !said.identities || name(item, &said.identities[place]);
+    if (is_named && (!said.read_only || protect(item, said.read_only[place]))) continue;
     *fault = (struct vscsi_fault){.place = place, .cause = VSCSI_CAUSE_UNIT_IDENTITY, .detail = 0};
     return false;
   }
@@ -186,7 +202,9 @@ static bool are_in_memory(struct vscsi_disk *disks, size_t count, struct vscsi_f
   return true;
 }
 
-/* The sizes of configurations in older headers: without `identities`, without `profiles`, and without `asks`. */
+/* The sizes of configurations in older headers: without `read_only`, `identities`, `profiles`, and without `asks`. */
+static const size_t size_without_read_only = offsetof(struct vscsi_config, read_only);
+static const size_t live_size_without_read_only = offsetof(struct vscsi_live_config, read_only);
 static const size_t size_without_identities = offsetof(struct vscsi_config, identities);
 static const size_t live_size_without_identities = offsetof(struct vscsi_live_config, identities);
 static const size_t size_without_profiles = offsetof(struct vscsi_config, profiles);
@@ -200,26 +218,27 @@ _Static_assert(offsetof(struct vscsi_config, profiles) >= offsetof(struct vscsi_
 _Static_assert(offsetof(struct vscsi_live_config, profiles) >= offsetof(struct vscsi_live_config, asks) + sizeof(void *),
                "no field in older padding");
 
-static const uint8_t *profiles_of(const struct vscsi_config *config) {
-  return config->size == size_without_profiles ? NULL : config->profiles;
+static struct said said_of(const struct vscsi_config *config) {
+  struct said said = {NULL, NULL, NULL};
+  if (config->size >= size_without_identities) said.profiles = config->profiles;
+  if (config->size >= size_without_read_only) said.identities = config->identities;
+  if (config->size == sizeof *config) said.read_only = config->read_only;
+  return said;
 }
 
-static const uint8_t *live_profiles_of(const struct vscsi_live_config *config) {
-  return config->size >= live_size_without_identities ? config->profiles : NULL;
-}
-
-static const struct vscsi_identity *identities_of(const struct vscsi_config *config) {
-  return config->size == sizeof *config ? config->identities : NULL;
-}
-
-static const struct vscsi_identity *live_identities_of(const struct vscsi_live_config *config) {
-  return config->size == sizeof *config ? config->identities : NULL;
+static struct said live_said_of(const struct vscsi_live_config *config) {
+  struct said said = {NULL, NULL, NULL};
+  if (config->size >= live_size_without_identities) said.profiles = config->profiles;
+  if (config->size >= live_size_without_read_only) said.identities = config->identities;
+  if (config->size == sizeof *config) said.read_only = config->read_only;
+  return said;
 }
 
 /* Returns why a configuration can't be handed on, or VSCSI_DONE. */
 static enum vscsi_answer unreadable(const struct vscsi_config *config) {
   if (!config) return VSCSI_NULL;
-  if (config->size != sizeof *config && config->size != size_without_identities && config->size != size_without_profiles)
+  if (config->size != sizeof *config && config->size != size_without_read_only && config->size != size_without_identities &&
+      config->size != size_without_profiles)
     return VSCSI_BAD_LENGTH;
   if ((!config->queues && config->queue_count) || (!config->units && config->unit_count)) return VSCSI_NULL;
   if (is_long(config->queue_count, sizeof no_queue) || is_long(config->unit_count, sizeof *config->units)) return VSCSI_BAD_LENGTH;
@@ -233,7 +252,7 @@ enum vscsi_answer vscsi_create(struct vscsi *device, const struct vscsi_config *
   if (answer != VSCSI_DONE) return answer;
   if (device->live) return VSCSI_IN_USE;
   if (!fault) fault = &unread;
-  if (!read_units(&units, config->units, config->unit_count, profiles_of(config), identities_of(config), fault)) return VSCSI_BAD_CONFIG;
+  if (!read_units(&units, config->units, config->unit_count, said_of(config), fault)) return VSCSI_BAD_CONFIG;
   return (enum vscsi_answer)vscsi_raw_create(device, config->pages, config->features, config->queues ? config->queues : &no_queue,
                                              config->queue_count, units.items, units.count, fault);
 }
@@ -249,7 +268,7 @@ enum vscsi_answer vscsi_create_with(struct vscsi *device, const struct vscsi_con
   if (is_long(config->unit_count, sizeof nothing)) return VSCSI_BAD_LENGTH;
   if (device->live) return VSCSI_IN_USE;
   if (!fault) fault = &unread;
-  if (!read_units(&units, config->units, config->unit_count, profiles_of(config), identities_of(config), fault)) return VSCSI_BAD_CONFIG;
+  if (!read_units(&units, config->units, config->unit_count, said_of(config), fault)) return VSCSI_BAD_CONFIG;
   if (disks && !are_in_memory(disks, units.count, fault)) return VSCSI_BAD_CONFIG;
   return (enum vscsi_answer)vscsi_raw_create_with(device, config->pages, config->features, config->queues ? config->queues : &no_queue,
                                                   config->queue_count, units.items, units.count, disks ? disks : &nothing, units.count,
@@ -360,8 +379,8 @@ static const struct vscsi_region no_region = {0, 0, NULL};
 /* Returns why a configuration of live memory can't be handed on, or VSCSI_DONE. */
 static enum vscsi_answer live_unreadable(const struct vscsi_live_config *config) {
   if (!config) return VSCSI_NULL;
-  if (config->size != sizeof *config && config->size != live_size_without_identities && config->size != live_size_without_profiles &&
-      config->size != live_size_without_asks)
+  if (config->size != sizeof *config && config->size != live_size_without_read_only && config->size != live_size_without_identities &&
+      config->size != live_size_without_profiles && config->size != live_size_without_asks)
     return VSCSI_BAD_LENGTH;
   if ((!config->rings && config->ring_count) || (!config->units && config->unit_count)) return VSCSI_NULL;
   if (is_long(config->ring_count, sizeof no_ring) || is_long(config->unit_count, sizeof(struct vscsi_disk))) return VSCSI_BAD_LENGTH;
@@ -388,7 +407,7 @@ enum vscsi_answer vscsi_live_create(struct vscsi_live *device, const struct vscs
   if (answer != VSCSI_DONE) return answer;
   if (vscsi_raw_live_is_there(device)) return VSCSI_IN_USE;
   if (!fault) fault = &unread;
-  if (!read_units(&units, config->units, config->unit_count, live_profiles_of(config), live_identities_of(config), fault)) return VSCSI_BAD_CONFIG;
+  if (!read_units(&units, config->units, config->unit_count, live_said_of(config), fault)) return VSCSI_BAD_CONFIG;
   if (disks) tell_caches(&units, disks);
   struct bus_map *map = bus_map();
   if (!map) return VSCSI_NO_MEMORY;

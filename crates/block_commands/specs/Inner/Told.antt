@@ -1,6 +1,8 @@
 -- What a command is told of its unit, as the definitions of commands have it.
-use Rattle.std.specs.Prelude.{ℕ}
+use Rattle.std.specs.Prelude.{ℕ, Bool, ◌&&◌}
 use Rattle.sense.specs.declared.SenseFormat.{SenseFormat}
+use Rattle.cdb.specs.declared.commands.Command.{Command}
+use Rattle.command_model.specs.Effects.{changes_medium}
 use Rattle.command_model.specs.Identity.{told_by}
 use Rattle.command_model.specs.Facts.{Facts}
 use Rattle.block_commands.specs.declared.facts.UnitFacts.{UnitFacts}
@@ -8,6 +10,10 @@ use Rattle.block_commands.specs.declared.facts.UnitFacts.{UnitFacts}
 -- the format of its sense data
 abbrev pub sense_told : UnitFacts → SenseFormat
 sense_told u = (told_by u.profile u.identity).sense_format
+
+-- whether it refuses a command since it is read-only
+abbrev pub protects : UnitFacts → Command → Bool
+protects u command = changes_medium command && (told_by u.profile u.identity).read_only
 
 -- the facts of a unit of so many blocks
 abbrev pub facts_of : UnitFacts → ℕ → Facts

@@ -13,8 +13,8 @@ same_flag false true e = cc
 -- names that agree in each field
 same_names : (a b : Identity) → a.vendor ≡ b.vendor → a.product ≡ b.product → a.revision ≡ b.revision → a.serial ≡ b.serial
     → a.serial_len ≡ b.serial_len → a.naa ≡ b.naa → a.physical_exponent ≡ b.physical_exponent → a.rotation_rate ≡ b.rotation_rate
-    → a.sense_format ≡ b.sense_format → a.write_cache ≡ b.write_cache → a ≡ b
-same_names a b e1 e2 e3 e4 e5 e6 e7 e8 e9 e10 =
+    → a.sense_format ≡ b.sense_format → a.write_cache ≡ b.write_cache → a.read_only ≡ b.read_only → a ≡ b
+same_names a b e1 e2 e3 e4 e5 e6 e7 e8 e9 e10 e11 =
     ap (λ x. record a { vendor = x }) e1
     ∙ ap (λ x. record a { vendor = b.vendor; product = x }) e2
     ∙ ap (λ x. record a { vendor = b.vendor; product = b.product; revision = x }) e3
@@ -25,6 +25,7 @@ same_names a b e1 e2 e3 e4 e5 e6 e7 e8 e9 e10 =
     ∙ ap (λ x. record a { vendor = b.vendor; product = b.product; revision = b.revision; serial = b.serial; serial_len = b.serial_len; naa = b.naa; physical_exponent = b.physical_exponent; rotation_rate = x }) e8
     ∙ ap (λ x. record a { vendor = b.vendor; product = b.product; revision = b.revision; serial = b.serial; serial_len = b.serial_len; naa = b.naa; physical_exponent = b.physical_exponent; rotation_rate = b.rotation_rate; sense_format = x }) e9
     ∙ ap (λ x. record a { vendor = b.vendor; product = b.product; revision = b.revision; serial = b.serial; serial_len = b.serial_len; naa = b.naa; physical_exponent = b.physical_exponent; rotation_rate = b.rotation_rate; sense_format = b.sense_format; write_cache = x }) e10
+    ∙ ap (λ x. record a { vendor = b.vendor; product = b.product; revision = b.revision; serial = b.serial; serial_len = b.serial_len; naa = b.naa; physical_exponent = b.physical_exponent; rotation_rate = b.rotation_rate; sense_format = b.sense_format; write_cache = b.write_cache; read_only = x }) e11
 
 pub returns : goal.returns
 returns c = (
@@ -39,6 +40,7 @@ returns c = (
       let e8 : c.identity.result.rotation_rate ≡ c.args.spec.now.identity.rotation_rate = search rules in
       let e9 : c.identity.result.sense_format ≡ c.args.spec.now.identity.sense_format = search rules in
       let e10 : c.identity.result.write_cache ≡ c.args.spec.now.identity.write_cache = search (rules, same_flag) in
-      sym c.identity.ensures ∙ same_names c.identity.result c.args.spec.now.identity e1 e2 e3 e4 e5 e6 e7 e8 e9 e10,
+      let e11 : c.identity.result.read_only ≡ c.args.spec.now.identity.read_only = search (rules, same_flag) in
+      sym c.identity.ensures ∙ same_names c.identity.result c.args.spec.now.identity e1 e2 e3 e4 e5 e6 e7 e8 e9 e10 e11,
   λ same. search rules,
 )

@@ -1,13 +1,11 @@
 use Rattle.std.proofs.Common.{refl, subst, sym}
-use Rattle.cdb.specs.Fields.{byte}
-use Rattle.cdb.specs.declared.commands.Command.TheVariants.{Bad}
-use Rattle.request_intake.specs.Decision.{decide_reading}
+use Rattle.request_intake.specs.Decision.{decide_reading, unpromised}
 use Rattle.request_intake.proofs.Medium.{Gets, address_gets}
 use Rattle.request_intake.proofs.laws.medium_is_not_promised.Goals as goal
 
 pub returns : goal.returns
 returns c = λ units bytes n place asked r read asks there is.
-    subst (Gets (Bad (byte 0 asked.cdb)) place) is
-    (subst (λ o. Gets (Bad (byte 0 asked.cdb)) place (decide_reading o units n bytes)) (sym read)
+    subst (Gets (unpromised asked.cdb) place) is
+    (subst (λ o. Gets (unpromised asked.cdb) place (decide_reading o units n bytes)) (sym read)
     (address_gets units n bytes asked place asks there))
     refl

@@ -1,5 +1,5 @@
-use Rattle.std.proofs.Common.{◌∙◌, ap, false, None, IsTrue, subst}
-use Rattle.block_commands.specs.Inner.Told.{facts_of}
+use Rattle.std.proofs.Common.{◌∙◌, ap, false, None, IsTrue, IsFalse, subst}
+use Rattle.block_commands.specs.Inner.Told.{facts_of, protects}
 use Rattle.block_commands.specs.Inner.Ready.{is_read}
 use Rattle.backed_store.specs.Disks as disks
 use Rattle.cdb.specs.declared.commands.Command.{Command}
@@ -13,9 +13,10 @@ read_in_place-requires g c =
     let store = c.args.store.now in
     let entry = c.args.arrival.now.entry in
     record {
-      held = λ calm b reads.
+      held = λ calm free b reads.
           held_for (disks.holds store) (disks.has_room store) (disks.size_of store) entry.command entry.data_out
-          (told c.args.facts.now c.args.attentions.now) c.tell_oldest.new.facts c.tell_oldest.ensures c.requires.ready calm b
+          (told c.args.facts.now c.args.attentions.now) c.tell_oldest.new.facts c.tell_oldest.ensures c.requires.ready calm
+          (subst (λ (command : Command). IsFalse (protects c.tell_oldest.new.facts command)) c.command-command.ensures free) b
           (subst (λ (command : Command). IsTrue (is_read (disks.size_of store) command b)) c.command-command.ensures reads);
     }
 

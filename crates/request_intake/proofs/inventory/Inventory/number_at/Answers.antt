@@ -1,8 +1,8 @@
-use Rattle.std.proofs.Common.{◌≡◌, ◌<◌, Some, sym, ◌∙◌, ap, subst, false, length, slice_index_or}
+use Rattle.std.proofs.Common.{◌<◌, Some, sym, ◌∙◌, ap, subst, false, length}
 use Rattle.std.proofs.lemmas.Option.{slice_get-get_or}
 use Rattle.cdb.specs.declared.profile.Profile.TheVariants.{Narrow}
 use Rattle.scsi_codec.specs.declared.lun.Address.{Address}
-use Rattle.scsi_codec.specs.Lun.{address_at, number_of}
+use Rattle.scsi_codec.specs.Lun.{address_at}
 use Rattle.request_intake.specs.Inventory.{PlainInventory}
 use Rattle.request_intake.specs.declared.inventory.Known.{Known}
 use Rattle.request_intake.proofs.Numbers.{numbered}
