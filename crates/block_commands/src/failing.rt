@@ -5,11 +5,12 @@ ghost use Rattle.command_model.specs.PlainReply.{plain_of};
 ghost use Rattle.command_model.specs.Failing.{reaches, cuts, are_cut, needs_page, needs_page_wide, first_named, first_named_wide, unread};
 ghost use Rattle.command_model.specs.Replies.{unmap_answer};
 ghost use Rattle.command_model.specs.UnmapList.{descriptors, descriptors_in};
-ghost use Rattle.block_commands.specs.Inner.Told.{facts_of};
+ghost use Rattle.block_commands.specs.Inner.Told.{facts_of, protects};
 
 use crate::capacity::is_in_range;
 use crate::extents::{UNMAP_HEADER_BYTES, extent_at, taken_descriptors};
 use crate::facts::UnitFacts;
+use crate::protection::is_protected;
 use crate::provisioning::looked_at;
 use crate::unmap::{are_in_range, is_too_much};
 use cdb::{Command, WideCommand};
@@ -135,8 +136,8 @@ fn first_named(command: &Command) -> u64
 }
 
 /// Returns what a command is answered that needs a page which its unit's host can't read: MEDIUM ERROR, UNRECOVERED READ
-/// ERROR. `bytes` are the data that it takes. `None` where it doesn't need that page. The unit calls it for a command that
-/// waits, in the hold of its lock.
+/// ERROR. `bytes` are the data that it takes. `None` where it doesn't need that page, or a read-only unit refuses it. The unit
+/// calls it for a command that waits, in the hold of its lock.
 pub fn unread(
     alloc: Global,
     facts: &UnitFacts,
@@ -147,8 +148,12 @@ pub fn unread(
 ) -> Option<Reply>
     ensures needed { IfSome result (λ r. needs_page capacity command.now bytes.now page ≡ true) }
     ensures reply { IfSome result (λ r. plain_of r ≡ unread (facts_of facts.now capacity) command.now page) }
-    ensures unneeded { IfNone result (needs_page capacity command.now bytes.now page ≡ false) }
+    ensures unprotected { IfSome result (λ r. protects facts.now command.now ≡ false) }
+    ensures unneeded { IfNone result (protects facts.now command.now ≡ false → needs_page capacity command.now bytes.now page ≡ false) }
 {
+    if is_protected(facts, command) {
+        return None;
+    }
     if !needs_page(capacity, command, bytes, page) {
         return None;
     }

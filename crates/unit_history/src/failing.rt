@@ -1,11 +1,11 @@
 //! Commands that need what their unit's host can't read.
 
-ghost use Rattle.std.specs.Prelude.{◌≡◌, ◌≤◌, IfSome, IfNone, length, true};
+ghost use Rattle.std.specs.Prelude.{◌≡◌, ◌≤◌, IfSome, IfNone, length, true, false};
 ghost use Rattle.cdb.specs.Need.{need_of};
 ghost use Rattle.block_store.specs.Storage.{IsLostIn};
 ghost use Rattle.command_model.specs.PlainReply.{plain_of};
 ghost use Rattle.command_model.specs.Failing.{needs_page, unread};
-ghost use Rattle.block_commands.specs.Inner.Told.{facts_of};
+ghost use Rattle.block_commands.specs.Inner.Told.{facts_of, protects};
 ghost use Rattle.unit_history.specs.Inner.Performing.{RanUnread, performed_of};
 
 use crate::performing::{Performed, clear_oldest, kept_of};
@@ -31,6 +31,7 @@ fn lost_page(
 ) -> Option<(u64, Reply)>
     ensures lost { IfSome result (λ found. IsLostIn (⟦<Disk as Store>⟧.storage store.now) found.0) }
     ensures needed { IfSome result (λ found. needs_page (⟦<Disk as Store>⟧.size store.now) command.now bytes.now found.0 ≡ true) }
+    ensures unprotected { IfSome result (λ found. protects facts.now command.now ≡ false) }
     ensures reply { IfSome result (λ found. plain_of found.1
         ≡ unread (facts_of facts.now (⟦<Disk as Store>⟧.size store.now)) command.now found.0) }
 {
