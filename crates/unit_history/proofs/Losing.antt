@@ -31,10 +31,10 @@ pub ran_unread : (keeps : Bool) (facts : Facts) (lost : ℕ → Type 0) (command
     → needs_page facts.capacity command bytes page ≡ true → p.reply ≡ unread facts command page → lost page
     → p.kept ≡ kept_reply keeps p.reply → ((b : ℕ) → blocks' b ≡ blocks b) → pending' ≡ taken command pending
     → RanUnread keeps facts lost command bytes p blocks blocks' pending pending'
-ran_unread keeps facts lost command bytes page p blocks blocks' pending pending' cached calm open needed is is_lost kept stored pends =
+ran_unread keeps facts lost command bytes page p blocks blocks' pending pending' cached calm writable needed is is_lost kept stored pends =
     record {
       page = page;
-      unread = record { cached = cached; unmet = none_met command facts.pending calm; unprotected = open; needed = needed; is = is };
+      unread = record { cached = cached; unmet = none_met command facts.pending calm; unprotected = writable; needed = needed; is = is };
       is_lost = is_lost;
       kept = kept;
       stored = stored;
