@@ -26,7 +26,9 @@ bool paging_is_there(const struct disks *disks) {
 static bool open_disk(struct disk *disk, char *why, size_t room) {
   struct stat stat;
   disk->paging = calloc(1, sizeof *disk->paging);
-  if (!disk->paging || fstat(disk->file, &stat)) return snprintf(why, room, "%s: %s", disk->path, strerror(errno)), false;
+  if (!disk->paging) return snprintf(why, room, "memory was refused"), false;
+  if (disk->server) return disk->paging->has_no_holes = !server_zeroes(disk->server), true;
+  if (fstat(disk->file, &stat)) return snprintf(why, room, "%s: %s", disk->path, strerror(errno)), false;
   disk->paging->is_device = S_ISBLK(stat.st_mode);
   return true;
 }
@@ -35,8 +37,11 @@ bool paging_open(struct disks *disks, char *why, size_t room) {
   if (!paging_is_there(disks)) return true;
   disks->storage = storage_make(why, room);
   bool stands = disks->storage;
-  for (size_t i = 0; stands && i < disks->count; i++)
-    if (disks->disks[i].is_backed) stands = open_disk(&disks->disks[i], why, room);
+  for (size_t i = 0; stands && i < disks->count; i++) {
+    if (!disks->disks[i].is_backed) continue;
+    stands = open_disk(&disks->disks[i], why, room);
+    if (disks->disks[i].server) storage_add(disks->storage, disks->disks[i].server);
+  }
   return stands;
 }
 
@@ -51,7 +56,10 @@ void paging_close(struct disks *disks) {
   disks->storage = NULL;
 }
 
-int paging_descriptor(const struct disks *disks) { return disks->storage ? storage_descriptor(disks->storage) : -1; }
+bool paging_watch(struct disks *disks, int epoll, uint32_t event) { return !disks->storage || storage_watch(disks->storage, epoll, event); }
+
+// Returns whether a disk's server can't be reached now. Nothing is begun meanwhile, and nothing has to be put off.
+static bool is_away(const struct disk *disk) { return disk->server && !server_is_there(disk->server); }
 
 void paging_begin(struct disks *disks) {
   for (size_t i = 0; i < disks->count; i++) {
@@ -77,7 +85,7 @@ static RARE void put_reads_off(struct trouble *reading, uint64_t page, int error
 
 static RARE void put_writes_off(struct disk *disk, int error) {
   disk->paging->fails = true;
-  if (disk->error && clock_now() < disk->due) return;
+  if (is_away(disk) || (disk->error && clock_now() < disk->due)) return;
   disk->error = error;
   disk->pause = longer(disk->pause);
   disk->due = clock_now() + disk->pause;
@@ -108,14 +116,14 @@ static void finish_read(struct disk *disk, struct device *device, const struct t
   struct paging *paging = disk->paging;
   for (unsigned i = 0; i < transfer->count; i++) {
     uint64_t page = transfer->first + i;
-    bool is_old = error || transfer->stale >> i & 1;
+    bool is_old = error || transfer->stale[i / 64] >> i % 64 & 1;
     bool loaded = !is_old && device_load(device, paging->target, paging->lun, page, transfer->pages[i]);
     if (!loaded) device_load_failed(device, paging->target, paging->lun, page);
     paging->starves = paging->starves || (!is_old && !loaded);
     paging->pages_read += loaded;
   }
-  if (error) put_reads_off(&paging->reading, transfer->first, error);
-  else if (paging->reading.error) note_read(&paging->reading, transfer);
+  if (error && !is_away(disk)) put_reads_off(&paging->reading, transfer->first, error);
+  else if (paging->reading.error && !error) note_read(&paging->reading, transfer);
 }
 
 // Where a sync fails the system may have forgotten all that was written before, and won't say so again.
@@ -170,6 +178,14 @@ static void say_runs(struct paging *paging, struct device *device) {
   paging->run_count = left;
 }
 
+// Finds whether a disk's server was lost since that was last looked at. No flush of the next connection keeps what went over that one.
+static void note_losses(struct disk *disk) {
+  struct paging *paging = disk->paging;
+  if (!disk->server || paging->losses == server_losses(disk->server)) return;
+  paging->losses = server_losses(disk->server);
+  change_runs(paging, RUN_WRITTEN, RUN_FAILED);
+}
+
 bool paging_take(struct disks *disks, struct device *device) {
   struct transfer *transfer;
   bool came = false;
@@ -178,8 +194,11 @@ bool paging_take(struct disks *disks, struct device *device) {
     came = true;
     if (finish(disks, device, transfer, error)) storage_put(disks->storage, transfer);
   }
-  for (size_t i = 0; came && i < disks->count; i++)
-    if (disks->disks[i].paging) say_runs(disks->disks[i].paging, device);
+  for (size_t i = 0; came && i < disks->count; i++) {
+    if (!disks->disks[i].paging) continue;
+    note_losses(&disks->disks[i]);
+    say_runs(disks->disks[i].paging, device);
+  }
   return came;
 }
 
@@ -196,6 +215,7 @@ static void begin_transfer(struct gathering *gathering, struct transfer *transfe
   struct paging *paging = gathering->disk->paging;
   transfer->disk = gathering->which;
   transfer->file = gathering->disk->file;
+  transfer->server = gathering->disk->server;
   paging->transfers++;
   paging->writes += transfer->kind == TRANSFER_WRITE || transfer->kind == TRANSFER_HOLE;
   storage_begin(gathering->storage, transfer, bytes_of(gathering->disk));
@@ -211,6 +231,12 @@ static bool has_room(struct gathering *gathering, enum transfer_kind kind) {
   if (!gathering->now) gathering->now = storage_take(gathering->storage, kind);
   if (!gathering->spare) gathering->spare = storage_take(gathering->storage, kind);
   return gathering->now && gathering->spare;
+}
+
+// Returns the buffer of the page that came last, or NULL.
+static const uint8_t *last_of(const struct gathering *gathering) {
+  const struct transfer *now = gathering->now;
+  return now->count ? now->pages[now->count - 1] : NULL;
 }
 
 static void add_page(struct gathering *gathering, enum transfer_kind kind, uint64_t page, uint8_t *buffer) {
@@ -237,9 +263,9 @@ static void begin_reads(struct disks *disks, size_t which, struct device *device
   struct paging *paging = disk->paging;
   // Beside one that can't be read others may be.
   struct gathering gathering = {disks->storage, disk, which, paging->reading.error ? 1 : MOST_TRANSFERRED, NULL, NULL};
-  if (paging->reading.error && clock_now() < paging->reading.due) return;
+  if (is_away(disk) || (paging->reading.error && clock_now() < paging->reading.due)) return;
   while (has_room(&gathering, TRANSFER_READ)) {
-    uint8_t *buffer = storage_buffer(disks->storage, TRANSFER_READ);
+    uint8_t *buffer = storage_buffer(disks->storage, TRANSFER_READ, last_of(&gathering));
     uint64_t page;
     if (!buffer) break;
     if (!device_wanted(device, paging->target, paging->lun, &page)) {
@@ -254,7 +280,8 @@ static void begin_reads(struct disks *disks, size_t which, struct device *device
 // What is being read of a page that is written now may be older.
 static void note_stale(struct disks *disks, size_t which, uint64_t page) {
   for (struct transfer *it = storage_under_way(disks->storage, TRANSFER_READ); it; it = it->next)
-    if (it->disk == which && page >= it->first && page - it->first < it->count) it->stale |= UINT64_C(1) << (page - it->first);
+    if (it->disk == which && page >= it->first && page - it->first < it->count)
+      it->stale[(page - it->first) / 64] |= UINT64_C(1) << (page - it->first) % 64;
 }
 
 static bool is_zeros(const uint8_t *page) { return !page[0] && !memcmp(page, page + 1, PAGE_BYTES - 1); }
@@ -265,11 +292,13 @@ static void begin_writes(struct disks *disks, size_t which, struct device *devic
   struct paging *paging = disk->paging;
   struct gathering gathering = {disks->storage, disk, which, disk->error ? 1 : MOST_TRANSFERRED, NULL, NULL};
   bool punches = disk->punches && !paging->is_device && !paging->has_no_holes;
-  if (disk->error && clock_now() < disk->due) return;
+  if (is_away(disk) || (disk->error && clock_now() < disk->due)) return;
   paging->fails = false;
   // Each transfer that is begun here takes a run, and so may those that were gathered.
   while (paging->run_count + paging->writes + 2 <= MOST_RUNS && has_room(&gathering, TRANSFER_WRITE)) {
-    uint8_t *buffer = storage_buffer(disks->storage, TRANSFER_WRITE);
+    // A hole has no buffers.
+    const uint8_t *other = gathering.now->kind == TRANSFER_WRITE ? last_of(&gathering) : NULL;
+    uint8_t *buffer = storage_buffer(disks->storage, TRANSFER_WRITE, other);
     uint64_t page;
     if (!buffer) break;
     enum given given = device_give(device, paging->target, paging->lun, &page, buffer);
@@ -285,10 +314,12 @@ static void begin_writes(struct disks *disks, size_t which, struct device *devic
 
 static bool begin_sync(struct disks *disks, size_t which) {
   struct disk *disk = &disks->disks[which];
-  struct transfer *transfer = disk->paging->pages && !disk->paging->syncs ? storage_take(disks->storage, TRANSFER_SYNC) : NULL;
+  bool is_wanted = disk->paging->pages && !disk->paging->syncs && !is_away(disk);
+  struct transfer *transfer = is_wanted ? storage_take(disks->storage, TRANSFER_SYNC) : NULL;
   if (!transfer) return false;
   transfer->disk = which;
   transfer->file = disk->file;
+  transfer->server = disk->server;
   transfer->first = 0;
   change_runs(disk->paging, RUN_WRITTEN, RUN_COVERED);
   disk->paging->syncs = true;
@@ -310,7 +341,7 @@ static bool is_sync_due(const struct disk *disk, enum wait waits) {
 // Returns whether something of a disk is to be looked at though nothing of it is over by then.
 static bool is_put_off(const struct disk *disk) {
   const struct paging *paging = disk->paging;
-  bool waits = (paging->pages && !paging->syncs) || paging->starves;
+  bool waits = (paging->pages && !paging->syncs) || paging->starves || is_away(disk);
   return waits || (disk->error && clock_now() < disk->due) || (paging->reading.error && clock_now() < paging->reading.due);
 }
 
@@ -353,7 +384,7 @@ void paging_settle(struct disks *disks, struct device *device) {
 
 // Finds whether memory has something of a disk that its file lacks.
 static bool find_left(struct disks *disks, struct paging *paging, struct device *device) {
-  uint8_t *buffer = storage_buffer(disks->storage, TRANSFER_WRITE);
+  uint8_t *buffer = storage_buffer(disks->storage, TRANSFER_WRITE, NULL);
   uint64_t page;
   enum given given = buffer ? device_give(device, paging->target, paging->lun, &page, buffer) : GIVEN_REFUSED;
   if (buffer) storage_put_buffer(disks->storage, buffer, TRANSFER_WRITE);
@@ -384,11 +415,31 @@ static RARE void tell(struct disk *disk) {
   }
 }
 
+// Says of a server that it is gone, each time, and that it is there again.
+static void tell_losses(struct disk *disk) {
+  struct paging *paging = disk->paging;
+  if (paging->told_losses != server_losses(disk->server)) {
+    log_say(LOG_ERROR, disk, "the NBD server is gone, and is tried again: %s", server_fault(disk->server));
+    paging->told_losses = server_losses(disk->server);
+    paging->told_away = true;
+  }
+  if (!paging->told_away || is_away(disk)) return;
+  log_say(LOG_ERROR, disk, "the NBD server is there again");
+  paging->told_away = false;
+}
+
 void paging_tell(struct disks *disks) {
   for (size_t i = 0; i < disks->count; i++) {
     const struct paging *paging = disks->disks[i].paging;
-    if (paging && (paging->reading.error || paging->reading.told)) tell(&disks->disks[i]);
+    if (!paging) continue;
+    if (paging->reading.error || paging->reading.told) tell(&disks->disks[i]);
+    if (disks->disks[i].server) tell_losses(&disks->disks[i]);
   }
+}
+
+int paging_error(const struct disk *disk) {
+  if (!disk->paging || disk->error) return disk->error;
+  return is_away(disk) ? ENOTCONN : disk->paging->reading.error;
 }
 
 bool paging_is_left(const struct disk *disk) { return disk->paging && disk->paging->is_left; }
@@ -453,7 +504,7 @@ bool paging_end_rest(struct disks *disks) {
 // Returns whether a disk's file has all, behind paging_give.
 static bool is_written(const struct disk *disk) {
   const struct paging *paging = disk->paging;
-  return !paging->transfers && !paging->run_count && !paging->starves && !(disk->error && clock_now() < disk->due);
+  return !paging->transfers && !paging->run_count && !paging->starves && !is_away(disk) && !(disk->error && clock_now() < disk->due);
 }
 
 bool paging_write_rest(struct disks *disks) {
@@ -490,9 +541,11 @@ bool paging_finish(struct disks *disks, char *why, size_t room) {
   paging_end_rest(disks);
   for (size_t i = 0; i < disks->count; i++) {
     const struct disk *disk = &disks->disks[i];
-    const char *cause = disk->error ? strerror(disk->error) : "memory was refused";
+    const char *cause = paging_error(disk) ? strerror(paging_error(disk)) : "memory was refused";
+    const char *place = disk->path ? disk->path : disk->uri;
     if (!paging_is_left(disk)) continue;
-    snprintf(why, room, "disk %u:%u: %s: WRITEs behind the last SYNCHRONIZE CACHE aren't all kept: %s", disk->target, disk->lun, disk->path, cause);
+    snprintf(why, room, "disk %u:%u: %s: WRITEs behind the last SYNCHRONIZE CACHE aren't all kept: %s", disk->target, disk->lun, place,
+             cause);
     return false;
   }
   return true;

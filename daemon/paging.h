@@ -1,4 +1,5 @@
-// The pages of backed disks, between their files and the device: read as commands want them, and written as the guest changes them.
+// The pages of backed disks, between their files or NBD servers and the device: read as commands want them, and written as the guest
+// changes them.
 //
 // A disk outlives its device, and keeps the pages in memory that its file lacks. So where no front end has a device, one of the daemon's own
 // gives them. Pages that were written stand on the file for sure behind a sync, of which one covers many. Where it fails they are written
@@ -32,6 +33,9 @@ struct paging {
   uint16_t lun;
   bool is_left;            // memory may have pages that the file lacks
   bool is_device;          // the file is a block device
+  unsigned losses;         // of connections to its server, behind which what was written was given up
+  unsigned told_losses;    // and of which it was said
+  bool told_away;          // and that there is none
   bool has_no_holes;       // it makes none
   bool fails;              // a write failed since writes were last begun anew
   bool starves;            // memory was refused, and is asked for again
@@ -52,8 +56,8 @@ bool paging_is_there(const struct disks *disks);
 bool paging_open(struct disks *disks, char *why, size_t room);
 void paging_close(struct disks *disks);
 
-// Returns the descriptor that tells, by edges, that something is over, or -1.
-int paging_descriptor(const struct disks *disks);
+// Has an epoll tell this event, by edges, when something is over. Returns false where it can't be.
+bool paging_watch(struct disks *disks, int epoll, uint32_t event);
 
 // Has these disks be those of a device that was made of them.
 void paging_begin(struct disks *disks);
@@ -85,6 +89,9 @@ void paging_lose(struct disk *disk);
 
 // Says once a minute of each file that can't be read why, and once that it can be again.
 void paging_tell(struct disks *disks);
+
+// Returns the error number by which a disk can't be read or written now, or 0.
+int paging_error(const struct disk *disk);
 
 // Returns whether memory may have something that the file of a disk, or of any, lacks.
 bool paging_is_left(const struct disk *disk);
