@@ -65,9 +65,15 @@ static bool must_wait(const struct controlled *controlled) {
 // Adds what a backed disk did with its file.
 static void add_pages(json_t *told, const struct paging *paging) {
   if (!paging) return;
-  json_object_set_new(told, "pages-read", json_integer((json_int_t)paging->pages_read));
-  json_object_set_new(told, "pages-written", json_integer((json_int_t)paging->pages_written));
-  json_object_set_new(told, "flushes", json_integer((json_int_t)paging->syncs_done));
+  const struct paged *counts = &paging->counts;
+  const struct {
+    const char *name;
+    uint64_t count;
+  } all[] = {{"pages-read", counts->read},       {"pages-written", counts->written}, {"flushes", counts->syncs},
+             {"pages-asked", counts->asked},     {"pages-handed-in", counts->handed_in}, {"pages-ahead", counts->ahead},
+             {"pages-unread", counts->unread},   {"pages-given", counts->given},     {"pages-kept", counts->kept},
+             {"pages-failed", counts->failed}};
+  for (size_t i = 0; i < sizeof all / sizeof *all; i++) json_object_set_new(told, all[i].name, json_integer((json_int_t)all[i].count));
 }
 
 static json_t *stats_of(const struct controlled *controlled, size_t which) {

@@ -7,6 +7,7 @@
 #ifndef DAEMON_PAGING_H
 #define DAEMON_PAGING_H
 
+#include "ahead.h"
 #include "disks.h"
 #include "library.h"
 
@@ -28,6 +29,13 @@ struct run {
 
 enum { MOST_RUNS = 4096 };
 
+// What was done with a disk's pages: how many commands wanted; of these, how many were handed in, how many of them read ahead, and how many
+// couldn't be; how many were given to be written, how many of them stand there for sure, and how many have to be given once more; and how
+// often that was made sure, and pages read and written.
+struct paged {
+  uint64_t asked, handed_in, ahead, unread, given, kept, failed, syncs, read, written;
+};
+
 struct paging {
   uint8_t target;          // by which the device knows the disk, and
   uint16_t lun;
@@ -45,7 +53,8 @@ struct paging {
   size_t run_count, writes;  // of transfers that write, each of which needs a run
   uint64_t pages, since;   // how many are RUN_WRITTEN, and since when the first is
   struct trouble reading;  // that of writing is the disk's own
-  uint64_t pages_read, pages_written, syncs_done;
+  struct ahead ahead;
+  struct paged counts;
 };
 
 // Returns whether a disk is backed.
@@ -68,8 +77,9 @@ bool paging_take(struct disks *disks, struct device *device);
 // Whether commands wait for a sync: none does, or one may, or one does, unless it waits for something that is put off.
 enum wait { WAITS_NOT, WAITS_PERHAPS, WAITS_SURELY };
 
-// Begins what there is to read and to write, and syncs where it is time for that.
-void paging_give(struct disks *disks, struct device *device, enum wait waits);
+// Begins what there is to read and to write, and syncs where it is time for that. Returns whether pages were handed in that had been read
+// ahead, so that commands that wait are to be tried again.
+bool paging_give(struct disks *disks, struct device *device, enum wait waits);
 
 // Returns whether something is under way, or a read is. Then paging_take is called again.
 bool paging_reads(const struct disks *disks);

@@ -61,12 +61,18 @@ bool storage_watch(struct storage *storage, int epoll, uint32_t event) {
   return stands;
 }
 
-// Holes count as WRITEs do.
-static enum transfer_kind side_of(enum transfer_kind kind) { return kind == TRANSFER_HOLE ? TRANSFER_WRITE : kind; }
+// Holes count as WRITEs do, and reads ahead as READs.
+static enum transfer_kind side_of(enum transfer_kind kind) {
+  return kind == TRANSFER_HOLE ? TRANSFER_WRITE : kind == TRANSFER_AHEAD ? TRANSFER_READ : kind;
+}
+
+static bool is_read(const struct transfer *transfer) { return transfer->kind == TRANSFER_READ || transfer->kind == TRANSFER_AHEAD; }
 
 struct transfer *storage_take(struct storage *storage, enum transfer_kind kind) {
   enum transfer_kind side = side_of(kind);
-  struct transfer *transfer = side == TRANSFER_SYNC || storage->taken[side] < MOST_OF_KIND ? storage->idle : NULL;
+  // Reads ahead leave half of them to READs.
+  size_t most = kind == TRANSFER_AHEAD ? MOST_OF_KIND / 2 : MOST_OF_KIND;
+  struct transfer *transfer = side == TRANSFER_SYNC || storage->taken[side] < most ? storage->idle : NULL;
   if (!transfer) return NULL;
   storage->idle = transfer->next;
   storage->taken[side]++;
@@ -130,7 +136,7 @@ static void ask(struct transfer *transfer) {
   bool writes = transfer->kind == TRANSFER_WRITE || transfer->fills;
   if (transfer->kind == TRANSFER_SYNC) server_flush(server, transfer);
   else if (writes) server_write(server, transfer->parts, find_parts(transfer), at, transfer);
-  else if (transfer->kind == TRANSFER_READ) server_read(server, transfer->parts, find_parts(transfer), at, transfer);
+  else if (is_read(transfer)) server_read(server, transfer->parts, find_parts(transfer), at, transfer);
   else server_zero(server, at, transfer->bytes, transfer);
 }
 
@@ -142,7 +148,7 @@ static void go_on(struct storage *storage, struct transfer *transfer) {
   if (transfer->server) ask(transfer);
   else if (transfer->kind == TRANSFER_SYNC) uring_sync(uring, transfer->file, transfer);
   else if (writes) uring_write(uring, transfer->file, transfer->parts, find_parts(transfer), at, transfer);
-  else if (transfer->kind == TRANSFER_READ) uring_read(uring, transfer->file, transfer->parts, find_parts(transfer), at, transfer);
+  else if (is_read(transfer)) uring_read(uring, transfer->file, transfer->parts, find_parts(transfer), at, transfer);
   else uring_punch(uring, transfer->file, at, transfer->bytes, transfer);
 }
 
@@ -180,7 +186,7 @@ static void take_out(struct storage *storage, struct transfer *transfer) {
 
 // Returns whether a transfer goes on behind this result of a part of it. `error` tells else by which error it failed.
 static bool is_left(struct transfer *transfer, int result, int *error) {
-  bool moves = transfer->kind == TRANSFER_READ || transfer->kind == TRANSFER_WRITE || transfer->fills;
+  bool moves = is_read(transfer) || transfer->kind == TRANSFER_WRITE || transfer->fills;
   *error = 0;
   if (result == -EINTR || result == -EAGAIN) return true;
   if (result < 0) return *error = -result, false;
@@ -188,7 +194,7 @@ static bool is_left(struct transfer *transfer, int result, int *error) {
   transfer->done += (uint64_t)result;
   if (transfer->done >= transfer->bytes) return false;
   // The file ends before its disk, or takes no more.
-  if (!result) *error = transfer->kind == TRANSFER_READ ? EIO : ENOSPC;
+  if (!result) *error = is_read(transfer) ? EIO : ENOSPC;
   return result;
 }
 

@@ -13,8 +13,9 @@
 // The bytes of a page; the most pages of a transfer; and how many transfers there are, and buffers of a page each.
 enum { PAGE_BYTES = 4096, MOST_TRANSFERRED = 256, MOST_TRANSFERS = 256, MOST_BUFFERS = 4096 };
 
-// What a transfer does: it reads pages, writes them, makes a hole of them, or waits until all that was written stands on the file.
-enum transfer_kind { TRANSFER_READ, TRANSFER_WRITE, TRANSFER_HOLE, TRANSFER_SYNC, TRANSFER_KINDS };
+// What a transfer does: it reads pages, writes them, makes a hole of them, waits until all that was written stands on the file, or reads
+// pages ahead, into buffers that aren't the storage's.
+enum transfer_kind { TRANSFER_READ, TRANSFER_WRITE, TRANSFER_HOLE, TRANSFER_SYNC, TRANSFER_AHEAD, TRANSFER_KINDS };
 
 struct transfer {
   enum transfer_kind kind;

@@ -1265,6 +1265,60 @@ def test_cached_control(room):
     return None
 
 
+def read_pages(front, pages, versions):
+    """Reads pages in this order, and compares each with its version, or with zeros."""
+    pages = list(pages)
+    for first in range(0, len(pages), 14):
+        those = pages[first : first + 14]
+        numbers = run_cached(front, [("read", page, 0) for page in those])
+        for page, number in zip(those, numbers):
+            wanted = stamped(page, versions[page]) if page in versions else bytes(4096)
+            assert front.data(number, 4096) == wanted, (page, versions.get(page), front.data(number, 8))
+
+
+def read_and_write(front, choose, versions, rounds):
+    """Reads page after page, so that more is read ahead, writes some of that, and reads on once these are in memory no more. Some are
+    written just before the reading ahead begins, others behind that.
+    """
+    for version in range(rounds):
+        start, far = choose.randrange(0, 1 << 15, 512), [(1 << 15) + page for page in choose.sample(range(1 << 14), 8700)]
+        read_pages(front, range(start, start + 112), versions)
+        for before in (True, False):
+            those = [start + choose.randrange(180, 400) for _ in range(12)]
+            run_cached(front, [("write", page, 2 * version + before + 1) for page in those])
+            versions.update(dict.fromkeys(those, 2 * version + before + 1))
+            if before:
+                read_pages(front, range(start + 112, start + 154), versions)
+        run_cached(front, [("flush", 0, 0)])
+        read_pages(front, far, versions)
+        read_pages(front, range(start + 154, start + 500), versions)
+
+
+def test_cached_ahead(room):
+    """What is read ahead is never older than what the file or the server has, whenever it is written. It helps, and is told of."""
+    if not has_ring(room):
+        return NO_RING
+    control = ["--control", room.folder / "control"] if room.client else []
+    for more in ("", ",direct=on"):
+        with driven(room, "--disk", f"0:0=256M,file={room.folder / 'image'}{more}{CACHED}", *control, ends=0) as (_, front, log):
+            read_and_write(front, random.Random(9), {}, 4)
+            if control:
+                with Asking(control[1]) as asking:
+                    told = asking.ask("stats")["disks"][0]
+                assert told["pages-ahead"] > 400 and told["pages-asked"] >= told["pages-handed-in"] >= told["pages-ahead"], told
+                assert told["pages-given"] >= told["pages-kept"] >= 48 and not told["pages-failed"] and not told["pages-unread"], told
+        log.unlink()
+        (room.folder / "image").unlink()
+    if not has_servers(room):
+        return None
+    # Its writes come behind reads that it was asked for later.
+    at = room.folder / "nbd"
+    disk = f"0:0={export_of(at)},cache-size=33M"
+    with nbdkit(at, "--filter=delay", "memory", "256M", "wdelay=60ms"), driven(room, "--disk", disk, ends=0) as (_, front, _):
+        read_and_write(front, random.Random(10), {}, 4)
+    return None
+
+
 # Disks on NBD servers.
 
 
