@@ -3,6 +3,7 @@
 #include <stdio.h>
 #include <string.h>
 
+#include "server.h"
 #include "storage.h"
 
 // Blocks of a page, and of the memory that a backed disk has where no word says how much.
@@ -44,16 +45,22 @@ size_t caches_pages(const struct disk *disk) {
 }
 
 static const char *fault_of(const struct disk *disk) {
+  if (disk->uri && disk->path) return "nbd= stands in place of file=";
+  if (disk->uri && !server_is_built()) return "nbd=: this daemon is built without libnbd";
+  if (disk->uri && !disk->is_backed) return "nbd= wants write-cache=on";
+  if (disk->uri && disk->is_direct) return "direct=on wants file=PATH";
   if (!disk->is_backed && disk->cache_blocks) return "cache-size= wants write-cache=on";
   if (!disk->is_backed) return disk->is_direct ? "direct=on wants write-cache=on" : NULL;
   if (!storage_is_built()) return "write-cache=on: this daemon is built without liburing";
-  if (!disk->path) return "write-cache=on wants file=PATH";
+  if (!disk->path && !disk->uri) return "write-cache=on wants file=PATH or nbd=URI";
   if (!disk->wide) return "write-cache=on wants profile=wide";
   if (disk->read_only && !disk->is_protected) return "write-cache=on takes no snapshot";
   return caches_pages(disk) < VSCSI_LEAST_PAGES ? "cache-size= is 33M at least" : NULL;
 }
 
 bool caches_suit(struct disk *disk, char *why, size_t room) {
+  // A server's disk has a write cache without a word.
+  if (disk->uri && !disk->has_cache) disk->is_backed = true;
   const char *fault = fault_of(disk);
   if (fault) snprintf(why, room, "%s", fault);
   return !fault;

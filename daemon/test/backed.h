@@ -27,6 +27,9 @@ void test_backed_stale(void);
 // Anything, among any of these faults: each READ finds what was written last, and the file what was flushed.
 void test_backed_anything(void);
 
+// Of pages that are read ahead, and of some that are written meanwhile, each is what was written last.
+void test_backed_ahead(void);
+
 // A backed disk beside one in memory, and beside one whose answers wait for its file.
 void test_backed_beside(void);
 
