@@ -115,7 +115,7 @@ static bool take_disk(struct disk *disk, const char *at, char *why, size_t room)
   uint64_t target, lun;
   snprintf(why, room,
            "%s: not T:L=SIZE[,file=PATH|,nbd=URI][,grow][,snapshot][,detect-zeroes=unmap][,write-cache=on][,cache-size=SIZE][,direct=on]"
-           "[,read-only=on][,profile=narrow|wide][,NAMES], T:L=file=PATH[,..] or T:L=nbd=URI[,..]",
+           "[,rerror=stop][,read-only=on][,profile=narrow|wide][,NAMES], T:L=file=PATH[,..] or T:L=nbd=URI[,..]",
            at);
   if (!number(&at, 255, ':', &target) || !number(&at, 16383, '=', &lun)) return false;
   disk->target = (uint8_t)target;

@@ -49,6 +49,8 @@ struct disk {
   uint64_t cache_blocks;  // how many of them are in memory at most, or 0 where no word says that
   bool has_direct;  // its words say whether its file is read and written with no cache of the system's
   bool is_direct;   // it is
+  bool has_read_error;  // its words say what becomes of a command that needs what can't be read
+  bool stops_unread;    // it waits until that can be read; else it ends with MEDIUM ERROR
   struct paging *paging;  // of a backed disk, or NULL
   bool dirty;       // written since disk_sync
   int error;        // the error number by which the image can't be written now, or 0
@@ -73,7 +75,7 @@ struct disks {
 };
 
 // Adds the disk of words T:L=SIZE[,file=PATH|,nbd=URI][,grow][,snapshot][,detect-zeroes=unmap][,write-cache=on|off][,cache-size=SIZE]
-// [,direct=on|off][,read-only=on|off][,profile=narrow|wide][,NAMES], T:L=file=PATH[,..] or T:L=nbd=URI[,..], in its place of the order. A
+// [,direct=on|off][,rerror=report|stop][,read-only=on|off][,profile=narrow|wide][,NAMES], T:L=file=PATH[,..] or T:L=nbd=URI[,..], in its place of the order. A
 // comma of a path or a URI stands there twice. Opens nothing: images_open does that. Returns false, and says why, where the words name
 // no disk.
 bool disks_add(struct disks *disks, const char *words, char *why, size_t room);

@@ -25,7 +25,7 @@
 
 static const char usage[] =
     "vscsi-vhost-user --socket PATH|--fd N --disk T:L=SIZE[,file=PATH|,nbd=URI][,grow][,snapshot][,detect-zeroes=unmap]"
-    "[,write-cache=on][,cache-size=SIZE][,direct=on][,read-only=on][,profile=narrow|wide][,NAMES] ..\n"
+    "[,write-cache=on][,cache-size=SIZE][,direct=on][,rerror=stop][,read-only=on][,profile=narrow|wide][,NAMES] ..\n"
     "A virtio SCSI device for a vhost-user front end.\n"
     "\n"
     "  --socket PATH        listen there (also --socket-path)\n"
@@ -43,6 +43,7 @@ static const char usage[] =
     "                       nbd+unix:///EXPORT?socket=PATH; a comma is written twice\n"
     "      cache-size=SIZE  have at most SIZE bytes of it in memory, 33M or more; 64M is the default\n"
     "      direct=on        read and write it with no cache of the system's (O_DIRECT)\n"
+    "      rerror=stop      have a command that needs what can't be read wait, in place of rerror=report: MEDIUM ERROR\n"
     "      read-only=on     refuse what the guest would write, and open the file for reading alone\n"
     "      profile=narrow   know the commands of the narrow profile alone, in place of profile=wide\n"
     "      serial=TEXT, naa=HEX, vendor=TEXT, product=TEXT, revision=TEXT, physical-block-exp=N, rotation-rate=N,\n"

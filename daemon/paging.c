@@ -79,9 +79,24 @@ static RARE void put_reads_off(struct trouble *reading, uint64_t page, int error
   // Others that were under way with the one that failed first.
   if (reading->error && clock_now() < reading->due) return;
   reading->error = error;
+  reading->is_lost = false;
   reading->page = page;
   reading->pause = longer(reading->pause);
   reading->due = clock_now() + reading->pause;
+}
+
+// Whether a page that was read by itself is lost: the storage says so of the page, and of nothing else that may pass.
+static RARE bool is_lost(const struct disk *disk, const struct transfer *transfer, int error) {
+  bool is_stale = transfer->stale[0] & 1;
+  if (transfer->count != 1 || is_stale || disk->stops_unread || is_away(disk)) return false;
+  return error == EIO || error == ENODATA || error == EILSEQ || error == EREMOTEIO;
+}
+
+// Has the device end what needs the page. Others are read by themselves for a while, so that an error is one page's.
+static RARE void lose(struct paging *paging, struct device *device, uint64_t page, int error) {
+  device_lost(device, paging->target, paging->lun, page);
+  paging->counts.unread++;
+  paging->reading = (struct trouble){.error = error, .is_lost = true, .page = page, .due = clock_now(), .told = paging->reading.told};
 }
 
 static RARE void put_writes_off(struct disk *disk, int error) {
@@ -137,6 +152,7 @@ static void finish_ahead(struct paging *paging, struct device *device, const str
 
 static void finish_read(struct disk *disk, struct device *device, const struct transfer *transfer, int error) {
   struct paging *paging = disk->paging;
+  if (error && is_lost(disk, transfer, error)) return lose(paging, device, transfer->first, error);
   for (unsigned i = 0; i < transfer->count; i++) {
     bool is_old = error || transfer->stale[i / 64] >> i % 64 & 1;
     hand_in(paging, device, transfer->first + i, transfer->pages[i], !is_old);
@@ -477,7 +493,8 @@ static RARE void tell(struct disk *disk) {
   uint64_t now = clock_now();
   bool is_due = !reading->told || now - reading->told >= COMPLAINT;
   if (reading->error && is_due) {
-    log_say(LOG_ERROR, disk, "can't be read, and is tried again: %s", strerror(reading->error));
+    log_say(LOG_ERROR, disk, reading->is_lost ? "can't be read, which its guest is told: %s" : "can't be read, and is tried again: %s",
+            strerror(reading->error));
     reading->told = now;
   } else if (reading->told && !reading->error) {
     log_say(LOG_ERROR, disk, "can be read again");

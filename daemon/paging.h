@@ -11,10 +11,11 @@
 #include "disks.h"
 #include "library.h"
 
-// Of a file that couldn't be read and is tried again: the error number, or 0, and the page; milliseconds between two tries and the time of
-// the next; and when that was last said, or 0.
+// Of a file that couldn't be read: the error number, or 0, and the page; whether the device was told that the page is lost, or it is tried
+// again; milliseconds between two tries and the time of the next; and when that was last said, or 0.
 struct trouble {
   int error;
+  bool is_lost;
   unsigned pause;
   uint64_t page, due, told;
 };

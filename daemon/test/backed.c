@@ -20,7 +20,7 @@
 enum { ALL_PAGES = 32768, MORE_PAGES = VSCSI_LEAST_PAGES + 600, NOTHING = 80, STEP = 7919, AT_ONCE = 60 };
 
 static const uint8_t sync_10[10] = {0x35}, ready[6] = {0};
-static const char cached[] = ",write-cache=on,cache-size=33M";
+static const char cached[] = ",write-cache=on,cache-size=33M", stopping[] = ",write-cache=on,cache-size=33M,rerror=stop";
 
 static bool is_left_out(void) {
   if (!storage_is_built()) printf("left out: no liburing-dev\n");
@@ -106,11 +106,13 @@ static bool file_has(unsigned lun, unsigned count, unsigned version) {
   return has;
 }
 
-static void begin(struct front *front, struct disks *disks, unsigned number) {
-  load_make(disks, "128M", cached);
+static void begin_as(struct front *front, struct disks *disks, unsigned number, const char *words) {
+  load_make(disks, "128M", words);
   load_begin(front, disks, number);
   MUST(front->session.backend.pages && !front->session.backend.keeps);
 }
+
+static void begin(struct front *front, struct disks *disks, unsigned number) { begin_as(front, disks, number, cached); }
 
 // Has the next device begin with no page in memory.
 static void forget(struct front *front, struct disks *disks, unsigned number) {
@@ -204,7 +206,7 @@ void test_backed_unread(void) {
   for (unsigned number = 0; number < WAYS; number++) {
     struct disks disks;
     struct front front;
-    begin(&front, &disks, number);
+    begin_as(&front, &disks, number, stopping);
     MUST(write_pages(&front, MANY, 1));
     forget(&front, &disks, number);
     faults.read_error = EIO;
@@ -227,6 +229,51 @@ void test_backed_unread(void) {
     MUST(await(&front, Q, 9, PATIENCE) == 9 && await(&front, Q, 1, NOTHING) == 0 && disks.disks[0].paging->reading.error);
     clear_faults(&front);
     MUST(await(&front, Q, 1, PATIENCE) == 1 && is_filled(buffer_of(&front, 40), page_at(40), 1) && !disks.disks[0].paging->reading.error);
+    load_end(&front, &disks);
+  }
+}
+
+// Returns whether a request ended with MEDIUM ERROR, UNRECOVERED READ ERROR, of the first block of a page.
+static bool is_unread(const struct front *front, unsigned i, uint64_t page) {
+  const uint8_t *answer = answer_of(front, i), *sense = answer + 12;
+  uint64_t block = (uint64_t)sense[3] << 24 | (uint64_t)sense[4] << 16 | (uint64_t)sense[5] << 8 | sense[6];
+  bool is_condition = answer[10] == 2 && answer[11] == 0 && sense[0] == 0xf0 && sense[2] == 0x03;
+  return is_condition && sense[12] == 0x11 && sense[13] == 0x00 && block == 8 * page;
+}
+
+void test_backed_lost(void) {
+  if (is_left_out()) return;
+  for (unsigned number = 0; number < WAYS; number += 2) {
+    struct disks disks;
+    struct front front;
+    begin(&front, &disks, number);
+    MUST(write_pages(&front, MANY, 1));
+    forget(&front, &disks, number);
+    faults.read_error = EIO;
+    faults.bad_page = page_at(40);
+    // Twice: the page is asked for again.
+    for (unsigned time = 0; time < 2; time++) {
+      for (unsigned i = 35; i < 45; i++) put_read_of(&front, 0, Q, i, page_at(i) * 8);
+      driver_kick(&front, Q);
+      MUST(await(&front, Q, 10, PATIENCE) == 10 && front.alive);
+      for (unsigned i = 35; i < 45; i++)
+        MUST(i == 40 ? is_unread(&front, i, page_at(i)) : is_good(&front, i) && is_filled(buffer_of(&front, i), page_at(i), 1));
+    }
+    // A WRITE of all its blocks needs none of them, and behind it there is a page.
+    put_page(&front, Q, 40, page_at(40), 2);
+    driver_kick(&front, Q);
+    MUST(await(&front, Q, 1, PATIENCE) == 1 && is_good(&front, 40) && sync_disk(&front));
+    put_read_of(&front, 0, Q, 40, page_at(40) * 8);
+    driver_kick(&front, Q);
+    MUST(await(&front, Q, 1, PATIENCE) == 1 && is_good(&front, 40) && is_filled(buffer_of(&front, 40), page_at(40), 2));
+    // An error that may pass has READs wait, as of memory that the system lacks.
+    faults.read_error = ENOMEM;
+    faults.bad_page = page_at(50);
+    put_read_of(&front, 0, Q, 50, page_at(50) * 8);
+    driver_kick(&front, Q);
+    MUST(await(&front, Q, 1, NOTHING) == 0 && disks.disks[0].paging->reading.error == ENOMEM);
+    clear_faults(&front);
+    MUST(await(&front, Q, 1, PATIENCE) == 1 && is_good(&front, 50) && is_filled(buffer_of(&front, 50), page_at(50), 1));
     load_end(&front, &disks);
   }
 }

@@ -11,6 +11,7 @@ void test_backed_zeros(void);
 
 // A file that can't be read for a time: the commands that need it wait, and no others.
 void test_backed_unread(void);
+void test_backed_lost(void);
 
 // A file that can't be written, or synced, for a time: SYNCHRONIZE CACHE waits, and nothing is lost.
 void test_backed_unwritten(void);

@@ -224,7 +224,7 @@ def test_conventions(room):
 
 def test_documents(room):
     """The manual page and --help have the same words, and the page on the daemon has no other."""
-    words = r"--[a-z][a-z-]*|\b(?:grow|snapshot|detect-zeroes|write-cache|cache-size|direct|read-only|nbd)\b"
+    words = r"--[a-z][a-z-]*|\b(?:grow|snapshot|detect-zeroes|write-cache|cache-size|direct|read-only|nbd|rerror)\b"
     said = [set(re.findall(words, text.replace("\\-", "-"))) for text in (
         room.ends("--help", status=0),
         (DOCS / "vscsi-vhost-user.1").read_text().split(".SH OPTIONS")[1].split(".SH ")[0],
@@ -1545,7 +1545,7 @@ def test_nbd_errors(room):
     at, image = room.folder / "nbd", room.file("image", 64 * MIB)
     fails = {what: room.folder / f"fails-{what}" for what in ("pread", "pwrite", "zero")}
     words = [word for what, file in fails.items() for word in (f"error-{what}=EIO", f"error-{what}-rate=100%", f"error-{what}-file={file}")]
-    with nbdkit(at, "--filter=error", "file", image, *words), driven(room, "--disk", f"0:0={export_of(at)}", ends=0) as (run, front, log):
+    with nbdkit(at, "--filter=error", "file", image, *words), driven(room, "--disk", f"0:0={export_of(at)},rerror=stop", ends=0) as (run, front, log):
         fails["pread"].touch()
         front.read(8 * 3, 4096)
         wait_for(lambda: "can't be read, and is tried again: Input/output error" in log.read_text(), "a line")
