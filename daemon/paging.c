@@ -152,7 +152,10 @@ static void finish_ahead(struct paging *paging, struct device *device, const str
 
 static void finish_read(struct disk *disk, struct device *device, const struct transfer *transfer, int error) {
   struct paging *paging = disk->paging;
-  if (error && is_lost(disk, transfer, error)) return lose(paging, device, transfer->first, error);
+  if (error && is_lost(disk, transfer, error)) {
+    lose(paging, device, transfer->first, error);
+    return;
+  }
   for (unsigned i = 0; i < transfer->count; i++) {
     bool is_old = error || transfer->stale[i / 64] >> i % 64 & 1;
     hand_in(paging, device, transfer->first + i, transfer->pages[i], !is_old);
