@@ -550,7 +550,7 @@ void test_backed_anything(void) {
   for (unsigned number = 0; number < WAYS; number += 3) {
     struct disks disks;
     struct front front;
-    load_make(&disks, "128M", number % 2 ? ",write-cache=on,cache-size=33M,detect-zeroes=unmap" : cached);
+    load_make(&disks, "128M", number % 2 ? ",write-cache=on,cache-size=33M,rerror=stop,detect-zeroes=unmap" : stopping);
     memset(versions, 0, sizeof versions);
     step = number % 4 < 2 ? STEP : 1;
     load_begin(&front, &disks, number);
