@@ -224,20 +224,21 @@ void backend_settle(struct backend *backend) {
 }
 
 // Has pages read and written, and commands that wait go on as far as that helps. While reads are under way that isn't known: they are tried
-// again behind each. A command may wait for room that another had, so they are tried again while fewer wait.
+// again behind each, and where pages are handed in that were read ahead. A command may wait for room that another had, so they are tried
+// again while fewer wait.
 static enum ran give_pages(struct backend *backend, enum ran ran) {
   struct disks *disks = backend->disks;
   bool took = backend->took, helps = true;
-  paging_give(disks, &backend->device, took || backend->waits ? WAITS_PERHAPS : WAITS_NOT);
+  bool handed_in = paging_give(disks, &backend->device, took || backend->waits ? WAITS_PERHAPS : WAITS_NOT);
   backend->waits = true;
-  for (uint64_t before = UINT64_MAX; helps && ran == RAN && !paging_reads(disks);) {
+  for (uint64_t before = UINT64_MAX; ran == RAN && (handed_in || (helps && !paging_reads(disks)));) {
     uint64_t waiting = device_wake(&backend->device);
     backend->waits = waiting;
     if (!waiting) break;
     helps = waiting < before;
     before = waiting;
     ran = run(backend, NO_QUEUES, UINT64_MAX);
-    paging_give(disks, &backend->device, WAITS_SURELY);
+    handed_in = paging_give(disks, &backend->device, WAITS_SURELY);
   }
   // What was tried in vain isn't the guest's work.
   backend->took = took;

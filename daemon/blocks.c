@@ -39,7 +39,7 @@ bool blocks_load(struct disks *disks, char *why, size_t room) {
     struct vscsi_disk *store = &disks->stores[i];
     if (store_stands(store)) continue;
     bool has_file = disk->file >= 0;
-    if (disks->lost && !has_file) return snprintf(why, room, "a disk in memory was lost for want of memory"), false;
+    if (disks->lost && !has_file && !disk->server) return snprintf(why, room, "a disk in memory was lost for want of memory"), false;
     if (disk->is_backed ? store_make_backed(store, disk->blocks, caches_pages(disk))
                         : store_make(store, disk->blocks) && (!has_file || load(store, disk)))
       continue;
@@ -51,7 +51,7 @@ bool blocks_load(struct disks *disks, char *why, size_t room) {
 
 bool blocks_are_lost(const struct disks *disks) {
   for (size_t i = 0; disks->lost && i < disks->count; i++)
-    if (disks->disks[i].file < 0 && !store_stands(&disks->stores[i])) return true;
+    if (disks->disks[i].file < 0 && !disks->disks[i].server && !store_stands(&disks->stores[i])) return true;
   return false;
 }
 

@@ -3,17 +3,21 @@
 #include <stdio.h>
 #include <string.h>
 
+#include "server.h"
 #include "storage.h"
 
 // Blocks of a page, and of the memory that a backed disk has where no word says how much.
 enum { PAGE_BLOCKS = PAGE_BYTES / DEVICE_BLOCK, USUAL_BLOCKS = (64 << 20) / DEVICE_BLOCK };
 
-static const char *const words[] = {"write-cache=", "cache-size=", "direct="};
-enum { WRITE_CACHE, CACHE_SIZE, DIRECT, WORDS };
+static const char *const words[] = {"write-cache=", "cache-size=", "direct=", "rerror="};
+static const char *const values[] = {"on or off", "a size", "on or off", "report or stop"};
+enum { WRITE_CACHE, CACHE_SIZE, DIRECT, READ_ERROR, WORDS };
 
-// Takes on or off, once.
-static bool take_switch(const char *text, size_t length, bool *said, bool *is_on) {
-  bool on = length == 2 && !strncmp(text, "on", length), off = length == 3 && !strncmp(text, "off", length);
+static bool is_word(const char *text, size_t length, const char *word) { return length == strlen(word) && !strncmp(text, word, length); }
+
+// Takes one of two words, once.
+static bool take_one(const char *text, size_t length, const char *yes, const char *no, bool *said, bool *is_on) {
+  bool on = is_word(text, length, yes), off = is_word(text, length, no);
   if (*said || (!on && !off)) return false;
   *said = true;
   *is_on = on;
@@ -31,11 +35,12 @@ enum cached caches_take(struct disk *disk, const char *word, size_t length, char
   if (which == WORDS) return CACHED_NOT;
   const char *text = word + strlen(words[which]);
   size_t left = length - strlen(words[which]);
-  bool taken = which == WRITE_CACHE ? take_switch(text, left, &disk->has_cache, &disk->is_backed)
-               : which == DIRECT    ? take_switch(text, left, &disk->has_direct, &disk->is_direct)
-                                    : take_size(text, left, &disk->cache_blocks);
+  bool taken = which == WRITE_CACHE  ? take_one(text, left, "on", "off", &disk->has_cache, &disk->is_backed)
+               : which == DIRECT     ? take_one(text, left, "on", "off", &disk->has_direct, &disk->is_direct)
+               : which == READ_ERROR ? take_one(text, left, "stop", "report", &disk->has_read_error, &disk->stops_unread)
+                                     : take_size(text, left, &disk->cache_blocks);
   if (taken) return CACHED_WELL;
-  snprintf(why, room, "%s wants %s, once", words[which], which == CACHE_SIZE ? "a size" : "on or off");
+  snprintf(why, room, "%s wants %s, once", words[which], values[which]);
   return CACHED_WRONGLY;
 }
 
@@ -44,16 +49,23 @@ size_t caches_pages(const struct disk *disk) {
 }
 
 static const char *fault_of(const struct disk *disk) {
+  if (disk->uri && disk->path) return "nbd= stands in place of file=";
+  if (disk->uri && !server_is_built()) return "nbd=: this daemon is built without libnbd";
+  if (disk->uri && !disk->is_backed) return "nbd= wants write-cache=on";
+  if (disk->uri && disk->is_direct) return "direct=on wants file=PATH";
   if (!disk->is_backed && disk->cache_blocks) return "cache-size= wants write-cache=on";
+  if (!disk->is_backed && disk->has_read_error) return "rerror= wants write-cache=on";
   if (!disk->is_backed) return disk->is_direct ? "direct=on wants write-cache=on" : NULL;
   if (!storage_is_built()) return "write-cache=on: this daemon is built without liburing";
-  if (!disk->path) return "write-cache=on wants file=PATH";
+  if (!disk->path && !disk->uri) return "write-cache=on wants file=PATH or nbd=URI";
   if (!disk->wide) return "write-cache=on wants profile=wide";
   if (disk->read_only && !disk->is_protected) return "write-cache=on takes no snapshot";
   return caches_pages(disk) < VSCSI_LEAST_PAGES ? "cache-size= is 33M at least" : NULL;
 }
 
 bool caches_suit(struct disk *disk, char *why, size_t room) {
+  // A server's disk has a write cache without a word.
+  if (disk->uri && !disk->has_cache) disk->is_backed = true;
   const char *fault = fault_of(disk);
   if (fault) snprintf(why, room, "%s", fault);
   return !fault;

@@ -10,7 +10,8 @@ enum cached { CACHED_NOT, CACHED_WELL, CACHED_WRONGLY };
 // CACHED_WRONGLY, and says why, where its value isn't one, or it was there already.
 enum cached caches_take(struct disk *disk, const char *word, size_t length, char *why, size_t room);
 
-// Returns whether these words go with the others of the disk, and with how the daemon is built. Says why where they don't.
+// Returns whether these words go with the others of the disk, and with how the daemon is built. Says why where they don't. A disk on an NBD
+// server has a write cache behind this.
 bool caches_suit(struct disk *disk, char *why, size_t room);
 
 // Returns how many pages of a backed disk are in memory at most.

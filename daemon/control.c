@@ -65,22 +65,28 @@ static bool must_wait(const struct controlled *controlled) {
 // Adds what a backed disk did with its file.
 static void add_pages(json_t *told, const struct paging *paging) {
   if (!paging) return;
-  json_object_set_new(told, "pages-read", json_integer((json_int_t)paging->pages_read));
-  json_object_set_new(told, "pages-written", json_integer((json_int_t)paging->pages_written));
-  json_object_set_new(told, "flushes", json_integer((json_int_t)paging->syncs_done));
+  const struct paged *counts = &paging->counts;
+  const struct {
+    const char *name;
+    uint64_t count;
+  } all[] = {{"pages-read", counts->read},       {"pages-written", counts->written}, {"flushes", counts->syncs},
+             {"pages-asked", counts->asked},     {"pages-handed-in", counts->handed_in}, {"pages-ahead", counts->ahead},
+             {"pages-unread", counts->unread},   {"pages-given", counts->given},     {"pages-kept", counts->kept},
+             {"pages-failed", counts->failed}};
+  for (size_t i = 0; i < sizeof all / sizeof *all; i++) json_object_set_new(told, all[i].name, json_integer((json_int_t)all[i].count));
 }
 
 static json_t *stats_of(const struct controlled *controlled, size_t which) {
   const struct disk *disk = &controlled->disks->disks[which];
   const struct backend *backend = live(controlled);
   struct vscsi_counts counts = disk->counts;
-  int error = disk->error || !disk->paging ? disk->error : disk->paging->reading.error;
+  int error = paging_error(disk);
   char name[20];
   if (backend) backend_count(backend, which, &counts);
   snprintf(name, sizeof name, "%u:%u", disk->target, disk->lun);
   json_t *told = json_pack("{s:s,s:I,s:o,s:s?,s:I,s:I,s:I,s:I,s:I,s:I,s:I}", "disk", name, "bytes", (json_int_t)(disk->blocks * DEVICE_BLOCK),
-                   "file", text_of(disk->path), "error", error ? strerror(error) : NULL, "requests", (json_int_t)counts.left,
-                   "task-set-full", (json_int_t)counts.full, "good", (json_int_t)counts.good, "check-condition",
+                   "file", text_of(disk->path ? disk->path : disk->uri), "error", error ? strerror(error) : NULL, "requests",
+                   (json_int_t)counts.left, "task-set-full", (json_int_t)counts.full, "good", (json_int_t)counts.good, "check-condition",
                    (json_int_t)counts.check_conditions, "busy", (json_int_t)counts.busy, "data-out", (json_int_t)counts.data_out,
                    "data-in", (json_int_t)counts.data_in);
   add_pages(told, disk->paging);
@@ -116,10 +122,11 @@ static json_t *resize(const struct controlled *controlled, json_t *arguments) {
   struct disk *disk = &controlled->disks->disks[which];
   struct backend *backend = live(controlled);
   uint64_t blocks = (uint64_t)bytes / DEVICE_BLOCK;
-  bool is_kept = disk->file >= 0 && !disk->read_only, shrinks = blocks < disk->blocks;
+  bool is_kept = (disk->file >= 0 || disk->server) && !disk->read_only, shrinks = blocks < disk->blocks;
   if (disk->is_protected) return error("BadSize", "with read-only=on a disk has the size of its file");
   if (controlled->disks->moves && !controlled->disks->held) return error("NoDevice", "another daemon may have the file");
   if (!backend && !is_kept) return error("NoDevice", "what isn't kept on a file has another size only while a guest uses it");
+  if (disk->server) return error("File", "an NBD server's disk stays as long as it is");
   if (disk->is_direct && bytes % PAGE_BYTES) return error("BadSize", "with direct=on a size is a multiple of 4096 bytes");
   bool lacks = disk->backlog.count || (!backend && paging_is_left(disk));
   if (must_wait(controlled) || lacks) return error("Busy", "what the guest wrote isn't on the file yet");

@@ -11,6 +11,7 @@
 #include "log.h"
 #include "names.h"
 #include "paging.h"
+#include "server.h"
 #include "signals.h"
 
 // Takes a number and what ends it. The number is at most `most`.
@@ -63,12 +64,16 @@ static char *take_path(const char **at) {
 // Takes one word of a disk up to its end or to a comma. Returns false where there is no such word, or it is there already. Says why where
 // a name isn't one.
 static bool take_word(const char **at, struct disk *disk, char *why, size_t room) {
-  static const char file[] = "file=", punching[] = "detect-zeroes=unmap", narrow[] = "profile=narrow", wide[] = "profile=wide";
-  static const char protected[] = "read-only=on", writable[] = "read-only=off";
+  static const char file[] = "file=", nbd[] = "nbd=", punching[] = "detect-zeroes=unmap", narrow[] = "profile=narrow",
+                    wide[] = "profile=wide", protected[] = "read-only=on", writable[] = "read-only=off";
   size_t length = strcspn(*at, ",");
   if (!strncmp(*at, file, sizeof file - 1)) {
     *at += sizeof file - 1;
     return !disk->path && (disk->path = take_path(at));
+  }
+  if (!strncmp(*at, nbd, sizeof nbd - 1)) {
+    *at += sizeof nbd - 1;
+    return !disk->uri && (disk->uri = take_path(at));
   }
   enum named named = names_take(disk, *at, length, why, room);
   if (named == NAMED_WELL) *at += length;
@@ -109,8 +114,8 @@ static const char *protection_fault(const struct disk *disk) {
 static bool take_disk(struct disk *disk, const char *at, char *why, size_t room) {
   uint64_t target, lun;
   snprintf(why, room,
-           "%s: not T:L=SIZE[,file=PATH][,grow][,snapshot][,detect-zeroes=unmap][,write-cache=on][,cache-size=SIZE][,direct=on]"
-           "[,read-only=on][,profile=narrow|wide][,NAMES], or T:L=file=PATH[,..]",
+           "%s: not T:L=SIZE[,file=PATH|,nbd=URI][,grow][,snapshot][,detect-zeroes=unmap][,write-cache=on][,cache-size=SIZE][,direct=on]"
+           "[,rerror=stop][,read-only=on][,profile=narrow|wide][,NAMES], T:L=file=PATH[,..] or T:L=nbd=URI[,..]",
            at);
   if (!number(&at, 255, ':', &target) || !number(&at, 16383, '=', &lun)) return false;
   disk->target = (uint8_t)target;
@@ -125,7 +130,8 @@ static bool take_disk(struct disk *disk, const char *at, char *why, size_t room)
   const char *fault = disk->is_protected ? protection_fault(disk) : NULL;
   if (fault) return snprintf(why, room, "%s", fault), false;
   disk->read_only = disk->read_only || disk->is_protected;
-  if (!disk->path && (disk->read_only || disk->grows || !has_size)) return snprintf(why, room, "grow and snapshot want file=PATH"), false;
+  bool wants_path = disk->read_only || disk->grows || (!has_size && !disk->uri);
+  if (!disk->path && wants_path) return snprintf(why, room, "grow and snapshot want file=PATH"), false;
   if (disk->grows && (disk->read_only || !has_size)) return snprintf(why, room, "grow wants a size, and no snapshot"), false;
   return true;
 }
@@ -138,7 +144,7 @@ bool disks_add(struct disks *disks, const char *words, char *why, size_t room) {
     snprintf(why, room, "%s: there already, or one disk too many", words);
   }
   stands = stands && names_suit(disks, &disk, why, room) && caches_suit(&disk, why, room);
-  if (!stands) return free(disk.path), false;
+  if (!stands) return free(disk.path), free(disk.uri), false;
   size_t place = disks->count;
   for (const struct disk *it = disks->disks; place; place--)
     if (it[place - 1].target < disk.target || (it[place - 1].target == disk.target && it[place - 1].lun < disk.lun)) break;
@@ -156,6 +162,12 @@ bool disks_are_whole(const struct disks *disks) {
   return disks->count;
 }
 
+bool disks_connect(const struct disks *disks) {
+  for (size_t i = 0; i < disks->count; i++)
+    if (disks->disks[i].uri) return true;
+  return false;
+}
+
 bool disks_find(const struct disks *disks, const char *words, size_t *which) {
   uint64_t target, lun;
   if (!number(&words, 255, ':', &target) || !number(&words, 16383, '=', &lun)) return false;
@@ -169,7 +181,9 @@ static void close_disk(struct disks *disks, size_t which) {
   free(disks->disks[which].backlog.ranges);
   free(disks->disks[which].paging);
   store_drop(&disks->stores[which]);
+  server_close(disks->disks[which].server);
   free(disks->disks[which].path);
+  free(disks->disks[which].uri);
 }
 
 void disks_remove(struct disks *disks, size_t which) {

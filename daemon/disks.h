@@ -27,7 +27,9 @@ struct disk {
   uint8_t target;
   uint16_t lun;
   uint64_t blocks;  // 0 until its image is open, where the command line says no size
-  char *path;       // of its image; NULL: the disk is in memory alone
+  char *path;       // of its image, or NULL
+  char *uri;        // of the NBD server that has it, or NULL: with neither the disk is in memory alone
+  struct server *server;  // the connection to that, or NULL
   int file;         // below 0: there is no image, or it isn't open
   bool read_only;   // never written to that image
   bool has_access;  // its words say whether its guest may write it
@@ -47,6 +49,8 @@ struct disk {
   uint64_t cache_blocks;  // how many of them are in memory at most, or 0 where no word says that
   bool has_direct;  // its words say whether its file is read and written with no cache of the system's
   bool is_direct;   // it is
+  bool has_read_error;  // its words say what becomes of a command that needs what can't be read
+  bool stops_unread;    // it waits until that can be read; else it ends with MEDIUM ERROR
   struct paging *paging;  // of a backed disk, or NULL
   bool dirty;       // written since disk_sync
   int error;        // the error number by which the image can't be written now, or 0
@@ -70,9 +74,10 @@ struct disks {
   size_t rest_disks[DEVICE_MOST_UNITS], rest_count;
 };
 
-// Adds the disk of words T:L=SIZE[,file=PATH][,grow][,snapshot][,detect-zeroes=unmap][,write-cache=on|off][,cache-size=SIZE][,direct=on|off]
-// [,read-only=on|off][,profile=narrow|wide][,NAMES] or T:L=file=PATH[,..], in its place of the order. A comma of the path stands there twice. Opens nothing:
-// images_open does that. Returns false, and says why, where the words name no disk.
+// Adds the disk of words T:L=SIZE[,file=PATH|,nbd=URI][,grow][,snapshot][,detect-zeroes=unmap][,write-cache=on|off][,cache-size=SIZE]
+// [,direct=on|off][,rerror=report|stop][,read-only=on|off][,profile=narrow|wide][,NAMES], T:L=file=PATH[,..] or T:L=nbd=URI[,..], in its place of the order. A
+// comma of a path or a URI stands there twice. Opens nothing: images_open does that. Returns false, and says why, where the words name
+// no disk.
 bool disks_add(struct disks *disks, const char *words, char *why, size_t room);
 
 // Takes a size in bytes, with K, M, G or T behind it or none: whole blocks. `at` stands behind it then.
@@ -85,7 +90,10 @@ void disks_remove(struct disks *disks, size_t which);
 // Returns whether each target has a LUN 0, which the device asks for, and there is a disk.
 bool disks_are_whole(const struct disks *disks);
 
-// Closes all images, and lets go of the blocks.
+// Returns whether an NBD server has one of them.
+bool disks_connect(const struct disks *disks);
+
+// Closes all images and connections, and lets go of the blocks.
 void disks_close(struct disks *disks);
 
 // Reads whole blocks of a disk's file, or writes them there. No reading begins once a signal that ends the daemon has come. Zeros are left

@@ -13,6 +13,7 @@
 
 #include "blocks.h"
 #include "folders.h"
+#include "server.h"
 #include "storage.h"
 
 // Where QEMU's locks are (block/file-posix.c): who uses a permission has a byte of the first run locked for reading, and who doesn't
@@ -119,9 +120,23 @@ static bool open_image(struct disk *disk, bool is_locked_now, char *why, size_t 
   return measure(disk, why, room) && (!is_locked_now || lock_first(disk, why, room)) && fits(disk, why, room) && make_direct(disk, why, room);
 }
 
+// Connects to the server of a disk, and tests that its export is as long as the disk.
+static bool connect_disk(struct disk *disk, char *why, size_t room) {
+  disk->server = server_open(disk->uri, why, room);
+  if (!disk->server) return false;
+  disk->length = server_bytes(disk->server);
+  if (!disk->blocks) disk->blocks = disk->length / DEVICE_BLOCK;
+  if (disk->length == disk->blocks * DEVICE_BLOCK) return true;
+  snprintf(why, room, "%s: %s than the disk", disk->uri, disk->length < disk->blocks * DEVICE_BLOCK ? "shorter" : "longer");
+  return false;
+}
+
 bool images_open(struct disks *disks, char *why, size_t room) {
-  for (size_t i = 0; i < disks->count; i++)
-    if (disks->disks[i].path && !open_image(&disks->disks[i], !disks->moves, why, room)) return false;
+  for (size_t i = 0; i < disks->count; i++) {
+    struct disk *disk = &disks->disks[i];
+    if (disk->path && !open_image(disk, !disks->moves, why, room)) return false;
+    if (disk->uri && !connect_disk(disk, why, room)) return false;
+  }
   return true;
 }
 
@@ -164,6 +179,7 @@ bool image_take(const struct disks *disks, struct disk *disk, char *why, size_t 
 bool image_resize(struct disk *disk, uint64_t blocks, char *why, size_t room) {
   struct stat stat;
   uint64_t bytes = blocks * DEVICE_BLOCK;
+  if (disk->server) return snprintf(why, room, "%s: an NBD server's disk stays as long as it is", disk->uri), false;
   if (disk->file < 0 || disk->read_only) return true;
   if (disk->is_direct && bytes % PAGE_BYTES) return refuse(disk, "direct=on: no multiple of 4096 bytes", why, room);
   if (fstat(disk->file, &stat) || !measure(disk, why, room)) return refuse(disk, NULL, why, room);

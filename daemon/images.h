@@ -6,8 +6,9 @@
 
 #include "disks.h"
 
-// Opens and locks each image that is there, and tests its length. Makes and changes nothing. An image that isn't there is left to
-// images_make. Returns false, and says why, where one can't be had: it is missing, denied, in use, or has another length.
+// Opens and locks each image that is there, connects to each NBD server, and tests their lengths. Makes and changes nothing. An image that
+// isn't there is left to images_make. Returns false, and says why, where one can't be had: it is missing, denied, in use, or has another
+// length.
 //
 // Each image is locked by flock, and on the bytes by which QEMU and its tools lock theirs, so each refuses what the other writes.
 bool images_open(struct disks *disks, char *why, size_t room);

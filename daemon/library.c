@@ -114,6 +114,10 @@ void device_load_failed(struct device *device, uint8_t target, uint16_t lun, uin
   vscsi_live_load_failed(&device->vscsi, target, lun, page);
 }
 
+void device_lost(struct device *device, uint8_t target, uint16_t lun, uint64_t page) {
+  vscsi_live_lost(&device->vscsi, target, lun, page);
+}
+
 enum given device_give(struct device *device, uint8_t target, uint16_t lun, uint64_t *page, void *bytes) {
   bool found = false;
   enum vscsi_answer answer = vscsi_live_give(&device->vscsi, target, lun, page, bytes, &found);

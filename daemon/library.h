@@ -93,10 +93,11 @@ bool device_reset(struct device *device, uint8_t target, uint16_t lun);
 bool device_resize(struct device *device, uint8_t target, uint16_t lun, uint64_t blocks);
 
 // Of a unit with a backed disk: finds the next page that is to be read; hands one in, of which `bytes` has 4,096, or says that it doesn't
-// come. device_load returns false where memory was refused.
+// come, or can't be read. device_load returns false where memory was refused.
 bool device_wanted(struct device *device, uint8_t target, uint16_t lun, uint64_t *page);
 bool device_load(struct device *device, uint8_t target, uint16_t lun, uint64_t page, const void *bytes);
 void device_load_failed(struct device *device, uint8_t target, uint16_t lun, uint64_t page);
+void device_lost(struct device *device, uint8_t target, uint16_t lun, uint64_t page);
 
 // Finds the next page that is to be written, and copies its bytes out, if memory isn't refused; and says whether one that was given is kept.
 // device_written returns false where memory was refused.

@@ -139,7 +139,7 @@ void log_say(enum log_level level, const struct disk *disk, const char *format, 
     return;
   }
   begin_line(line);
-  if (disk) add(line, "disk %u:%u (%s): ", disk->target, disk->lun, disk->path ? disk->path : "in memory");
+  if (disk) add(line, "disk %u:%u (%s): ", disk->target, disk->lun, disk->path ? disk->path : disk->uri ? disk->uri : "in memory");
   va_start(list, format);
   add_list(line, format, list);
   va_end(list);

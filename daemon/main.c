@@ -54,12 +54,6 @@ static bool watch(int epoll, int fd, uint32_t what) {
   return fd >= 0 && !epoll_ctl(epoll, EPOLL_CTL_ADD, fd, &event);
 }
 
-// Watches a descriptor that isn't read.
-static bool watch_edges(int epoll, int fd, uint32_t what) {
-  struct epoll_event event = {.events = EPOLLIN | EPOLLET, .data.u32 = what};
-  return !epoll_ctl(epoll, EPOLL_CTL_ADD, fd, &event);
-}
-
 static void end_session(struct daemon *daemon, const char *why) {
   log_say(LOG_NOTE, NULL, "%s", why);
   session_end(&daemon->session);
@@ -207,10 +201,9 @@ static bool serve(struct daemon *daemon) {
 // Watches what somebody may connect to, and the storage of backed disks. A front end's own connection is its session's.
 static bool watch_all(struct daemon *daemon, char *why, size_t room) {
   const struct listener *listener = &daemon->listener, *operators = &daemon->operators;
-  int storage = paging_descriptor(&daemon->disks);
   bool watched = (listener->connected || watch(daemon->epoll, listener->fd, EVENT_LISTENER)) &&
                  (operators->fd < 0 || watch(daemon->epoll, operators->fd, EVENT_CONTROL)) &&
-                 (storage < 0 || watch_edges(daemon->epoll, storage, EVENT_STORAGE));
+                 paging_watch(&daemon->disks, daemon->epoll, EVENT_STORAGE);
   if (!watched) snprintf(why, room, "the socket can't be watched: %s", strerror(errno));
   return watched;
 }
@@ -220,7 +213,7 @@ static bool watch_all(struct daemon *daemon, char *why, size_t room) {
 static bool open_all(struct daemon *daemon, char *why, size_t room) {
   const struct options *options = &daemon->options;
   struct owner owner;
-  bool has_path = options->path;
+  bool has_path = options->path, connects = disks_connect(&daemon->disks);
   if (!sandbox_find(&owner, options->user, options->group, why, room)) return false;
   if (has_path ? !listener_can_bind(options->path, why, room) : !listener_take(&daemon->listener, options->fd, why, room)) return false;
   if (options->control && !listener_can_bind(options->control, why, room)) return false;
@@ -231,7 +224,7 @@ static bool open_all(struct daemon *daemon, char *why, size_t room) {
                 (!options->control || listener_bind(&daemon->operators, options->control, 0600, owner.user, owner.group, why, room)) &&
                 watch_all(daemon, why, room) && (names_keep(&daemon->disks, owner.user, owner.group), true) &&
                 sandbox_become(&owner, why, room) &&
-                (!options->limits || sandbox_limit(options->path, options->control, options->log, why, room));
+                (!options->limits || sandbox_limit(options->path, options->control, options->log, connects, why, room));
   if (stands) return true;
   names_undo(&daemon->disks);
   images_undo(&daemon->disks);

@@ -26,7 +26,9 @@ bool paging_is_there(const struct disks *disks) {
 static bool open_disk(struct disk *disk, char *why, size_t room) {
   struct stat stat;
   disk->paging = calloc(1, sizeof *disk->paging);
-  if (!disk->paging || fstat(disk->file, &stat)) return snprintf(why, room, "%s: %s", disk->path, strerror(errno)), false;
+  if (!disk->paging) return snprintf(why, room, "memory was refused"), false;
+  if (disk->server) return disk->paging->has_no_holes = !server_zeroes(disk->server), true;
+  if (fstat(disk->file, &stat)) return snprintf(why, room, "%s: %s", disk->path, strerror(errno)), false;
   disk->paging->is_device = S_ISBLK(stat.st_mode);
   return true;
 }
@@ -35,8 +37,11 @@ bool paging_open(struct disks *disks, char *why, size_t room) {
   if (!paging_is_there(disks)) return true;
   disks->storage = storage_make(why, room);
   bool stands = disks->storage;
-  for (size_t i = 0; stands && i < disks->count; i++)
-    if (disks->disks[i].is_backed) stands = open_disk(&disks->disks[i], why, room);
+  for (size_t i = 0; stands && i < disks->count; i++) {
+    if (!disks->disks[i].is_backed) continue;
+    stands = open_disk(&disks->disks[i], why, room);
+    if (disks->disks[i].server) storage_add(disks->storage, disks->disks[i].server);
+  }
   return stands;
 }
 
@@ -44,6 +49,7 @@ void paging_close(struct disks *disks) {
   if (!disks->storage) return;
   paging_end_rest(disks);
   for (size_t i = 0; i < disks->count; i++) {
+    if (disks->disks[i].paging) ahead_end(&disks->disks[i].paging->ahead);
     free(disks->disks[i].paging);
     disks->disks[i].paging = NULL;
   }
@@ -51,7 +57,10 @@ void paging_close(struct disks *disks) {
   disks->storage = NULL;
 }
 
-int paging_descriptor(const struct disks *disks) { return disks->storage ? storage_descriptor(disks->storage) : -1; }
+bool paging_watch(struct disks *disks, int epoll, uint32_t event) { return !disks->storage || storage_watch(disks->storage, epoll, event); }
+
+// Returns whether a disk's server can't be reached now. Nothing is begun meanwhile, and nothing has to be put off.
+static bool is_away(const struct disk *disk) { return disk->server && !server_is_there(disk->server); }
 
 void paging_begin(struct disks *disks) {
   for (size_t i = 0; i < disks->count; i++) {
@@ -70,14 +79,29 @@ static RARE void put_reads_off(struct trouble *reading, uint64_t page, int error
   // Others that were under way with the one that failed first.
   if (reading->error && clock_now() < reading->due) return;
   reading->error = error;
+  reading->is_lost = false;
   reading->page = page;
   reading->pause = longer(reading->pause);
   reading->due = clock_now() + reading->pause;
 }
 
+// Whether a page that was read by itself is lost: the storage says so of the page, and of nothing else that may pass.
+static RARE bool is_lost(const struct disk *disk, const struct transfer *transfer, int error) {
+  bool is_stale = transfer->stale[0] & 1;
+  if (transfer->count != 1 || is_stale || disk->stops_unread || is_away(disk)) return false;
+  return error == EIO || error == ENODATA || error == EILSEQ || error == EREMOTEIO;
+}
+
+// Has the device end what needs the page. Others are read by themselves for a while, so that an error is one page's.
+static RARE void lose(struct paging *paging, struct device *device, uint64_t page, int error) {
+  device_lost(device, paging->target, paging->lun, page);
+  paging->counts.unread++;
+  paging->reading = (struct trouble){.error = error, .is_lost = true, .page = page, .due = clock_now(), .told = paging->reading.told};
+}
+
 static RARE void put_writes_off(struct disk *disk, int error) {
   disk->paging->fails = true;
-  if (disk->error && clock_now() < disk->due) return;
+  if (is_away(disk) || (disk->error && clock_now() < disk->due)) return;
   disk->error = error;
   disk->pause = longer(disk->pause);
   disk->due = clock_now() + disk->pause;
@@ -89,7 +113,7 @@ static void note_run(struct paging *paging, const struct transfer *transfer, enu
   if (state != RUN_WRITTEN) return;
   if (!paging->pages) paging->since = clock_now();
   paging->pages += transfer->count;
-  paging->pages_written += transfer->count;
+  paging->counts.written += transfer->count;
 }
 
 static void change_runs(struct paging *paging, enum run_state from, enum run_state to) {
@@ -104,18 +128,38 @@ static RARE void note_read(struct trouble *reading, const struct transfer *trans
   if (has_page || clock_now() >= reading->due + COMPLAINT) *reading = (struct trouble){.told = reading->told};
 }
 
+// Hands in a page that the device wants, or says that it doesn't come.
+static void hand_in(struct paging *paging, struct device *device, uint64_t page, const uint8_t *bytes, bool comes) {
+  bool loaded = comes && device_load(device, paging->target, paging->lun, page, bytes);
+  if (!loaded) device_load_failed(device, paging->target, paging->lun, page);
+  paging->starves = paging->starves || (comes && !loaded);
+  paging->counts.handed_in += loaded;
+  paging->counts.unread += !loaded;
+}
+
+// Hands in what is wanted of pages that were read ahead. Where they can't be read they are wanted once more, and read by themselves.
+static void finish_ahead(struct paging *paging, struct device *device, const struct transfer *transfer, int error) {
+  struct chunk *chunk = ahead_find(&paging->ahead, transfer->first);
+  for (uint64_t left = chunk->wanted; left; left &= left - 1) {
+    unsigned i = (unsigned)__builtin_ctzll(left);
+    bool comes = !error && chunk->stands >> i & 1;
+    hand_in(paging, device, chunk->first + i, transfer->pages[i], comes);
+    paging->counts.ahead += comes;
+  }
+  paging->counts.read += error ? 0 : transfer->count;
+  ahead_finish(&paging->ahead, chunk, !error);
+}
+
 static void finish_read(struct disk *disk, struct device *device, const struct transfer *transfer, int error) {
   struct paging *paging = disk->paging;
+  if (error && is_lost(disk, transfer, error)) return lose(paging, device, transfer->first, error);
   for (unsigned i = 0; i < transfer->count; i++) {
-    uint64_t page = transfer->first + i;
-    bool is_old = error || transfer->stale >> i & 1;
-    bool loaded = !is_old && device_load(device, paging->target, paging->lun, page, transfer->pages[i]);
-    if (!loaded) device_load_failed(device, paging->target, paging->lun, page);
-    paging->starves = paging->starves || (!is_old && !loaded);
-    paging->pages_read += loaded;
+    bool is_old = error || transfer->stale[i / 64] >> i % 64 & 1;
+    hand_in(paging, device, transfer->first + i, transfer->pages[i], !is_old);
   }
-  if (error) put_reads_off(&paging->reading, transfer->first, error);
-  else if (paging->reading.error) note_read(&paging->reading, transfer);
+  paging->counts.read += error ? 0 : transfer->count;
+  if (error && !is_away(disk)) put_reads_off(&paging->reading, transfer->first, error);
+  else if (paging->reading.error && !error) note_read(&paging->reading, transfer);
 }
 
 // Where a sync fails the system may have forgotten all that was written before, and won't say so again.
@@ -123,7 +167,7 @@ static void finish_sync(struct disks *disks, struct disk *disk, int error) {
   struct paging *paging = disk->paging;
   paging->syncs = false;
   change_runs(paging, RUN_COVERED, error ? RUN_FAILED : RUN_KEPT);
-  paging->syncs_done += !error;
+  paging->counts.syncs += !error;
   if (!error) {
     if (!paging->fails && !paging->writes) disk->error = 0, disk->pause = 0;
     return;
@@ -145,6 +189,7 @@ static bool finish(struct disks *disks, struct device *device, struct transfer *
   }
   paging->transfers--;
   if (transfer->kind == TRANSFER_READ) return finish_read(disk, device, transfer, error), true;
+  if (transfer->kind == TRANSFER_AHEAD) return finish_ahead(paging, device, transfer, error), true;
   if (transfer->kind == TRANSFER_SYNC) return finish_sync(disks, disk, error), true;
   paging->writes--;
   note_run(paging, transfer, error || transfer->doubtful ? RUN_FAILED : RUN_WRITTEN);
@@ -154,8 +199,10 @@ static bool finish(struct disks *disks, struct device *device, struct transfer *
 
 // Tells the device of the pages of a run. Returns false where memory was refused: the run has those that are left then.
 static bool say_run(struct paging *paging, struct device *device, struct run *run) {
-  for (; run->count; run->first++, run->count--)
+  for (; run->count; run->first++, run->count--) {
     if (!device_written(device, paging->target, paging->lun, run->first, run->state == RUN_KEPT)) return !(paging->starves = true);
+    ++*(run->state == RUN_KEPT ? &paging->counts.kept : &paging->counts.failed);
+  }
   return true;
 }
 
@@ -170,6 +217,15 @@ static void say_runs(struct paging *paging, struct device *device) {
   paging->run_count = left;
 }
 
+// Finds whether a disk's server was lost since that was last looked at. No flush of the next connection keeps what went over that one.
+static void note_losses(struct disk *disk) {
+  struct paging *paging = disk->paging;
+  if (!disk->server || paging->losses == server_losses(disk->server)) return;
+  paging->losses = server_losses(disk->server);
+  change_runs(paging, RUN_WRITTEN, RUN_FAILED);
+  ahead_drop(&paging->ahead, 0, UINT64_MAX);
+}
+
 bool paging_take(struct disks *disks, struct device *device) {
   struct transfer *transfer;
   bool came = false;
@@ -178,45 +234,54 @@ bool paging_take(struct disks *disks, struct device *device) {
     came = true;
     if (finish(disks, device, transfer, error)) storage_put(disks->storage, transfer);
   }
-  for (size_t i = 0; came && i < disks->count; i++)
-    if (disks->disks[i].paging) say_runs(disks->disks[i].paging, device);
+  for (size_t i = 0; came && i < disks->count; i++) {
+    if (!disks->disks[i].paging) continue;
+    note_losses(&disks->disks[i]);
+    say_runs(disks->disks[i].paging, device);
+  }
   return came;
 }
 
 // Pages that go into transfers as they come: those that follow one another into one.
 struct gathering {
-  struct storage *storage;
-  struct disk *disk;
-  size_t which;
+  struct disks *disks;
+  size_t which;  // of them
   unsigned most;  // of a transfer
   struct transfer *now, *spare;
 };
 
-static void begin_transfer(struct gathering *gathering, struct transfer *transfer) {
-  struct paging *paging = gathering->disk->paging;
-  transfer->disk = gathering->which;
-  transfer->file = gathering->disk->file;
-  paging->transfers++;
-  paging->writes += transfer->kind == TRANSFER_WRITE || transfer->kind == TRANSFER_HOLE;
-  storage_begin(gathering->storage, transfer, bytes_of(gathering->disk));
+static void begin_transfer(struct disks *disks, size_t which, struct transfer *transfer) {
+  struct disk *disk = &disks->disks[which];
+  transfer->disk = which;
+  transfer->file = disk->file;
+  transfer->server = disk->server;
+  disk->paging->transfers++;
+  disk->paging->writes += transfer->kind == TRANSFER_WRITE || transfer->kind == TRANSFER_HOLE;
+  storage_begin(disks->storage, transfer, bytes_of(disk));
 }
 
 // Has room for one more page, wherever it is. Returns false where there is none: no page is asked for then.
 static bool has_room(struct gathering *gathering, enum transfer_kind kind) {
   struct transfer *now = gathering->now;
   if (now && now->count == gathering->most) {
-    begin_transfer(gathering, now);
+    begin_transfer(gathering->disks, gathering->which, now);
     gathering->now = NULL;
   }
-  if (!gathering->now) gathering->now = storage_take(gathering->storage, kind);
-  if (!gathering->spare) gathering->spare = storage_take(gathering->storage, kind);
+  if (!gathering->now) gathering->now = storage_take(gathering->disks->storage, kind);
+  if (!gathering->spare) gathering->spare = storage_take(gathering->disks->storage, kind);
   return gathering->now && gathering->spare;
+}
+
+// Returns the buffer of the page that came last, or NULL.
+static const uint8_t *last_of(const struct gathering *gathering) {
+  const struct transfer *now = gathering->now;
+  return now->count ? now->pages[now->count - 1] : NULL;
 }
 
 static void add_page(struct gathering *gathering, enum transfer_kind kind, uint64_t page, uint8_t *buffer) {
   struct transfer *now = gathering->now;
   if (now->count && (now->kind != kind || page != now->first + now->count)) {
-    begin_transfer(gathering, now);
+    begin_transfer(gathering->disks, gathering->which, now);
     now = gathering->now = gathering->spare;
     gathering->spare = NULL;
   }
@@ -226,35 +291,75 @@ static void add_page(struct gathering *gathering, enum transfer_kind kind, uint6
 }
 
 static void end_gathering(struct gathering *gathering) {
-  if (gathering->now && gathering->now->count) begin_transfer(gathering, gathering->now);
-  else if (gathering->now) storage_put(gathering->storage, gathering->now);
-  if (gathering->spare) storage_put(gathering->storage, gathering->spare);
+  if (gathering->now && gathering->now->count) begin_transfer(gathering->disks, gathering->which, gathering->now);
+  else if (gathering->now) storage_put(gathering->disks->storage, gathering->now);
+  if (gathering->spare) storage_put(gathering->disks->storage, gathering->spare);
 }
 
-// Begins to read the pages that commands of a disk want.
-static void begin_reads(struct disks *disks, size_t which, struct device *device) {
+// Leaves out of a chunk whose read begins each page that was given to be written, and of which the device wasn't told yet whether it is
+// kept.
+static void drop_given(struct disks *disks, size_t which) {
+  struct paging *paging = disks->disks[which].paging;
+  for (size_t i = 0; i < paging->run_count; i++) ahead_drop(&paging->ahead, paging->runs[i].first, paging->runs[i].count);
+  for (enum transfer_kind kind = TRANSFER_WRITE; kind <= TRANSFER_HOLE; kind++)
+    for (struct transfer *it = storage_under_way(disks->storage, kind); it; it = it->next)
+      if (it->disk == which) ahead_drop(&paging->ahead, it->first, it->count);
+}
+
+// Begins to read the pages ahead that are wanted next, perhaps.
+static void read_ahead(struct disks *disks, size_t which) {
+  struct disk *disk = &disks->disks[which];
+  struct ahead *ahead = &disk->paging->ahead;
+  for (struct chunk *chunk; !disk->paging->reading.error && (chunk = ahead_begin(ahead, bytes_of(disk) / PAGE_BYTES));) {
+    struct transfer *transfer = storage_take(disks->storage, TRANSFER_AHEAD);
+    if (!transfer) {
+      ahead_finish(ahead, chunk, false);
+      return;
+    }
+    drop_given(disks, which);
+    transfer->first = chunk->first;
+    transfer->count = chunk->count;
+    for (size_t i = 0; i < chunk->count; i++) transfer->pages[i] = chunk->bytes + i * PAGE_BYTES;
+    begin_transfer(disks, which, transfer);
+  }
+}
+
+// Begins to read the pages that commands of a disk want, and hands in those that were read ahead. Returns whether there was one.
+static bool begin_reads(struct disks *disks, size_t which, struct device *device) {
   struct disk *disk = &disks->disks[which];
   struct paging *paging = disk->paging;
+  bool handed_in = false, comes;
   // Beside one that can't be read others may be.
-  struct gathering gathering = {disks->storage, disk, which, paging->reading.error ? 1 : MOST_TRANSFERRED, NULL, NULL};
-  if (paging->reading.error && clock_now() < paging->reading.due) return;
+  struct gathering gathering = {disks, which, paging->reading.error ? 1 : MOST_TRANSFERRED, NULL, NULL};
+  if (is_away(disk) || (paging->reading.error && clock_now() < paging->reading.due)) return false;
   while (has_room(&gathering, TRANSFER_READ)) {
-    uint8_t *buffer = storage_buffer(disks->storage, TRANSFER_READ);
+    uint8_t *buffer = storage_buffer(disks->storage, TRANSFER_READ, last_of(&gathering));
     uint64_t page;
     if (!buffer) break;
     if (!device_wanted(device, paging->target, paging->lun, &page)) {
       storage_put_buffer(disks->storage, buffer, TRANSFER_READ);
       break;
     }
-    add_page(&gathering, TRANSFER_READ, page, buffer);
+    const uint8_t *bytes = ahead_take(&paging->ahead, page, &comes);
+    paging->counts.asked++;
+    if (bytes || comes) storage_put_buffer(disks->storage, buffer, TRANSFER_READ);
+    else add_page(&gathering, TRANSFER_READ, page, buffer);
+    if (!bytes) continue;
+    hand_in(paging, device, page, bytes, true);
+    paging->counts.ahead++;
+    handed_in = true;
   }
   end_gathering(&gathering);
+  read_ahead(disks, which);
+  return handed_in;
 }
 
-// What is being read of a page that is written now may be older.
+// What is being read of a page that is written now may be older, and what was read ahead is.
 static void note_stale(struct disks *disks, size_t which, uint64_t page) {
+  ahead_drop(&disks->disks[which].paging->ahead, page, 1);
   for (struct transfer *it = storage_under_way(disks->storage, TRANSFER_READ); it; it = it->next)
-    if (it->disk == which && page >= it->first && page - it->first < it->count) it->stale |= UINT64_C(1) << (page - it->first);
+    if (it->disk == which && page >= it->first && page - it->first < it->count)
+      it->stale[(page - it->first) / 64] |= UINT64_C(1) << (page - it->first) % 64;
 }
 
 static bool is_zeros(const uint8_t *page) { return !page[0] && !memcmp(page, page + 1, PAGE_BYTES - 1); }
@@ -263,13 +368,15 @@ static bool is_zeros(const uint8_t *page) { return !page[0] && !memcmp(page, pag
 static void begin_writes(struct disks *disks, size_t which, struct device *device) {
   struct disk *disk = &disks->disks[which];
   struct paging *paging = disk->paging;
-  struct gathering gathering = {disks->storage, disk, which, disk->error ? 1 : MOST_TRANSFERRED, NULL, NULL};
+  struct gathering gathering = {disks, which, disk->error ? 1 : MOST_TRANSFERRED, NULL, NULL};
   bool punches = disk->punches && !paging->is_device && !paging->has_no_holes;
-  if (disk->error && clock_now() < disk->due) return;
+  if (is_away(disk) || (disk->error && clock_now() < disk->due)) return;
   paging->fails = false;
   // Each transfer that is begun here takes a run, and so may those that were gathered.
   while (paging->run_count + paging->writes + 2 <= MOST_RUNS && has_room(&gathering, TRANSFER_WRITE)) {
-    uint8_t *buffer = storage_buffer(disks->storage, TRANSFER_WRITE);
+    // A hole has no buffers.
+    const uint8_t *other = gathering.now->kind == TRANSFER_WRITE ? last_of(&gathering) : NULL;
+    uint8_t *buffer = storage_buffer(disks->storage, TRANSFER_WRITE, other);
     uint64_t page;
     if (!buffer) break;
     enum given given = device_give(device, paging->target, paging->lun, &page, buffer);
@@ -278,6 +385,7 @@ static void begin_writes(struct disks *disks, size_t which, struct device *devic
     if (given != GIVEN_PAGE || is_hole) storage_put_buffer(disks->storage, buffer, TRANSFER_WRITE);
     if (given != GIVEN_PAGE) break;
     note_stale(disks, which, page);
+    paging->counts.given++;
     add_page(&gathering, is_hole ? TRANSFER_HOLE : TRANSFER_WRITE, page, buffer);
   }
   end_gathering(&gathering);
@@ -285,10 +393,12 @@ static void begin_writes(struct disks *disks, size_t which, struct device *devic
 
 static bool begin_sync(struct disks *disks, size_t which) {
   struct disk *disk = &disks->disks[which];
-  struct transfer *transfer = disk->paging->pages && !disk->paging->syncs ? storage_take(disks->storage, TRANSFER_SYNC) : NULL;
+  bool is_wanted = disk->paging->pages && !disk->paging->syncs && !is_away(disk);
+  struct transfer *transfer = is_wanted ? storage_take(disks->storage, TRANSFER_SYNC) : NULL;
   if (!transfer) return false;
   transfer->disk = which;
   transfer->file = disk->file;
+  transfer->server = disk->server;
   transfer->first = 0;
   change_runs(disk->paging, RUN_WRITTEN, RUN_COVERED);
   disk->paging->syncs = true;
@@ -304,18 +414,18 @@ static bool is_sync_due(const struct disk *disk, enum wait waits) {
   uint64_t now = clock_now(), age = now - paging->since;
   if (disk->error && now < disk->due) return false;
   if (paging->pages >= MANY_PAGES || paging->run_count >= MOST_RUNS / 2 || age >= LAZY) return true;
-  return paging->transfers || waits == WAITS_PERHAPS ? age >= HASTY : waits == WAITS_SURELY;
+  return paging->transfers > paging->ahead.under_way || waits == WAITS_PERHAPS ? age >= HASTY : waits == WAITS_SURELY;
 }
 
 // Returns whether something of a disk is to be looked at though nothing of it is over by then.
 static bool is_put_off(const struct disk *disk) {
   const struct paging *paging = disk->paging;
-  bool waits = (paging->pages && !paging->syncs) || paging->starves;
+  bool waits = (paging->pages && !paging->syncs) || paging->starves || is_away(disk);
   return waits || (disk->error && clock_now() < disk->due) || (paging->reading.error && clock_now() < paging->reading.due);
 }
 
-void paging_give(struct disks *disks, struct device *device, enum wait waits) {
-  bool passes = false;
+bool paging_give(struct disks *disks, struct device *device, enum wait waits) {
+  bool passes = false, handed_in = false;
   // Each is the first one some time: the last ones may find no transfer left.
   disks->turn = (disks->turn + 1) % disks->count;
   for (size_t n = 0; n < disks->count; n++) {
@@ -325,15 +435,20 @@ void paging_give(struct disks *disks, struct device *device, enum wait waits) {
     paging->starves = false;
     if (paging->run_count) say_runs(paging, device);
     begin_writes(disks, i, device);
-    begin_reads(disks, i, device);
+    handed_in = begin_reads(disks, i, device) || handed_in;
     if (is_sync_due(&disks->disks[i], waits)) begin_sync(disks, i);
     passes = passes || is_put_off(&disks->disks[i]);
   }
   if (passes) storage_pass(disks->storage);
   storage_send(disks->storage);
+  return handed_in;
 }
 
-bool paging_reads(const struct disks *disks) { return storage_under_way(disks->storage, TRANSFER_READ); }
+bool paging_reads(const struct disks *disks) {
+  for (size_t i = 0; i < disks->count; i++)
+    if (disks->disks[i].paging && ahead_is_wanted(&disks->disks[i].paging->ahead)) return true;
+  return storage_under_way(disks->storage, TRANSFER_READ);
+}
 
 bool paging_is_under_way(const struct disks *disks) {
   for (size_t i = 0; i < disks->count; i++)
@@ -349,11 +464,13 @@ void paging_settle(struct disks *disks, struct device *device) {
       if (disks->disks[i].paging) begin_sync(disks, i);
     for (storage_send(disks->storage); paging_is_under_way(disks); paging_take(disks, device)) storage_wait(disks->storage, LAST);
   }
+  for (size_t i = 0; i < disks->count; i++)
+    if (disks->disks[i].paging) ahead_forget(&disks->disks[i].paging->ahead);
 }
 
 // Finds whether memory has something of a disk that its file lacks.
 static bool find_left(struct disks *disks, struct paging *paging, struct device *device) {
-  uint8_t *buffer = storage_buffer(disks->storage, TRANSFER_WRITE);
+  uint8_t *buffer = storage_buffer(disks->storage, TRANSFER_WRITE, NULL);
   uint64_t page;
   enum given given = buffer ? device_give(device, paging->target, paging->lun, &page, buffer) : GIVEN_REFUSED;
   if (buffer) storage_put_buffer(disks->storage, buffer, TRANSFER_WRITE);
@@ -376,7 +493,8 @@ static RARE void tell(struct disk *disk) {
   uint64_t now = clock_now();
   bool is_due = !reading->told || now - reading->told >= COMPLAINT;
   if (reading->error && is_due) {
-    log_say(LOG_ERROR, disk, "can't be read, and is tried again: %s", strerror(reading->error));
+    log_say(LOG_ERROR, disk, reading->is_lost ? "can't be read, which its guest is told: %s" : "can't be read, and is tried again: %s",
+            strerror(reading->error));
     reading->told = now;
   } else if (reading->told && !reading->error) {
     log_say(LOG_ERROR, disk, "can be read again");
@@ -384,11 +502,31 @@ static RARE void tell(struct disk *disk) {
   }
 }
 
+// Says of a server that it is gone, each time, and that it is there again.
+static void tell_losses(struct disk *disk) {
+  struct paging *paging = disk->paging;
+  if (paging->told_losses != server_losses(disk->server)) {
+    log_say(LOG_ERROR, disk, "the NBD server is gone, and is tried again: %s", server_fault(disk->server));
+    paging->told_losses = server_losses(disk->server);
+    paging->told_away = true;
+  }
+  if (!paging->told_away || is_away(disk)) return;
+  log_say(LOG_ERROR, disk, "the NBD server is there again");
+  paging->told_away = false;
+}
+
 void paging_tell(struct disks *disks) {
   for (size_t i = 0; i < disks->count; i++) {
     const struct paging *paging = disks->disks[i].paging;
-    if (paging && (paging->reading.error || paging->reading.told)) tell(&disks->disks[i]);
+    if (!paging) continue;
+    if (paging->reading.error || paging->reading.told) tell(&disks->disks[i]);
+    if (disks->disks[i].server) tell_losses(&disks->disks[i]);
   }
+}
+
+int paging_error(const struct disk *disk) {
+  if (!disk->paging || disk->error) return disk->error;
+  return is_away(disk) ? ENOTCONN : disk->paging->reading.error;
 }
 
 bool paging_is_left(const struct disk *disk) { return disk->paging && disk->paging->is_left; }
@@ -453,7 +591,7 @@ bool paging_end_rest(struct disks *disks) {
 // Returns whether a disk's file has all, behind paging_give.
 static bool is_written(const struct disk *disk) {
   const struct paging *paging = disk->paging;
-  return !paging->transfers && !paging->run_count && !paging->starves && !(disk->error && clock_now() < disk->due);
+  return !paging->transfers && !paging->run_count && !paging->starves && !is_away(disk) && !(disk->error && clock_now() < disk->due);
 }
 
 bool paging_write_rest(struct disks *disks) {
@@ -490,9 +628,11 @@ bool paging_finish(struct disks *disks, char *why, size_t room) {
   paging_end_rest(disks);
   for (size_t i = 0; i < disks->count; i++) {
     const struct disk *disk = &disks->disks[i];
-    const char *cause = disk->error ? strerror(disk->error) : "memory was refused";
+    const char *cause = paging_error(disk) ? strerror(paging_error(disk)) : "memory was refused";
+    const char *place = disk->path ? disk->path : disk->uri;
     if (!paging_is_left(disk)) continue;
-    snprintf(why, room, "disk %u:%u: %s: WRITEs behind the last SYNCHRONIZE CACHE aren't all kept: %s", disk->target, disk->lun, disk->path, cause);
+    snprintf(why, room, "disk %u:%u: %s: WRITEs behind the last SYNCHRONIZE CACHE aren't all kept: %s", disk->target, disk->lun, place,
+             cause);
     return false;
   }
   return true;

@@ -1,4 +1,5 @@
-// The pages of backed disks, between their files and the device: read as commands want them, and written as the guest changes them.
+// The pages of backed disks, between their files or NBD servers and the device: read as commands want them, and written as the guest
+// changes them.
 //
 // A disk outlives its device, and keeps the pages in memory that its file lacks. So where no front end has a device, one of the daemon's own
 // gives them. Pages that were written stand on the file for sure behind a sync, of which one covers many. Where it fails they are written
@@ -6,13 +7,15 @@
 #ifndef DAEMON_PAGING_H
 #define DAEMON_PAGING_H
 
+#include "ahead.h"
 #include "disks.h"
 #include "library.h"
 
-// Of a file that couldn't be read and is tried again: the error number, or 0, and the page; milliseconds between two tries and the time of
-// the next; and when that was last said, or 0.
+// Of a file that couldn't be read: the error number, or 0, and the page; whether the device was told that the page is lost, or it is tried
+// again; milliseconds between two tries and the time of the next; and when that was last said, or 0.
 struct trouble {
   int error;
+  bool is_lost;
   unsigned pause;
   uint64_t page, due, told;
 };
@@ -27,11 +30,21 @@ struct run {
 
 enum { MOST_RUNS = 4096 };
 
+// What was done with a disk's pages: how many commands wanted; of these, how many were handed in, how many of them read ahead, and how many
+// couldn't be; how many were given to be written, how many of them stand there for sure, and how many have to be given once more; and how
+// often that was made sure, and pages read and written.
+struct paged {
+  uint64_t asked, handed_in, ahead, unread, given, kept, failed, syncs, read, written;
+};
+
 struct paging {
   uint8_t target;          // by which the device knows the disk, and
   uint16_t lun;
   bool is_left;            // memory may have pages that the file lacks
   bool is_device;          // the file is a block device
+  unsigned losses;         // of connections to its server, behind which what was written was given up
+  unsigned told_losses;    // and of which it was said
+  bool told_away;          // and that there is none
   bool has_no_holes;       // it makes none
   bool fails;              // a write failed since writes were last begun anew
   bool starves;            // memory was refused, and is asked for again
@@ -41,7 +54,8 @@ struct paging {
   size_t run_count, writes;  // of transfers that write, each of which needs a run
   uint64_t pages, since;   // how many are RUN_WRITTEN, and since when the first is
   struct trouble reading;  // that of writing is the disk's own
-  uint64_t pages_read, pages_written, syncs_done;
+  struct ahead ahead;
+  struct paged counts;
 };
 
 // Returns whether a disk is backed.
@@ -52,8 +66,8 @@ bool paging_is_there(const struct disks *disks);
 bool paging_open(struct disks *disks, char *why, size_t room);
 void paging_close(struct disks *disks);
 
-// Returns the descriptor that tells, by edges, that something is over, or -1.
-int paging_descriptor(const struct disks *disks);
+// Has an epoll tell this event, by edges, when something is over. Returns false where it can't be.
+bool paging_watch(struct disks *disks, int epoll, uint32_t event);
 
 // Has these disks be those of a device that was made of them.
 void paging_begin(struct disks *disks);
@@ -64,8 +78,9 @@ bool paging_take(struct disks *disks, struct device *device);
 // Whether commands wait for a sync: none does, or one may, or one does, unless it waits for something that is put off.
 enum wait { WAITS_NOT, WAITS_PERHAPS, WAITS_SURELY };
 
-// Begins what there is to read and to write, and syncs where it is time for that.
-void paging_give(struct disks *disks, struct device *device, enum wait waits);
+// Begins what there is to read and to write, and syncs where it is time for that. Returns whether pages were handed in that had been read
+// ahead, so that commands that wait are to be tried again.
+bool paging_give(struct disks *disks, struct device *device, enum wait waits);
 
 // Returns whether something is under way, or a read is. Then paging_take is called again.
 bool paging_reads(const struct disks *disks);
@@ -85,6 +100,9 @@ void paging_lose(struct disk *disk);
 
 // Says once a minute of each file that can't be read why, and once that it can be again.
 void paging_tell(struct disks *disks);
+
+// Returns the error number by which a disk can't be read or written now, or 0.
+int paging_error(const struct disk *disk);
 
 // Returns whether memory may have something that the file of a disk, or of any, lacks.
 bool paging_is_left(const struct disk *disk);

@@ -19,6 +19,7 @@
 #include <seccomp.h>
 #include <linux/fs.h>
 #include <sys/mman.h>
+#include <sys/socket.h>
 #endif
 
 // Open files: each disk's, three a queue, a region of memory's each, and what came with a message.
@@ -148,12 +149,24 @@ static int allow_some(scmp_filter_ctx filter, bool unlinks, bool opens) {
   return failed;
 }
 
+// Allows what it takes to connect to a server: by these families alone.
+static int allow_connections(scmp_filter_ctx filter) {
+  static const int families[] = {AF_UNIX, AF_INET, AF_INET6},
+                   more[] = {SCMP_SYS(connect), SCMP_SYS(recvfrom), SCMP_SYS(getsockopt), SCMP_SYS(setsockopt), SCMP_SYS(shutdown)};
+  int failed = 0;
+  for (size_t i = 0; !failed && i < sizeof families / sizeof *families; i++)
+    failed = allow(filter, SCMP_SYS(socket), 0, UINT32_MAX, (scmp_datum_t)families[i]);
+  for (size_t i = 0; !failed && i < sizeof more / sizeof *more; i++) failed = seccomp_rule_add(filter, SCMP_ACT_ALLOW, more[i], 0);
+  return failed;
+}
+
 // Returns 0, or an error number below 0.
-static int limit_calls(bool unlinks, bool opens) {
+static int limit_calls(bool unlinks, bool opens, bool connects) {
   scmp_filter_ctx filter = seccomp_init(SCMP_ACT_KILL_PROCESS);
   int failed = filter ? 0 : -ENOMEM;
   for (size_t i = 0; !failed && i < sizeof calls / sizeof *calls; i++) failed = seccomp_rule_add(filter, SCMP_ACT_ALLOW, calls[i], 0);
   if (!failed) failed = allow_some(filter, unlinks, opens);
+  if (!failed && connects) failed = allow_connections(filter);
   if (!failed) failed = seccomp_load(filter);
   if (filter) seccomp_release(filter);
   calls_are_limited = !failed;
@@ -162,19 +175,20 @@ static int limit_calls(bool unlinks, bool opens) {
 #else
 bool sandbox_has_seccomp(void) { return false; }
 
-static int limit_calls(bool unlinks, bool opens) {
+static int limit_calls(bool unlinks, bool opens, bool connects) {
   (void)unlinks;
   (void)opens;
+  (void)connects;
   return 0;
 }
 #endif
 
-bool sandbox_limit(const char *socket, const char *control, const char *log, char *why, size_t room) {
+bool sandbox_limit(const char *socket, const char *control, const char *log, bool connects, char *why, size_t room) {
   const char *what = "files";
   int failed = limit_files(socket, control, log) ? 0 : -errno;
   if (!failed) {
     what = "system calls";
-    failed = limit_calls(socket || control, log);
+    failed = limit_calls(socket || control, log, connects);
   }
   if (failed) snprintf(why, room, "%s can't be limited: %s; --seccomp off leaves that out", what, strerror(-failed));
   return !failed;

@@ -27,8 +27,8 @@ bool sandbox_become(const struct owner *owner, char *why, size_t room);
 
 // Limits the process for good to what serving takes, as far as the kernel and the build allow. By Landlock it opens no more files, but to
 // add to those of the log's folder, and removes none, but of the folders of both sockets; each path may be NULL. By seccomp any other
-// system call ends it by SIGSYS. Returns false, and says why, where a limit is refused.
-bool sandbox_limit(const char *socket, const char *control, const char *log, char *why, size_t room);
+// system call ends it by SIGSYS. Where it `connects` it may make connections. Returns false, and says why, where a limit is refused.
+bool sandbox_limit(const char *socket, const char *control, const char *log, bool connects, char *why, size_t room);
 
 // Says which limits sandbox_limit set.
 const char *sandbox_limits(void);

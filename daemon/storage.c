@@ -1,16 +1,18 @@
 #include "storage.h"
 
 #include <errno.h>
+#include <poll.h>
 #include <stdio.h>
 #include <stdlib.h>
 #include <string.h>
+#include <sys/epoll.h>
 #include <sys/mman.h>
 
 #include "uring.h"
 
 // How many transfers READs may have, and WRITEs and holes together: what is left is for one sync of each disk. How many buffers either may
 // have. And the milliseconds of storage_pass.
-enum { MOST_OF_KIND = (MOST_TRANSFERS - DEVICE_MOST_UNITS) / 2, BUFFERS_OF_KIND = MOST_BUFFERS / 4 * 3, PASS = 50 };
+enum { MOST_OF_KIND = (MOST_TRANSFERS - DEVICE_MOST_UNITS) / 2, BUFFERS_OF_KIND = MOST_BUFFERS / 4 * 3, PASS = 50, BITS = 64 };
 
 // What fills a hole that couldn't be made.
 static _Alignas(PAGE_BYTES) uint8_t zeros[PAGE_BYTES];
@@ -18,8 +20,9 @@ static _Alignas(PAGE_BYTES) uint8_t zeros[PAGE_BYTES];
 struct storage {
   struct uring *uring;
   uint8_t *room;                                      // the buffers'
-  uint8_t *free[MOST_BUFFERS];                        // those that nothing has
-  size_t free_count;
+  uint64_t busy[MOST_BUFFERS / BITS];                 // a bit for each that something has
+  struct server *servers[DEVICE_MOST_UNITS];
+  size_t server_count;
   struct transfer transfers[MOST_TRANSFERS], *idle;   // those that nothing has
   struct transfer *under_way[TRANSFER_KINDS];
   size_t taken[TRANSFER_KINDS], buffered[TRANSFER_KINDS];
@@ -39,8 +42,6 @@ struct storage *storage_make(char *why, size_t room) {
     if (storage->uring) uring_end(storage->uring);
     return free(storage), NULL;
   }
-  // The first ones come first, so that few are touched where few are under way.
-  for (size_t i = MOST_BUFFERS; i-- > 0;) storage->free[storage->free_count++] = storage->room + i * PAGE_BYTES;
   for (size_t i = MOST_TRANSFERS; i-- > 0; storage->idle = &storage->transfers[i]) storage->transfers[i].next = storage->idle;
   return storage;
 }
@@ -51,33 +52,59 @@ void storage_end(struct storage *storage) {
   free(storage);
 }
 
-int storage_descriptor(const struct storage *storage) { return uring_descriptor(storage->uring); }
+void storage_add(struct storage *storage, struct server *server) { storage->servers[storage->server_count++] = server; }
 
-// Holes count as WRITEs do.
-static enum transfer_kind side_of(enum transfer_kind kind) { return kind == TRANSFER_HOLE ? TRANSFER_WRITE : kind; }
+bool storage_watch(struct storage *storage, int epoll, uint32_t event) {
+  struct epoll_event edges = {.events = EPOLLIN | EPOLLET, .data.u32 = event};
+  bool stands = !epoll_ctl(epoll, EPOLL_CTL_ADD, uring_descriptor(storage->uring), &edges);
+  for (size_t i = 0; stands && i < storage->server_count; i++) stands = server_watch(storage->servers[i], epoll, event);
+  return stands;
+}
+
+// Holes count as WRITEs do, and reads ahead as READs.
+static enum transfer_kind side_of(enum transfer_kind kind) {
+  return kind == TRANSFER_HOLE ? TRANSFER_WRITE : kind == TRANSFER_AHEAD ? TRANSFER_READ : kind;
+}
+
+static bool is_read(const struct transfer *transfer) { return transfer->kind == TRANSFER_READ || transfer->kind == TRANSFER_AHEAD; }
 
 struct transfer *storage_take(struct storage *storage, enum transfer_kind kind) {
   enum transfer_kind side = side_of(kind);
-  struct transfer *transfer = side == TRANSFER_SYNC || storage->taken[side] < MOST_OF_KIND ? storage->idle : NULL;
+  // Reads ahead leave half of them to READs.
+  size_t most = kind == TRANSFER_AHEAD ? MOST_OF_KIND / 2 : MOST_OF_KIND;
+  struct transfer *transfer = side == TRANSFER_SYNC || storage->taken[side] < most ? storage->idle : NULL;
   if (!transfer) return NULL;
   storage->idle = transfer->next;
   storage->taken[side]++;
   transfer->kind = kind;
   transfer->count = 0;
-  transfer->stale = 0;
+  memset(transfer->stale, 0, sizeof transfer->stale);
   transfer->doubtful = transfer->fills = false;
   return transfer;
 }
 
-uint8_t *storage_buffer(struct storage *storage, enum transfer_kind kind) {
-  if (storage->buffered[side_of(kind)] == BUFFERS_OF_KIND || !storage->free_count) return NULL;
+static bool is_busy(const struct storage *storage, size_t buffer) { return storage->busy[buffer / BITS] >> buffer % BITS & 1; }
+
+// Returns the first free buffer, so that few are touched where few are under way.
+static size_t first_free(const struct storage *storage) {
+  size_t word = 0;
+  while (word < MOST_BUFFERS / BITS && storage->busy[word] == UINT64_MAX) word++;
+  return word < MOST_BUFFERS / BITS ? word * BITS + (size_t)__builtin_ctzll(~storage->busy[word]) : MOST_BUFFERS;
+}
+
+uint8_t *storage_buffer(struct storage *storage, enum transfer_kind kind, const uint8_t *other) {
+  size_t behind = other ? (size_t)(other - storage->room) / PAGE_BYTES + 1 : MOST_BUFFERS;
+  size_t buffer = behind < MOST_BUFFERS && !is_busy(storage, behind) ? behind : first_free(storage);
+  if (storage->buffered[side_of(kind)] == BUFFERS_OF_KIND || buffer == MOST_BUFFERS) return NULL;
   storage->buffered[side_of(kind)]++;
-  return storage->free[--storage->free_count];
+  storage->busy[buffer / BITS] |= UINT64_C(1) << buffer % BITS;
+  return storage->room + buffer * PAGE_BYTES;
 }
 
 void storage_put_buffer(struct storage *storage, uint8_t *buffer, enum transfer_kind kind) {
+  size_t place = (size_t)(buffer - storage->room) / PAGE_BYTES;
   storage->buffered[side_of(kind)]--;
-  storage->free[storage->free_count++] = buffer;
+  storage->busy[place / BITS] &= ~(UINT64_C(1) << place % BITS);
 }
 
 void storage_put(struct storage *storage, struct transfer *transfer) {
@@ -88,15 +115,29 @@ void storage_put(struct storage *storage, struct transfer *transfer) {
   storage->idle = transfer;
 }
 
-// Says what is left of a transfer to be moved. Returns how many parts that has.
+// Says what is left of a transfer to be moved: buffers that follow one another are one part. Returns how many parts that has.
 static unsigned find_parts(struct transfer *transfer) {
   unsigned parts = 0;
-  for (uint64_t at = transfer->done; at < transfer->bytes; parts++) {
+  for (uint64_t at = transfer->done; at < transfer->bytes;) {
     uint64_t end = (at / PAGE_BYTES + 1) * PAGE_BYTES, here = (end < transfer->bytes ? end : transfer->bytes) - at;
-    transfer->parts[parts] = (struct iovec){transfer->pages[at / PAGE_BYTES] + at % PAGE_BYTES, (size_t)here};
+    uint8_t *from = transfer->pages[at / PAGE_BYTES] + at % PAGE_BYTES;
+    struct iovec *before = parts ? &transfer->parts[parts - 1] : NULL;
+    if (before && (uint8_t *)before->iov_base + before->iov_len == from) before->iov_len += (size_t)here;
+    else transfer->parts[parts++] = (struct iovec){from, (size_t)here};
     at += here;
   }
   return parts;
+}
+
+// Has a server move a whole transfer.
+static void ask(struct transfer *transfer) {
+  struct server *server = transfer->server;
+  uint64_t at = transfer->first * PAGE_BYTES;
+  bool writes = transfer->kind == TRANSFER_WRITE || transfer->fills;
+  if (transfer->kind == TRANSFER_SYNC) server_flush(server, transfer);
+  else if (writes) server_write(server, transfer->parts, find_parts(transfer), at, transfer);
+  else if (is_read(transfer)) server_read(server, transfer->parts, find_parts(transfer), at, transfer);
+  else server_zero(server, at, transfer->bytes, transfer);
 }
 
 // Has what is left of a transfer moved.
@@ -104,9 +145,10 @@ static void go_on(struct storage *storage, struct transfer *transfer) {
   struct uring *uring = storage->uring;
   uint64_t at = transfer->first * PAGE_BYTES + transfer->done;
   bool writes = transfer->kind == TRANSFER_WRITE || transfer->fills;
-  if (transfer->kind == TRANSFER_SYNC) uring_sync(uring, transfer->file, transfer);
+  if (transfer->server) ask(transfer);
+  else if (transfer->kind == TRANSFER_SYNC) uring_sync(uring, transfer->file, transfer);
   else if (writes) uring_write(uring, transfer->file, transfer->parts, find_parts(transfer), at, transfer);
-  else if (transfer->kind == TRANSFER_READ) uring_read(uring, transfer->file, transfer->parts, find_parts(transfer), at, transfer);
+  else if (is_read(transfer)) uring_read(uring, transfer->file, transfer->parts, find_parts(transfer), at, transfer);
   else uring_punch(uring, transfer->file, at, transfer->bytes, transfer);
 }
 
@@ -127,7 +169,12 @@ void storage_fill(struct storage *storage, struct transfer *transfer, uint64_t e
   storage_begin(storage, transfer, end);
 }
 
-void storage_send(struct storage *storage) { uring_send(storage->uring); }
+void storage_send(struct storage *storage) {
+  // What a server refused at once is looked at soon.
+  for (size_t i = 0; i < storage->server_count; i++)
+    if (server_has_next(storage->servers[i])) storage_pass(storage);
+  uring_send(storage->uring);
+}
 
 struct transfer *storage_under_way(struct storage *storage, enum transfer_kind kind) { return storage->under_way[kind]; }
 
@@ -139,7 +186,7 @@ static void take_out(struct storage *storage, struct transfer *transfer) {
 
 // Returns whether a transfer goes on behind this result of a part of it. `error` tells else by which error it failed.
 static bool is_left(struct transfer *transfer, int result, int *error) {
-  bool moves = transfer->kind == TRANSFER_READ || transfer->kind == TRANSFER_WRITE || transfer->fills;
+  bool moves = is_read(transfer) || transfer->kind == TRANSFER_WRITE || transfer->fills;
   *error = 0;
   if (result == -EINTR || result == -EAGAIN) return true;
   if (result < 0) return *error = -result, false;
@@ -147,8 +194,23 @@ static bool is_left(struct transfer *transfer, int result, int *error) {
   transfer->done += (uint64_t)result;
   if (transfer->done >= transfer->bytes) return false;
   // The file ends before its disk, or takes no more.
-  if (!result) *error = transfer->kind == TRANSFER_READ ? EIO : ENOSPC;
+  if (!result) *error = is_read(transfer) ? EIO : ENOSPC;
   return result;
+}
+
+// Takes the next transfer of a server's that is over.
+static struct transfer *next_of(struct storage *storage, int *error, bool *passed) {
+  void *what;
+  for (size_t i = 0; i < storage->server_count; i++) {
+    struct server *server = storage->servers[i];
+    if (!server_has_next(server)) *passed = server_turn(server) || *passed;
+    if (!server_next(server, &what, error)) continue;
+    // It failed where the connection is lost, perhaps, and that is known behind this.
+    if (*error) *passed = server_turn(server) || *passed;
+    take_out(storage, what);
+    return what;
+  }
+  return NULL;
 }
 
 struct transfer *storage_next(struct storage *storage, int *error, bool *passed) {
@@ -167,7 +229,7 @@ struct transfer *storage_next(struct storage *storage, int *error, bool *passed)
       return transfer;
     }
   }
-  return NULL;
+  return next_of(storage, error, passed);
 }
 
 void storage_pass(struct storage *storage) {
@@ -176,4 +238,12 @@ void storage_pass(struct storage *storage) {
   uring_pass(storage->uring, PASS, storage);
 }
 
-void storage_wait(struct storage *storage, unsigned milliseconds) { uring_wait(storage->uring, milliseconds); }
+void storage_wait(struct storage *storage, unsigned milliseconds) {
+  struct pollfd asked[DEVICE_MOST_UNITS];
+  unsigned count = 0;
+  for (size_t i = 0; i < storage->server_count; i++) {
+    if (server_has_next(storage->servers[i])) milliseconds = 0;
+    count += server_asks(storage->servers[i], &asked[count]);
+  }
+  uring_wait(storage->uring, asked, count, milliseconds);
+}

@@ -4,14 +4,14 @@
 #include <errno.h>
 #include <fcntl.h>
 #include <liburing.h>
-#include <poll.h>
 #include <stdlib.h>
+#include <string.h>
 #include <sys/eventfd.h>
 #include <sys/syscall.h>
 #include <unistd.h>
 
-// How often requests are sent that the kernel doesn't take for want of memory, a millisecond each; and nanoseconds of that.
-enum { TRIES = 100, MILLISECOND = 1000000 };
+// How often requests are sent that the kernel doesn't take for want of memory, a millisecond each; nanoseconds of that; and of uring_wait.
+enum { TRIES = 100, MILLISECOND = 1000000, MOST_OTHERS = 64 };
 
 struct uring {
   struct io_uring ring;
@@ -115,14 +115,15 @@ bool uring_next(struct uring *uring, void **what, int *result) {
   return true;
 }
 
-void uring_wait(struct uring *uring, unsigned milliseconds) {
-  struct pollfd asked = {.fd = uring->event, .events = POLLIN};
-  uint64_t count;
+void uring_wait(struct uring *uring, const struct pollfd *others, unsigned count, unsigned milliseconds) {
+  struct pollfd asked[1 + MOST_OTHERS] = {{.fd = uring->event, .events = POLLIN}};
+  uint64_t counted;
+  memcpy(asked + 1, others, count * sizeof *others);
   uring_send(uring);
   if (io_uring_cq_ready(&uring->ring)) return;
   // What was counted before is of requests that were taken, or that are looked at behind this.
-  if (read(uring->event, &count, sizeof count) < 0 && errno != EAGAIN) return;
-  if (!io_uring_cq_ready(&uring->ring)) poll(&asked, 1, (int)milliseconds);
+  if (read(uring->event, &counted, sizeof counted) < 0 && errno != EAGAIN) return;
+  if (!io_uring_cq_ready(&uring->ring)) poll(asked, 1 + count, (int)milliseconds);
 }
 #else
 #include <errno.h>
@@ -166,5 +167,7 @@ bool uring_next(struct uring *uring, void **what, int *result) {
   return false;
 }
 
-void uring_wait(struct uring *uring, unsigned milliseconds) { (void)uring, (void)milliseconds; }
+void uring_wait(struct uring *uring, const struct pollfd *others, unsigned count, unsigned milliseconds) {
+  (void)uring, (void)others, (void)count, (void)milliseconds;
+}
 #endif

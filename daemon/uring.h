@@ -2,6 +2,7 @@
 #ifndef DAEMON_URING_H
 #define DAEMON_URING_H
 
+#include <poll.h>
 #include <stdbool.h>
 #include <stdint.h>
 #include <sys/uio.h>
@@ -34,7 +35,7 @@ void uring_send(struct uring *uring);
 // Takes the next request that is over: bytes, or an error number below 0. Returns false where none is.
 bool uring_next(struct uring *uring, void **what, int *result);
 
-// Waits until a request is over, for so many milliseconds at most.
-void uring_wait(struct uring *uring, unsigned milliseconds);
+// Waits until a request is over, or one of at most 64 other descriptors is ready, for so many milliseconds at most.
+void uring_wait(struct uring *uring, const struct pollfd *others, unsigned count, unsigned milliseconds);
 
 #endif

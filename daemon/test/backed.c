@@ -20,14 +20,17 @@
 enum { ALL_PAGES = 32768, MORE_PAGES = VSCSI_LEAST_PAGES + 600, NOTHING = 80, STEP = 7919, AT_ONCE = 60 };
 
 static const uint8_t sync_10[10] = {0x35}, ready[6] = {0};
-static const char cached[] = ",write-cache=on,cache-size=33M";
+static const char cached[] = ",write-cache=on,cache-size=33M", stopping[] = ",write-cache=on,cache-size=33M,rerror=stop";
 
 static bool is_left_out(void) {
   if (!storage_is_built()) printf("left out: no liburing-dev\n");
   return !storage_is_built();
 }
 
-static uint32_t page_at(unsigned i) { return (uint32_t)((uint64_t)i * STEP % ALL_PAGES); }
+// How far pages lie apart that follow one another in a test.
+static unsigned step = STEP;
+
+static uint32_t page_at(unsigned i) { return (uint32_t)((uint64_t)i * step % ALL_PAGES); }
 
 // Fills a page so that its number and its version are known by each of its parts.
 static void fill(uint8_t *at, uint32_t page, unsigned version) {
@@ -61,10 +64,10 @@ static bool write_from(struct front *front, unsigned first, unsigned count, unsi
 
 static bool write_pages(struct front *front, unsigned count, unsigned version) { return write_from(front, 0, count, version); }
 
-static bool read_pages(struct front *front, unsigned count, unsigned version) {
+static bool read_from(struct front *front, unsigned first, unsigned count, unsigned version) {
   bool good = true;
-  for (unsigned done = 0; good && done < count;) {
-    unsigned here = count - done < AT_ONCE ? count - done : AT_ONCE;
+  for (unsigned done = first; good && done < first + count;) {
+    unsigned here = first + count - done < AT_ONCE ? first + count - done : AT_ONCE;
     for (unsigned i = 0; i < here; i++) put_read_of(front, 0, Q, i, page_at(done + i) * 8);
     driver_kick(front, Q);
     good = await(front, Q, here, PATIENCE) == here;
@@ -73,6 +76,8 @@ static bool read_pages(struct front *front, unsigned count, unsigned version) {
   }
   return good;
 }
+
+static bool read_pages(struct front *front, unsigned count, unsigned version) { return read_from(front, 0, count, version); }
 
 static void put_sync(struct front *front, unsigned q, unsigned i) {
   put(front, q, i, sync_10, sizeof sync_10, 0);
@@ -101,11 +106,13 @@ static bool file_has(unsigned lun, unsigned count, unsigned version) {
   return has;
 }
 
-static void begin(struct front *front, struct disks *disks, unsigned number) {
-  load_make(disks, "128M", cached);
+static void begin_as(struct front *front, struct disks *disks, unsigned number, const char *words) {
+  load_make(disks, "128M", words);
   load_begin(front, disks, number);
   MUST(front->session.backend.pages && !front->session.backend.keeps);
 }
+
+static void begin(struct front *front, struct disks *disks, unsigned number) { begin_as(front, disks, number, cached); }
 
 // Has the next device begin with no page in memory.
 static void forget(struct front *front, struct disks *disks, unsigned number) {
@@ -124,12 +131,12 @@ void test_backed(void) {
     begin(&front, &disks, number);
     MUST(write_pages(&front, MORE_PAGES, 1) && sync_disk(&front) && file_has(0, MORE_PAGES, 1));
     const struct paging *paging = disks.disks[0].paging;
-    MUST(paging->pages_written >= MORE_PAGES && read_pages(&front, MORE_PAGES, 1) && paging->pages_read);
+    MUST(paging->counts.written >= MORE_PAGES && read_pages(&front, MORE_PAGES, 1) && paging->counts.read);
     forget(&front, &disks, number);
     MUST(read_pages(&front, 1000, 1) && write_pages(&front, 500, 2) && sync_disk(&front) && file_has(0, 500, 2));
     // Nothing is written for what changes nothing.
-    uint64_t written = paging->pages_written;
-    MUST(read_pages(&front, 500, 2) && sync_disk(&front) && paging->pages_written == written);
+    uint64_t written = paging->counts.written;
+    MUST(read_pages(&front, 500, 2) && sync_disk(&front) && paging->counts.written == written);
     load_end(&front, &disks);
   }
 }
@@ -199,7 +206,7 @@ void test_backed_unread(void) {
   for (unsigned number = 0; number < WAYS; number++) {
     struct disks disks;
     struct front front;
-    begin(&front, &disks, number);
+    begin_as(&front, &disks, number, stopping);
     MUST(write_pages(&front, MANY, 1));
     forget(&front, &disks, number);
     faults.read_error = EIO;
@@ -222,6 +229,51 @@ void test_backed_unread(void) {
     MUST(await(&front, Q, 9, PATIENCE) == 9 && await(&front, Q, 1, NOTHING) == 0 && disks.disks[0].paging->reading.error);
     clear_faults(&front);
     MUST(await(&front, Q, 1, PATIENCE) == 1 && is_filled(buffer_of(&front, 40), page_at(40), 1) && !disks.disks[0].paging->reading.error);
+    load_end(&front, &disks);
+  }
+}
+
+// Returns whether a request ended with MEDIUM ERROR, UNRECOVERED READ ERROR, of the first block of a page.
+static bool is_unread(const struct front *front, unsigned i, uint64_t page) {
+  const uint8_t *answer = answer_of(front, i), *sense = answer + 12;
+  uint64_t block = (uint64_t)sense[3] << 24 | (uint64_t)sense[4] << 16 | (uint64_t)sense[5] << 8 | sense[6];
+  bool is_condition = answer[10] == 2 && answer[11] == 0 && sense[0] == 0xf0 && sense[2] == 0x03;
+  return is_condition && sense[12] == 0x11 && sense[13] == 0x00 && block == 8 * page;
+}
+
+void test_backed_lost(void) {
+  if (is_left_out()) return;
+  for (unsigned number = 0; number < WAYS; number += 2) {
+    struct disks disks;
+    struct front front;
+    begin(&front, &disks, number);
+    MUST(write_pages(&front, MANY, 1));
+    forget(&front, &disks, number);
+    faults.read_error = EIO;
+    faults.bad_page = page_at(40);
+    // Twice: the page is asked for again.
+    for (unsigned time = 0; time < 2; time++) {
+      for (unsigned i = 35; i < 45; i++) put_read_of(&front, 0, Q, i, page_at(i) * 8);
+      driver_kick(&front, Q);
+      MUST(await(&front, Q, 10, PATIENCE) == 10 && front.alive);
+      for (unsigned i = 35; i < 45; i++)
+        MUST(i == 40 ? is_unread(&front, i, page_at(i)) : is_good(&front, i) && is_filled(buffer_of(&front, i), page_at(i), 1));
+    }
+    // A WRITE of all its blocks needs none of them, and behind it there is a page.
+    put_page(&front, Q, 40, page_at(40), 2);
+    driver_kick(&front, Q);
+    MUST(await(&front, Q, 1, PATIENCE) == 1 && is_good(&front, 40) && sync_disk(&front));
+    put_read_of(&front, 0, Q, 40, page_at(40) * 8);
+    driver_kick(&front, Q);
+    MUST(await(&front, Q, 1, PATIENCE) == 1 && is_good(&front, 40) && is_filled(buffer_of(&front, 40), page_at(40), 2));
+    // An error that may pass has READs wait, as of memory that the system lacks.
+    faults.read_error = ENOMEM;
+    faults.bad_page = page_at(50);
+    put_read_of(&front, 0, Q, 50, page_at(50) * 8);
+    driver_kick(&front, Q);
+    MUST(await(&front, Q, 1, NOTHING) == 0 && disks.disks[0].paging->reading.error == ENOMEM);
+    clear_faults(&front);
+    MUST(await(&front, Q, 1, PATIENCE) == 1 && is_good(&front, 50) && is_filled(buffer_of(&front, 50), page_at(50), 1));
     load_end(&front, &disks);
   }
 }
@@ -337,6 +389,46 @@ void test_backed_stale(void) {
   }
 }
 
+// Pages in a row, of which the first ones are read; then what is read ahead is held back, and some of that is written, and others until
+// these aren't in memory.
+static void go_ahead(unsigned number, bool fails) {
+  enum { ROW = 600, FIRST = 150, WRITTEN = 20, OTHERS = 2000 };
+  struct disks disks;
+  struct front front;
+  begin(&front, &disks, number);
+  const struct paging *paging = disks.disks[0].paging;
+  MUST(write_pages(&front, ROW, 1));
+  forget(&front, &disks, number);
+  MUST(read_pages(&front, ROW, 1) && paging->counts.ahead >= ROW / 3 && paging->counts.handed_in >= ROW);
+  forget(&front, &disks, number);
+  faults.held_ahead = true;
+  MUST(read_pages(&front, FIRST, 1) && paging->ahead.under_way);
+  MUST(write_from(&front, FIRST, WRITTEN, 2) && sync_disk(&front) && write_from(&front, OTHERS, MORE_PAGES, 1));
+  // A command waits for what is read ahead, whose end is told to it.
+  put_read_of(&front, 0, Q, 0, page_at(FIRST + 3 * WRITTEN) * 8);
+  driver_kick(&front, Q);
+  MUST(await(&front, Q, 1, 20) == 0 && paging_reads(&disks));
+  faults.read_error = fails ? EIO : 0;
+  faults.bad_page = page_at(FIRST + 3 * WRITTEN);
+  faults.held_ahead = false;
+  session_kicked(&front.session, EVENT_STORAGE);
+  go_on(&front, 20);
+  clear_faults(&front);
+  MUST(await(&front, Q, 1, PATIENCE) == 1 && is_good(&front, 0) && is_filled(buffer_of(&front, 0), page_at(FIRST + 3 * WRITTEN), 1));
+  MUST(read_from(&front, FIRST, WRITTEN, 2) && read_from(&front, FIRST + WRITTEN, ROW - FIRST - WRITTEN, 1));
+  // Of another size of the disk nothing that was read before comes.
+  paging_settle(&disks, &front.session.backend.device);
+  MUST(!paging->ahead.seen && sync_disk(&front));
+  load_end(&front, &disks);
+}
+
+void test_backed_ahead(void) {
+  if (is_left_out()) return;
+  step = 1;
+  for (unsigned number = 0; number < WAYS; number += 3) go_ahead(number, number % 2);
+  step = STEP;
+}
+
 // Writes to both disks at once, and looks at their files behind SYNCHRONIZE CACHE of the backed one.
 static void work_beside(struct front *front, unsigned turn) {
   for (unsigned i = 0; i < MANY; i++) {
@@ -414,17 +506,19 @@ static void set_faults(void) {
   faults.sync_error = which == 2 || which == 3 ? EIO : 0;
   faults.bad_syncs = 1 + (unsigned)rand() % 2;
   faults.read_error = which == 4 ? EIO : 0;
-  faults.held = which == 5;
+  faults.held = faults.held_ahead = which == 5;
   faults.refused = which == 6 ? (unsigned)rand() % 10 : 0;
 }
 
 // Has pages that follow one another in this order written or read at once, and the disk flushed or not, while faults come and go.
 static void do_anything(struct front *front, unsigned version) {
-  unsigned first = (unsigned)rand() % USED_PAGES, count = 1 + (unsigned)rand() % AT_ONCE, writes = 0;
-  bool written[AT_ONCE], flushes = rand() % 3 == 0;
+  static unsigned next;
+  unsigned first = rand() % 3 ? next : (unsigned)rand() % USED_PAGES, count = 1 + (unsigned)rand() % AT_ONCE, writes = 0;
+  bool written[AT_ONCE], flushes = rand() % 3 == 0, reads = rand() % 2;
+  next = (first + count) % USED_PAGES;
   for (unsigned i = 0; i < count; i++) {
     unsigned which = (first + i) % USED_PAGES;
-    written[i] = rand() % 4;
+    written[i] = !reads && rand() % 4;
     writes += written[i];
     if (written[i]) put_page(front, Q, i, page_at(which), versions[which] = version);
     else put_read_of(front, 0, Q, i, page_at(which) * 8);
@@ -458,12 +552,13 @@ void test_backed_anything(void) {
     struct front front;
     load_make(&disks, "128M", number % 2 ? ",write-cache=on,cache-size=33M,detect-zeroes=unmap" : cached);
     memset(versions, 0, sizeof versions);
+    step = number % 4 < 2 ? STEP : 1;
     load_begin(&front, &disks, number);
     for (unsigned round = 1; round <= ROUNDS; round++) {
       do_anything(&front, round);
       if (rand() % AGAIN) continue;
       set_faults();
-      faults.held = false;
+      faults.held = faults.held_ahead = false;
       front_end(&front);
       faults_clear();
       load_begin(&front, &disks, number);
@@ -471,4 +566,5 @@ void test_backed_anything(void) {
     MUST(sync_disk(&front));
     load_end(&front, &disks);
   }
+  step = STEP;
 }

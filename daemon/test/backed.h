@@ -11,6 +11,7 @@ void test_backed_zeros(void);
 
 // A file that can't be read for a time: the commands that need it wait, and no others.
 void test_backed_unread(void);
+void test_backed_lost(void);
 
 // A file that can't be written, or synced, for a time: SYNCHRONIZE CACHE waits, and nothing is lost.
 void test_backed_unwritten(void);
@@ -26,6 +27,9 @@ void test_backed_stale(void);
 
 // Anything, among any of these faults: each READ finds what was written last, and the file what was flushed.
 void test_backed_anything(void);
+
+// Of pages that are read ahead, and of some that are written meanwhile, each is what was written last.
+void test_backed_ahead(void);
 
 // A backed disk beside one in memory, and beside one whose answers wait for its file.
 void test_backed_beside(void);

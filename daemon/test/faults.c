@@ -186,7 +186,8 @@ static int result_of(const struct transfer *transfer, int result) {
   off_t at = (off_t)(transfer->first * PAGE_BYTES);
   bool writes = transfer->kind == TRANSFER_WRITE || transfer->kind == TRANSFER_HOLE, is_its = !faults.only || faults.only == transfer->file;
   bool has_bad = !faults.bad_page || (faults.bad_page >= transfer->first && faults.bad_page - transfer->first < transfer->count);
-  if (transfer->kind == TRANSFER_READ && faults.read_error && is_its && has_bad) return -faults.read_error;
+  bool reads = transfer->kind == TRANSFER_READ || transfer->kind == TRANSFER_AHEAD;
+  if (reads && faults.read_error && is_its && has_bad) return -faults.read_error;
   if (writes && faults.write_error && is_its && !faults.writes--) {
     faults.writes = 0;
     spoil(transfer->file, at, (size_t)transfer->bytes);
@@ -203,7 +204,7 @@ static int result_of(const struct transfer *transfer, int result) {
 }
 
 bool __wrap_uring_next(struct uring *uring, void **what, int *result) {
-  if (!faults.held && held_count) {
+  if (!faults.held && !faults.held_ahead && held_count) {
     *what = held[--held_count].what;
     *result = held[held_count].result;
     return true;
@@ -212,7 +213,8 @@ bool __wrap_uring_next(struct uring *uring, void **what, int *result) {
     if (*what == faults.storage) return true;
     const struct transfer *transfer = *what;
     *result = result_of(transfer, *result);
-    if (!faults.held || transfer->kind != TRANSFER_READ) return true;
+    bool is_held = (faults.held && transfer->kind == TRANSFER_READ) || (faults.held_ahead && transfer->kind == TRANSFER_AHEAD);
+    if (!is_held) return true;
     held[held_count].what = *what;
     held[held_count++].result = *result;
   }

@@ -15,6 +15,7 @@ struct faults {
   int read_error;       // by which READs of pages fail, or 0, and of which page, or of all where it is 0
   uint64_t bad_page;
   bool held;            // no READ of a page is over
+  bool held_ahead;      // nor is one of pages that are read ahead
   int write_error;      // by which pwrite, or a WRITE of pages, fails, or 0; such pages are garbage then
   unsigned writes;      // that go well before that
   int sync_error;       // by which fdatasync fails, or 0; then what was written since it last went well is garbage

@@ -58,8 +58,7 @@ void front_begin_sized(struct front *front, struct disks *disks, struct way way,
     front->err[q] = eventfd(0, EFD_NONBLOCK | EFD_CLOEXEC);
     front->queues[q] = (struct driver_queue){.next_wrap = true, .seen_wrap = true};
   }
-  struct epoll_event storage = {.events = EPOLLIN | EPOLLET, .data.u32 = EVENT_STORAGE};
-  if (paging_descriptor(disks) >= 0) MUST(!epoll_ctl(front->epoll, EPOLL_CTL_ADD, paging_descriptor(disks), &storage));
+  MUST(paging_watch(disks, front->epoll, EVENT_STORAGE));
   front->alive = session_begin(&front->session, pair[1], front->epoll, disks, QUEUES - FIXED_QUEUES, way.polling, true);
   MUST(front->alive);
 }

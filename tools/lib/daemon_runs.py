@@ -210,7 +210,7 @@ def test_words(room):
         assert room.ends(*words, status=2) == ""
     usage = room.ends("--help", status=0)
     assert all(word in usage for word in ("--socket", "--disk", "--user", "--log", "snapshot", "grow"))
-    assert re.fullmatch(r"vscsi-vhost-user \d+\.\d+\S*\nwith(out)? seccomp\nwith(out)? io_uring\n", room.ends("--version", status=0))
+    assert re.fullmatch(r"vscsi-vhost-user \d+\.\d+\S*\nwith(out)? seccomp\nwith(out)? io_uring\nwith(out)? NBD\n", room.ends("--version", status=0))
 
 
 def test_conventions(room):
@@ -224,7 +224,7 @@ def test_conventions(room):
 
 def test_documents(room):
     """The manual page and --help have the same words, and the page on the daemon has no other."""
-    words = r"--[a-z][a-z-]*|\b(?:grow|snapshot|detect-zeroes|write-cache|cache-size|direct|read-only)\b"
+    words = r"--[a-z][a-z-]*|\b(?:grow|snapshot|detect-zeroes|write-cache|cache-size|direct|read-only|nbd|rerror)\b"
     said = [set(re.findall(words, text.replace("\\-", "-"))) for text in (
         room.ends("--help", status=0),
         (DOCS / "vscsi-vhost-user.1").read_text().split(".SH OPTIONS")[1].split(".SH ")[0],
@@ -1047,7 +1047,7 @@ def test_cache_words(room):
                f"file={image},write-cache=on,cache-size=64M,cache-size=64M": "cache-size= wants a size, once",
                f"file={image},write-cache=on,cache-size=0": "cache-size= wants a size", f"file={image},write-cache=on,cache-size=32M": "cache-size= is 33M at least",
                f"file={image},cache-size=64M": "cache-size= wants write-cache=on", f"file={image},write-cache=off,cache-size=64M": "cache-size= wants write-cache=on",
-               f"file={image},direct=on": "direct=on wants write-cache=on", "write-cache=on": "write-cache=on wants file=PATH",
+               f"file={image},direct=on": "direct=on wants write-cache=on", "write-cache=on": "write-cache=on wants file=PATH or nbd=URI",
                f"file={image},write-cache=on,profile=narrow": "write-cache=on wants profile=wide",
                f"file={image},profile=narrow,write-cache=on": "write-cache=on wants profile=wide",
                f"file={image},write-cache=on,snapshot": "write-cache=on takes no snapshot"}
@@ -1284,6 +1284,306 @@ def test_cached_control(room):
         with FrontEnd(connected(room.socket)) as front:
             number = run_cached(front, [("read", 9, 0)])[0]
             assert front.data(number, 4096) == stamped(9, 3)
+    return None
+
+
+def read_pages(front, pages, versions):
+    """Reads pages in this order, and compares each with its version, or with zeros."""
+    pages = list(pages)
+    for first in range(0, len(pages), 14):
+        those = pages[first : first + 14]
+        numbers = run_cached(front, [("read", page, 0) for page in those])
+        for page, number in zip(those, numbers):
+            wanted = stamped(page, versions[page]) if page in versions else bytes(4096)
+            assert front.data(number, 4096) == wanted, (page, versions.get(page), front.data(number, 8))
+
+
+def read_and_write(front, choose, versions, rounds):
+    """Reads page after page, so that more is read ahead, writes some of that, and reads on once these are in memory no more. Some are
+    written just before the reading ahead begins, others behind that.
+    """
+    for version in range(rounds):
+        start, far = choose.randrange(0, 1 << 15, 512), [(1 << 15) + page for page in choose.sample(range(1 << 14), 8700)]
+        read_pages(front, range(start, start + 112), versions)
+        for before in (True, False):
+            those = [start + choose.randrange(180, 400) for _ in range(12)]
+            run_cached(front, [("write", page, 2 * version + before + 1) for page in those])
+            versions.update(dict.fromkeys(those, 2 * version + before + 1))
+            if before:
+                read_pages(front, range(start + 112, start + 154), versions)
+        run_cached(front, [("flush", 0, 0)])
+        read_pages(front, far, versions)
+        read_pages(front, range(start + 154, start + 500), versions)
+
+
+def test_cached_ahead(room):
+    """What is read ahead is never older than what the file or the server has, whenever it is written. It helps, and is told of."""
+    if not has_ring(room):
+        return NO_RING
+    control = ["--control", room.folder / "control"] if room.client else []
+    for more in ("", ",direct=on"):
+        with driven(room, "--disk", f"0:0=256M,file={room.folder / 'image'}{more}{CACHED}", *control, ends=0) as (_, front, log):
+            read_and_write(front, random.Random(9), {}, 4)
+            if control:
+                with Asking(control[1]) as asking:
+                    told = asking.ask("stats")["disks"][0]
+                assert told["pages-ahead"] > 400 and told["pages-asked"] >= told["pages-handed-in"] >= told["pages-ahead"], told
+                assert told["pages-given"] >= told["pages-kept"] >= 48 and not told["pages-failed"] and not told["pages-unread"], told
+        log.unlink()
+        (room.folder / "image").unlink()
+    if not has_servers(room):
+        return None
+    # Its writes come behind reads that it was asked for later.
+    at = room.folder / "nbd"
+    disk = f"0:0={export_of(at)},cache-size=33M"
+    with nbdkit(at, "--filter=delay", "memory", "256M", "wdelay=60ms"), driven(room, "--disk", disk, ends=0) as (_, front, _):
+        read_and_write(front, random.Random(10), {}, 4)
+    return None
+
+
+# Disks on NBD servers.
+
+
+NO_SERVER = "no libnbd-dev, no liburing-dev or no nbdkit"
+EXPORT = 256 * MIB
+
+
+def has_servers(room):
+    return shutil.which("nbdkit") and "with NBD" in room.ends("--version", status=0)
+
+
+def export_of(path):
+    return f"nbd=nbd+unix:///?socket={path}"
+
+
+@contextlib.contextmanager
+def nbdkit(path, *words):
+    """An NBD server that listens at a path, and is killed at the end, if that wasn't done before."""
+    run = subprocess.Popen(["nbdkit", "--foreground", "--exit-with-parent", "--unix", path, *map(str, words)], stdin=subprocess.DEVNULL,
+                           stderr=subprocess.DEVNULL)
+    try:
+        wait_for(lambda: run.poll() is not None or listens(path), "nbdkit to listen")
+        assert run.poll() is None, f"{words}: status {run.returncode}"
+        yield run
+    finally:
+        end_server(run, path)
+
+
+def end_server(run, path):
+    """Kills a server, as a crash does, and takes away its socket, which it leaves."""
+    run.kill()
+    run.wait()
+    path.unlink(missing_ok=True)
+
+
+def test_nbd_words(room):
+    """Words of a disk on a server that don't go together are refused by name, and so are servers that can't have a disk."""
+    at = room.folder / "nbd"
+    uri, named = export_of(at), ["--socket", room.socket, "--disk"]
+    if "with NBD" not in room.ends("--version", status=0):
+        room.ends(*named, f"0:0={uri}", status=2, says="nbd=: this daemon is built without libnbd")
+    if not has_servers(room):
+        return NO_SERVER
+    refused = {f"{uri},file={room.folder / 'image'}": "nbd= stands in place of file=",
+               f"{uri},write-cache=off": "nbd= wants write-cache=on",
+               f"{uri},direct=on": "direct=on wants file=PATH", f"{uri},profile=narrow": "write-cache=on wants profile=wide",
+               f"{uri},cache-size=32M": "cache-size= is 33M at least", f"{uri},snapshot": "grow and snapshot want file=PATH",
+               f"64M,{uri},grow": "grow and snapshot want file=PATH", f"{uri},{uri}": "not T:L=SIZE", "nbd=": "not T:L=SIZE"}
+    for words, says in refused.items():
+        room.ends(*named, f"0:0={words}", status=2, says=says)
+    room.ends(*named, f"0:0={uri}", "--migratable", status=2, says="--migratable: each disk has to be kept on a file")
+    room.refuses("--disk", f"0:0={uri}", says="No such file or directory")
+    room.refuses("--disk", "0:0=nbd=nbd://localhost:1/", says="Connection refused")
+    room.refuses("--disk", f"0:0=nbd=nbds+unix:///?socket={at}", says="TLS")
+    sized = ["--filter=blocksize-policy", "memory", "64M"]
+    for words, says in ((["--readonly", "memory", "64M"], "the export is read-only"), (["memory", "1000"], "its length is no disk's"),
+                        ([*sized, "blocksize-minimum=8192", "blocksize-preferred=8192"], "its least block is longer than 4096 bytes"),
+                        ([*sized, "blocksize-minimum=1", "blocksize-preferred=4096", "blocksize-maximum=64K"], "it takes less than 1 MiB at once"),
+                        (["eval", "get_size=echo 64M", "pread=exit 1", "pwrite=exit 1"], "the server can't flush")):
+        with nbdkit(at, *words):
+            room.refuses("--disk", f"0:0={uri}", says=says)
+    with nbdkit(at, "memory", "64M"):
+        room.refuses("--disk", f"0:0=63M,{uri}", says="longer than the disk")
+        room.refuses("--disk", f"0:0=65M,{uri}", says="shorter than the disk")
+        for words in (uri, f"64M,{uri}", f"{uri},write-cache=on,cache-size=33M,detect-zeroes=unmap,serial=one"):
+            with room.runs("--disk", f"0:0={words}"):
+                assert serves(room.socket)
+    return None
+
+
+def work_on_server(room, front, choose, image):
+    """Writes more pages than are in memory, flushes, and compares what the server's file has, and what is read, with them."""
+    pages = {}
+    for version in range(700):
+        batch = [("write", choose.randrange(1 << 16), version) for _ in range(16)]
+        run_cached(front, batch)
+        pages.update({page: version for _, page, version in batch})
+    run_cached(front, [("flush", 0, 0)])
+    with image.open("rb") as file:
+        for page, version in pages.items():
+            file.seek(4096 * page)
+            assert file.read(4096) == stamped(page, version), (page, version)
+    sample = choose.sample(sorted(pages), 1600)
+    for first in range(0, 1600, 16):
+        those = sample[first : first + 16]
+        numbers = run_cached(front, [("read", page, 0) for page in those])
+        assert all(front.data(number, 4096) == stamped(page, pages[page]) for page, number in zip(those, numbers))
+
+
+def test_nbd(room):
+    """A disk on a server has what a guest flushed, is read back as it was written, and has all once the daemon has ended."""
+    if not has_servers(room):
+        return NO_SERVER
+    at, image, choose = room.folder / "nbd", room.file("image", EXPORT, b"\0"), random.Random(6)
+    for more in ("", "cache-size=33M", "detect-zeroes=unmap"):
+        with nbdkit(at, "file", image), driven(room, "--disk", f"0:0={export_of(at)},{more or 'serial=a'}", ends=0) as (_, front, log):
+            work_on_server(room, front, choose, image)
+            # Zeros; and what isn't flushed is there once the daemon has ended.
+            front.write(8 * 40, bytes(4096))
+            run_cached(front, [("flush", 0, 0), ("read", 40, 0)] + [("write", page, 9999) for page in range(8)])
+        assert has(image, 4096 * 40, bytes(4096)), log.read_text()
+        assert all(has(image, 4096 * page, stamped(page, 9999)) for page in range(8)), log.read_text()
+        log.unlink()
+    # Of a disk that ends within a page no byte is written behind its end, and servers in memory have what was written, too.
+    with nbdkit(at, "memory", MIB + 1536):
+        for version in (0, 1):
+            with driven(room, "--disk", f"0:0={export_of(at)}", ends=0) as (_, front, _):
+                front.read(2048, 1536)
+                front.write(2048, b"x" * 1536)
+                wait_for(lambda: front.answered() == 2, "the last blocks")  # noqa: B023
+                assert not front.status(0) and not front.status(1) and front.data(0, 1536) == (b"x" if version else b"\0") * 1536
+    return None
+
+
+def test_nbd_host(room):
+    """A disk on a server by its host's name, which is lost and comes again."""
+    if not has_servers(room):
+        return NO_SERVER
+    with socket.socket() as free:
+        free.bind(("127.0.0.1", 0))
+        port = free.getsockname()[1]
+    image = room.file("image", 64 * MIB)
+    words = ["nbdkit", "--foreground", "--exit-with-parent", "--ipaddr", "127.0.0.1", "--port", str(port), "file", image]
+
+    def served():
+        run = subprocess.Popen(words, stdin=subprocess.DEVNULL, stderr=subprocess.DEVNULL)
+        wait_for(lambda: re.search(rf"^ *\d+: 0100007F:{port:04X} .* 0A ", Path("/proc/net/tcp").read_text(), re.M), "nbdkit to listen")
+        return run
+
+    run = served()
+    try:
+        with driven(room, "--disk", f"0:0=nbd=nbd://localhost:{port}/", ends=0) as (_, front, log):
+            run_cached(front, [("write", 7, 1), ("flush", 0, 0)])
+            run.kill()
+            run.wait()
+            front.write(8 * 9, stamped(9, 2))
+            front.flush()
+            wait_for(lambda: "the NBD server is gone" in log.read_text(), "a line that says so")
+            run = served()
+            wait_for(lambda: front.answered() == 4, "the SYNCHRONIZE CACHE")
+            assert has(image, 4096 * 7, stamped(7, 1)) and has(image, 4096 * 9, stamped(9, 2))
+    finally:
+        run.kill()
+        run.wait()
+    return None
+
+
+def test_nbd_killed(room):
+    """What a guest flushed is with the server that is killed while the guest writes, or a later version is. Commands wait meanwhile, and
+    once the server is there again all goes on: no command fails, and all that was written is kept. Of some servers what wasn't flushed
+    goes with them.
+    """
+    if not has_servers(room):
+        return NO_SERVER
+    at, image, choose = room.folder / "nbd", room.file("image", EXPORT, b"\0"), random.Random(8)
+    pages, version, kills, forgetful = {}, 0, max(KILLS // 2, 1), ["--filter=cache", "file", image, "cache=writeback"]
+    disk = f"0:0={export_of(at)},cache-size=33M"
+    with contextlib.ExitStack() as last, nbdkit(at, *forgetful) as first, driven(room, "--disk", disk, ends=0) as (_, front, log):
+        server = first
+        for kill in range(1, 1 + kills):
+            for _ in range(choose.randrange(5, 40)):
+                version += 1
+                batch = [choose.randrange(1 << choose.choice((6, 16))) for _ in range(choose.randrange(1, 15))]
+                run_cached(front, [("write", page, version) for page in batch])
+                pages.update(dict.fromkeys(batch, version))
+                if choose.randrange(3) == 0:
+                    run_cached(front, [("flush", 0, 0)])
+            # It is killed amid these, or behind some of them.
+            version, begun = version + 1, front.count
+            batch = [choose.randrange(1 << 16) for _ in range(10)]
+            far = choose.choice([page for page in range(1 << 16) if page not in pages and page not in batch])
+            front.read(8 * far, 4096)
+            for page in batch:
+                front.write(8 * page, stamped(page, version))
+            pages.update(dict.fromkeys(batch, version))
+            if choose.randrange(2):
+                front.flush()
+            time.sleep(choose.choice((0, 0.001, 0.01)))
+            end_server(server, at)
+            time.sleep(choose.choice((0, 0.2)))
+            # A guest that asks for more meanwhile isn't refused.
+            front.flush()
+            wait_for(lambda: log.read_text().count("the NBD server is gone") == kill, "a line that says so")  # noqa: B023
+            assert front.asks()
+            server = last.enter_context(nbdkit(at, *(forgetful if kill % 2 else ["file", image])))
+            wait_for(lambda: log.read_text().count("the NBD server is there again") == kill, "the other line")  # noqa: B023
+            wait_for(lambda: front.answered() == front.count & 0xFFFF, "all that waited")
+            said = [front.status(number) for number in range(begun, front.count)]
+            assert not any(said) and front.data(begun, 4096) == bytes(4096), (kill, said)
+            run_cached(front, [("flush", 0, 0)])
+            with image.open("rb") as file:
+                for page, wanted in pages.items():
+                    file.seek(4096 * page)
+                    assert file.read(4096) == stamped(page, wanted), (page, wanted, kill)
+    return None
+
+
+def test_nbd_errors(room):
+    """Where a server fails reads, writes or flushes, commands wait, that is said once, and all goes on once it doesn't."""
+    if not has_servers(room):
+        return NO_SERVER
+    at, image = room.folder / "nbd", room.file("image", 64 * MIB)
+    fails = {what: room.folder / f"fails-{what}" for what in ("pread", "pwrite", "zero")}
+    words = [word for what, file in fails.items() for word in (f"error-{what}=EIO", f"error-{what}-rate=100%", f"error-{what}-file={file}")]
+    with nbdkit(at, "--filter=error", "file", image, *words), driven(room, "--disk", f"0:0={export_of(at)},rerror=stop", ends=0) as (run, front, log):
+        fails["pread"].touch()
+        front.read(8 * 3, 4096)
+        wait_for(lambda: "can't be read, and is tried again: Input/output error" in log.read_text(), "a line")
+        assert front.asks() and front.answered() == 0
+        fails["pread"].unlink()
+        wait_for(lambda: front.answered() == 1, "the READ")
+        assert front.data(0, 4096) == b"\x5a" * 4096
+        fails["pwrite"].touch()
+        run_cached(front, [("write", page, 5) for page in range(100, 110)])
+        front.flush()
+        wait_for(lambda: "can't be written" in log.read_text(), "a line")
+        before = taken(run)
+        time.sleep(1)
+        assert front.answered() == 11 and taken(run) - before < 100_000_000 and log.read_text().count("can't be written") == 1
+        fails["pwrite"].unlink()
+        wait_for(lambda: front.answered() == 12 and not front.status(11), "the SYNCHRONIZE CACHE")
+        assert all(has(image, 4096 * page, stamped(page, 5)) for page in range(100, 110))
+        wait_for(lambda: "can be written again" in log.read_text(), "a line")
+    return None
+
+
+def test_nbd_left(room):
+    """A daemon that ends while its server is gone says what isn't kept, and with status 1. Zeros that a server doesn't take are sent."""
+    if not has_servers(room):
+        return NO_SERVER
+    at, image = room.folder / "nbd", room.file("image", 64 * MIB)
+    with nbdkit(at, "file", image) as server, driven(room, "--disk", f"0:0={export_of(at)}", ends=1) as (_, front, log):
+        run_cached(front, [("write", 1, 1), ("flush", 0, 0)])
+        end_server(server, at)
+        run_cached(front, [("write", 2, 2)])
+    text = log.read_text()
+    assert "WRITEs behind the last SYNCHRONIZE CACHE aren't all kept" in text and has(image, 4096, stamped(1, 1)), text
+    log.unlink()
+    disk = f"0:0={export_of(at)},detect-zeroes=unmap"
+    with nbdkit(at, "--filter=nozero", "file", image), driven(room, "--disk", disk, ends=0) as (_, front, _):
+        front.write(8, bytes(4096))
+        run_cached(front, [("flush", 0, 0)])
+        assert has(image, 4096, bytes(4096))
     return None
 
 
