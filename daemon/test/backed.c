@@ -452,7 +452,7 @@ static void go_beside_memory(unsigned number) {
   struct disks disks;
   struct front front;
   char why[200];
-  load_make(&disks, "128M", cached);
+  load_make(&disks, "128M", stopping);
   MUST(disks_add(&disks, "0:1=128M", why, sizeof why));
   load_begin(&front, &disks, number);
   MUST(front.session.backend.pages && !front.session.backend.keeps);
