@@ -11,7 +11,8 @@ use sense::SenseFormat;
 
 /// The words that name a disk, each with a value behind it.
 const WORDS: [&str; 10] = [
-    "vendor", "product", "revision", "serial", "naa", "exponent", "rotation", "sense", "cache", "access",
+    "vendor", "product", "revision", "serial", "naa", "exponent", "rotation", "sense", "cache",
+    "access",
 ];
 
 /// Returns true if a word names a disk by the value behind it.
