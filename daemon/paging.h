@@ -43,7 +43,7 @@ struct paging {
   bool is_device;          // the file is a block device
   unsigned losses;         // of connections to its server, behind which what was written was given up
   unsigned told_losses;    // and of which it was said
-  bool told_away;          // and that there is none
+  uint64_t told_away;      // when it was said last that there is none, or 0
   bool has_no_holes;       // it makes none
   bool fails;              // a write failed since writes were last begun anew
   bool starves;            // memory was refused, and is asked for again
