@@ -4,8 +4,8 @@
 
 #include "storage.h"
 
-// How many pages behind the last one that was wanted are read ahead at most. A chunk is where so many pages were wanted in a row, over so many
-// turns more than one: a long command alone is no habit of the guest's. All are behind more turns.
+// How many pages behind the last one that was wanted are read ahead at most. A chunk is where so many pages were wanted in a row, over so
+// many turns more than one: a long command alone is no habit of the guest's. All are behind more turns.
 enum { WINDOW = AHEAD_CHUNKS * CHUNK_PAGES, ROOM = WINDOW * PAGE_BYTES, FEW_PAGES = 32, FEW_TURNS = 4, MANY_TURNS = 8 };
 
 static uint64_t bit_of(const struct chunk *chunk, uint64_t page) { return UINT64_C(1) << (page - chunk->first); }

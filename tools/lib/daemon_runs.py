@@ -1580,7 +1580,8 @@ def test_nbd_left(room):
         server = last.enter_context(nbdkit(at, "file", image))
         with FrontEnd(connected(room.socket)) as front:
             numbers = run_cached(front, [("read", 2, 0), ("read", 900, 0), ("write", 4, 4), ("flush", 0, 0)])
-            assert [front.data(number, 4096) for number in numbers][:2] == [stamped(2, 3), b"\x5a" * 4096] and has(image, 4096 * 4, stamped(4, 4))
+            assert [front.data(number, 4096) for number in numbers][:2] == [stamped(2, 3), b"\x5a" * 4096]
+            assert has(image, 4096 * 4, stamped(4, 4))
         end_server(server, at)
         with FrontEnd(connected(room.socket)) as front:
             front.read(8 * 901, 4096)
