@@ -48,13 +48,17 @@ bool paging_open(struct disks *disks, char *why, size_t room) {
 void paging_close(struct disks *disks) {
   if (!disks->storage) return;
   paging_end_rest(disks);
-  for (size_t i = 0; i < disks->count; i++) {
-    if (disks->disks[i].paging) ahead_end(&disks->disks[i].paging->ahead);
-    free(disks->disks[i].paging);
-    disks->disks[i].paging = NULL;
-  }
+  for (size_t i = 0; i < disks->count; i++) paging_leave(disks, &disks->disks[i]);
   storage_end(disks->storage);
   disks->storage = NULL;
+}
+
+void paging_leave(struct disks *disks, struct disk *disk) {
+  if (!disk->paging) return;
+  if (disk->server) storage_leave(disks->storage, disk->server);
+  ahead_end(&disk->paging->ahead);
+  free(disk->paging);
+  disk->paging = NULL;
 }
 
 bool paging_watch(struct disks *disks, int epoll, uint32_t event) { return !disks->storage || storage_watch(disks->storage, epoll, event); }

@@ -65,6 +65,9 @@ bool paging_is_there(const struct disks *disks);
 bool paging_open(struct disks *disks, char *why, size_t room);
 void paging_close(struct disks *disks);
 
+// Lets go of what one disk has of it, with which nothing is under way.
+void paging_leave(struct disks *disks, struct disk *disk);
+
 // Has an epoll tell this event, by edges, when something is over. Returns false where it can't be.
 bool paging_watch(struct disks *disks, int epoll, uint32_t event);
 

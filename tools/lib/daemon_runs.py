@@ -1598,6 +1598,28 @@ def test_nbd_left(room):
     return None
 
 
+def test_nbd_detached(room):
+    """A disk on a server that is detached lets go of its connection, and others go on."""
+    if not has_servers(room) or not room.client:
+        return NO_SERVER + ", or no libjansson-dev"
+    paths, control = [room.folder / "one", room.folder / "two"], room.folder / "control"
+    disks = [word for lun, at in enumerate(paths) for word in ("--disk", f"0:{lun}={export_of(at)}")]
+    with nbdkit(paths[0], "memory", "64M"), nbdkit(paths[1], "memory", "64M"):
+        with room.runs(*disks, "--control", control) as run, Asking(control) as asking:
+            with FrontEnd(connected(room.socket)) as front:
+                front.write(8, stamped(1, 1), 1)
+                front.flush(1)
+                run_cached(front, [("read", page, 0) for page in range(8)])
+                assert asking.ask("resize", disk="0:1", size=32 * MIB) == "File"
+            wait_for(lambda: not asking.ask("stats")["front-end"], "the end of the session")
+            before = len(os.listdir(f"/proc/{run.pid}/fd"))
+            assert asking.ask("detach", disk="0:1") == {} and len(os.listdir(f"/proc/{run.pid}/fd")) == before - 1
+            with FrontEnd(connected(room.socket)) as front:
+                run_cached(front, [("write", 3, 3), ("flush", 0, 0), ("read", 3, 0)])
+                assert front.data(2, 4096) == stamped(3, 3)
+    return None
+
+
 # Isolation.
 
 
