@@ -4,8 +4,9 @@
 
 #include "storage.h"
 
-// How many pages behind the last one that was wanted are read ahead at most.
-enum { WINDOW = AHEAD_CHUNKS * CHUNK_PAGES, ROOM = WINDOW * PAGE_BYTES };
+// How many pages behind the last one that was wanted are read ahead at most. A chunk is where so many pages were wanted in a row, over so
+// many turns more than one: a long command alone is no habit of the guest's. All are behind more turns.
+enum { WINDOW = AHEAD_CHUNKS * CHUNK_PAGES, ROOM = WINDOW * PAGE_BYTES, FEW_PAGES = 32, FEW_TURNS = 4, MANY_TURNS = 8 };
 
 static uint64_t bit_of(const struct chunk *chunk, uint64_t page) { return UINT64_C(1) << (page - chunk->first); }
 
@@ -21,9 +22,11 @@ void ahead_end(struct ahead *ahead) {
   ahead->room = NULL;
 }
 
-const uint8_t *ahead_take(struct ahead *ahead, uint64_t page, bool *comes) {
+const uint8_t *ahead_take(struct ahead *ahead, uint64_t page, bool is_first, bool *comes) {
   struct chunk *chunk = chunk_of(ahead, page);
-  ahead->seen = page == ahead->next ? ahead->seen + (ahead->seen < HABIT) : 0;
+  bool goes_on = page == ahead->next;
+  ahead->seen = goes_on ? ahead->seen + 1 : 0;
+  ahead->turns = !goes_on ? 0 : ahead->turns + (is_first && ahead->turns < MANY_TURNS);
   ahead->next = page + 1;
   *comes = false;
   if (!chunk || !(chunk->stands & bit_of(chunk, page))) return NULL;
@@ -57,10 +60,10 @@ static bool has_room(struct ahead *ahead) {
 }
 
 struct chunk *ahead_begin(struct ahead *ahead, uint64_t pages) {
-  uint64_t end = ahead->next;
-  if (ahead->seen < HABIT) return NULL;
+  uint64_t end = ahead->next, window = ahead->turns < MANY_TURNS ? CHUNK_PAGES : WINDOW;
+  if (ahead->seen < FEW_PAGES || ahead->turns < FEW_TURNS) return NULL;
   for (const struct chunk *it = chunk_of(ahead, end); it; it = chunk_of(ahead, end)) end = it->first + it->count;
-  if (end >= pages || end + CHUNK_PAGES > ahead->next + WINDOW || !has_room(ahead)) return NULL;
+  if (end >= pages || end + CHUNK_PAGES > ahead->next + window || !has_room(ahead)) return NULL;
   struct chunk *chunk = free_chunk(ahead);
   if (!chunk) return NULL;
   chunk->state = CHUNK_READING;
@@ -96,6 +99,7 @@ void ahead_drop(struct ahead *ahead, uint64_t first, uint64_t count) {
 void ahead_forget(struct ahead *ahead) {
   for (struct chunk *it = ahead->chunks; it < ahead->chunks + AHEAD_CHUNKS; it++) it->state = CHUNK_FREE;
   ahead->seen = 0;
+  ahead->turns = 0;
 }
 
 bool ahead_is_wanted(const struct ahead *ahead) {

@@ -18,8 +18,8 @@
 #include <stddef.h>
 #include <stdint.h>
 
-// How many chunks a disk has, pages of each, and how many pages commands want in a row before that is taken for a habit.
-enum { AHEAD_CHUNKS = 4, CHUNK_PAGES = 64, HABIT = 128 };
+// How many chunks a disk has, and pages of each.
+enum { AHEAD_CHUNKS = 4, CHUNK_PAGES = 64 };
 
 // Pages that are read at once. Of each there is a bit that it may be handed in, and that a command waits for it.
 struct chunk {
@@ -32,17 +32,18 @@ struct chunk {
 struct ahead {
   uint8_t *room;  // of all chunks, or NULL
   struct chunk chunks[AHEAD_CHUNKS];
-  uint64_t next;  // the page behind the one that was wanted last, and how many before it were wanted in a row
-  unsigned seen;
+  uint64_t next;  // the page behind the one that was wanted last, how many before it were wanted in a row, and over how many turns
+  uint64_t seen;
+  unsigned turns;
   size_t under_way;
 };
 
 // Lets go of the buffer.
 void ahead_end(struct ahead *ahead);
 
-// Notes that the device wants a page. Returns its bytes where they were read ahead: they are handed in now. Else `comes` tells whether the
-// page is being read ahead, and is to be handed in then.
-const uint8_t *ahead_take(struct ahead *ahead, uint64_t page, bool *comes);
+// Notes that the device wants a page, the first one of a turn or another one. Returns its bytes where they were read ahead: they are handed
+// in now. Else `comes` tells whether the page is being read ahead, and is to be handed in then.
+const uint8_t *ahead_take(struct ahead *ahead, uint64_t page, bool is_first, bool *comes);
 
 // Begins a chunk of a disk that has so many whole pages. Returns NULL where there is nothing to read ahead now, or no room.
 struct chunk *ahead_begin(struct ahead *ahead, uint64_t pages);

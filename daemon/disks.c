@@ -179,7 +179,7 @@ bool disks_find(const struct disks *disks, const char *words, size_t *which) {
 static void close_disk(struct disks *disks, size_t which) {
   if (disks->disks[which].file >= 0) close(disks->disks[which].file);
   free(disks->disks[which].backlog.ranges);
-  free(disks->disks[which].paging);
+  paging_leave(disks, &disks->disks[which]);
   store_drop(&disks->stores[which]);
   server_close(disks->disks[which].server);
   free(disks->disks[which].path);

@@ -48,13 +48,17 @@ bool paging_open(struct disks *disks, char *why, size_t room) {
 void paging_close(struct disks *disks) {
   if (!disks->storage) return;
   paging_end_rest(disks);
-  for (size_t i = 0; i < disks->count; i++) {
-    if (disks->disks[i].paging) ahead_end(&disks->disks[i].paging->ahead);
-    free(disks->disks[i].paging);
-    disks->disks[i].paging = NULL;
-  }
+  for (size_t i = 0; i < disks->count; i++) paging_leave(disks, &disks->disks[i]);
   storage_end(disks->storage);
   disks->storage = NULL;
+}
+
+void paging_leave(struct disks *disks, struct disk *disk) {
+  if (!disk->paging) return;
+  if (disk->server) storage_leave(disks->storage, disk->server);
+  ahead_end(&disk->paging->ahead);
+  free(disk->paging);
+  disk->paging = NULL;
 }
 
 bool paging_watch(struct disks *disks, int epoll, uint32_t event) { return !disks->storage || storage_watch(disks->storage, epoll, event); }
@@ -331,7 +335,7 @@ static void read_ahead(struct disks *disks, size_t which) {
 static bool begin_reads(struct disks *disks, size_t which, struct device *device) {
   struct disk *disk = &disks->disks[which];
   struct paging *paging = disk->paging;
-  bool handed_in = false, comes;
+  bool handed_in = false, is_first = true, comes;
   // Beside one that can't be read others may be.
   struct gathering gathering = {disks, which, paging->reading.error ? 1 : MOST_TRANSFERRED, NULL, NULL};
   if (is_away(disk) || (paging->reading.error && clock_now() < paging->reading.due)) return false;
@@ -343,7 +347,8 @@ static bool begin_reads(struct disks *disks, size_t which, struct device *device
       storage_put_buffer(disks->storage, buffer, TRANSFER_READ);
       break;
     }
-    const uint8_t *bytes = ahead_take(&paging->ahead, page, &comes);
+    const uint8_t *bytes = ahead_take(&paging->ahead, page, is_first, &comes);
+    is_first = false;
     paging->counts.asked++;
     if (bytes || comes) storage_put_buffer(disks->storage, buffer, TRANSFER_READ);
     else add_page(&gathering, TRANSFER_READ, page, buffer);
@@ -505,17 +510,19 @@ static RARE void tell(struct disk *disk) {
   }
 }
 
-// Says of a server that it is gone, each time, and that it is there again.
+// Says of a server that it is gone, each time and once a minute, and that it is there again.
 static void tell_losses(struct disk *disk) {
   struct paging *paging = disk->paging;
-  if (paging->told_losses != server_losses(disk->server)) {
+  uint64_t now = clock_now();
+  bool is_lost = paging->told_losses != server_losses(disk->server), is_there = !is_away(disk);
+  if (is_lost || (!is_there && now - paging->told_away >= COMPLAINT)) {
     log_say(LOG_ERROR, disk, "the NBD server is gone, and is tried again: %s", server_fault(disk->server));
     paging->told_losses = server_losses(disk->server);
-    paging->told_away = true;
+    paging->told_away = now;
   }
-  if (!paging->told_away || is_away(disk)) return;
+  if (!paging->told_away || !is_there) return;
   log_say(LOG_ERROR, disk, "the NBD server is there again");
-  paging->told_away = false;
+  paging->told_away = 0;
 }
 
 void paging_tell(struct disks *disks) {

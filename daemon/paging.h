@@ -44,7 +44,7 @@ struct paging {
   bool is_device;          // the file is a block device
   unsigned losses;         // of connections to its server, behind which what was written was given up
   unsigned told_losses;    // and of which it was said
-  bool told_away;          // and that there is none
+  uint64_t told_away;      // when it was said last that there is none, or 0
   bool has_no_holes;       // it makes none
   bool fails;              // a write failed since writes were last begun anew
   bool starves;            // memory was refused, and is asked for again
@@ -65,6 +65,9 @@ bool paging_is_there(const struct disks *disks);
 // it.
 bool paging_open(struct disks *disks, char *why, size_t room);
 void paging_close(struct disks *disks);
+
+// Lets go of what one disk has of it, with which nothing is under way.
+void paging_leave(struct disks *disks, struct disk *disk);
 
 // Has an epoll tell this event, by edges, when something is over. Returns false where it can't be.
 bool paging_watch(struct disks *disks, int epoll, uint32_t event);

@@ -13,9 +13,9 @@
 #include "signals.h"
 #include "storage.h"
 
-// Milliseconds: for how long the first connection may take, in which portions that is looked at, between two tries to connect again, and
-// between two looks at a connection that nothing is asked of.
-enum { FIRST = 10000, PORTION = 50, LEAST_PAUSE = 50, MOST_PAUSE = 5000, IDLE = 10 };
+// Milliseconds: for how long a connection may take to be made, in which portions the first one is looked at, between two tries to connect
+// again, and between two looks at a connection that nothing is asked of.
+enum { MAKING = 10000, PORTION = 50, LEAST_PAUSE = 50, MOST_PAUSE = 5000, IDLE = 10 };
 enum { FAULT = 200 };
 
 // A request: how many parts of it the server hasn't answered yet, and by which error number one failed, or 0.
@@ -38,13 +38,13 @@ struct server {
   int epoll;
   uint32_t event;
   unsigned losses, pause;
-  uint64_t due, looked;  // when it is connected again, and when it was looked at last
+  uint64_t due, looked;  // when it is connected again, or has to be by; and when it was looked at last
   size_t under_way;
   char fault[FAULT];
   struct request requests[MOST_TRANSFERS], *over, **last;
 };
 
-static const char closed[] = "the server closed the connection";
+static const char closed[] = "the server closed the connection", silent[] = "the server doesn't answer";
 
 bool server_is_built(void) { return true; }
 
@@ -93,10 +93,10 @@ static bool is_gone(const struct server *server) { return nbd_aio_is_dead(server
 
 // Waits for the first connection. Returns false, and notes why, where there is none.
 static bool await(struct server *server) {
-  uint64_t until = clock_now() + FIRST;
+  uint64_t until = clock_now() + MAKING;
   while (!nbd_aio_is_ready(server->nbd)) {
     if (is_gone(server)) return note_fault(server, closed), false;
-    if (signals_end_waits() || clock_now() >= until) return note_fault(server, "the server doesn't answer"), false;
+    if (signals_end_waits() || clock_now() >= until) return note_fault(server, silent), false;
     if (nbd_poll(server->nbd, PORTION) < 0) return note_fault(server, nbd_get_error()), false;
   }
   return true;
@@ -185,6 +185,7 @@ static void connect_again(struct server *server) {
   bool begun = make(server) && !nbd_set_export_name(server->nbd, server->name);
   if (begun && server->length) begun = !nbd_aio_connect(server->nbd, (struct sockaddr *)&server->address, server->length);
   else if (begun) begun = !nbd_aio_connect_uri(server->nbd, server->uri);
+  server->due = clock_now() + MAKING;
   if (!begun || !watch(server)) lose(server, nbd_get_error());
 }
 
@@ -219,6 +220,8 @@ bool server_turn(struct server *server) {
   server->looked = now;
   if (!server->nbd && now >= server->due) connect_again(server);
   while (server->nbd && go_on(server)) continue;
+  // Nothing was asked of it yet, so that nothing is done twice.
+  if (server->nbd && !server->is_there && now >= server->due) lose(server, silent);
   return was_there != server->is_there || losses != server->losses;
 }
 

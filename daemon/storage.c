@@ -54,6 +54,13 @@ void storage_end(struct storage *storage) {
 
 void storage_add(struct storage *storage, struct server *server) { storage->servers[storage->server_count++] = server; }
 
+void storage_leave(struct storage *storage, const struct server *server) {
+  size_t left = 0;
+  for (size_t i = 0; i < storage->server_count; i++)
+    if (storage->servers[i] != server) storage->servers[left++] = storage->servers[i];
+  storage->server_count = left;
+}
+
 bool storage_watch(struct storage *storage, int epoll, uint32_t event) {
   struct epoll_event edges = {.events = EPOLLIN | EPOLLET, .data.u32 = event};
   bool stands = !epoll_ctl(epoll, EPOLL_CTL_ADD, uring_descriptor(storage->uring), &edges);

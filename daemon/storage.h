@@ -40,8 +40,9 @@ bool storage_is_built(void);
 struct storage *storage_make(char *why, size_t room);
 void storage_end(struct storage *storage);
 
-// Has transfers go to this server, too. It stays the caller's.
+// Has transfers go to this server, too, or no more. It stays the caller's.
 void storage_add(struct storage *storage, struct server *server);
+void storage_leave(struct storage *storage, const struct server *server);
 
 // Has an epoll tell this event, by edges, when something is over.
 bool storage_watch(struct storage *storage, int epoll, uint32_t event);

@@ -392,17 +392,19 @@ void test_backed_stale(void) {
 // Pages in a row, of which the first ones are read; then what is read ahead is held back, and some of that is written, and others until
 // these aren't in memory.
 static void go_ahead(unsigned number, bool fails) {
-  enum { ROW = 600, FIRST = 150, WRITTEN = 20, OTHERS = 2000 };
+  enum { ROW = 600, EACH = 10, FIRST = 5 * EACH, WRITTEN = 20, OTHERS = 2000 };
   struct disks disks;
   struct front front;
   begin(&front, &disks, number);
   const struct paging *paging = disks.disks[0].paging;
   MUST(write_pages(&front, ROW, 1));
   forget(&front, &disks, number);
-  MUST(read_pages(&front, ROW, 1) && paging->counts.ahead >= ROW / 3 && paging->counts.handed_in >= ROW);
+  for (unsigned at = 0; at < ROW; at += EACH) MUST(read_from(&front, at, EACH, 1));
+  MUST(paging->counts.ahead >= ROW / 3 && paging->counts.handed_in >= ROW);
   forget(&front, &disks, number);
   faults.held_ahead = true;
-  MUST(read_pages(&front, FIRST, 1) && paging->ahead.under_way);
+  for (unsigned at = 0; at < FIRST; at += EACH) MUST(!paging->ahead.under_way && read_from(&front, at, EACH, 1));
+  MUST(paging->ahead.under_way);
   MUST(write_from(&front, FIRST, WRITTEN, 2) && sync_disk(&front) && write_from(&front, OTHERS, MORE_PAGES, 1));
   // A command waits for what is read ahead, whose end is told to it.
   put_read_of(&front, 0, Q, 0, page_at(FIRST + 3 * WRITTEN) * 8);

@@ -1304,13 +1304,13 @@ def read_and_write(front, choose, versions, rounds):
     """
     for version in range(rounds):
         start, far = choose.randrange(0, 1 << 15, 512), [(1 << 15) + page for page in choose.sample(range(1 << 14), 8700)]
-        read_pages(front, range(start, start + 112), versions)
+        read_pages(front, range(start, start + 28), versions)
         for before in (True, False):
             those = [start + choose.randrange(180, 400) for _ in range(12)]
             run_cached(front, [("write", page, 2 * version + before + 1) for page in those])
             versions.update(dict.fromkeys(those, 2 * version + before + 1))
             if before:
-                read_pages(front, range(start + 112, start + 154), versions)
+                read_pages(front, range(start + 28, start + 154), versions)
         run_cached(front, [("flush", 0, 0)])
         read_pages(front, far, versions)
         read_pages(front, range(start + 154, start + 500), versions)
@@ -1331,6 +1331,15 @@ def test_cached_ahead(room):
                 assert told["pages-given"] >= told["pages-kept"] >= 48 and not told["pages-failed"] and not told["pages-unread"], told
         log.unlink()
         (room.folder / "image").unlink()
+    # Of long READs that don't follow one another nothing is read that they don't want.
+    with driven(room, "--disk", f"0:0=256M,file={room.folder / 'image'}{CACHED}", *control, ends=0) as (_, front, _):
+        for number in range(6):
+            front.read(8 * 5000 * number, MIB // 2)
+            wait_for(lambda: front.answered() == number + 1 and not front.status(number), "a long READ")  # noqa: B023
+        if control:
+            with Asking(control[1]) as asking:
+                told = asking.ask("stats")["disks"][0]
+            assert told["pages-asked"] == told["pages-read"] == 6 * 128 and not told["pages-ahead"], told
     if not has_servers(room):
         return None
     # Its writes come behind reads that it was asked for later.
@@ -1579,11 +1588,57 @@ def test_nbd_left(room):
     text = log.read_text()
     assert "WRITEs behind the last SYNCHRONIZE CACHE aren't all kept" in text and has(image, 4096, stamped(1, 1)), text
     log.unlink()
+    # What a front end left is written with none, once the server is there again. One that goes between two front ends is no matter.
+    with contextlib.ExitStack() as last, nbdkit(at, "file", image) as server, room.runs("--log", log, "--disk", f"0:0={export_of(at)}"):
+        with FrontEnd(connected(room.socket)) as front:
+            run_cached(front, [("write", 1, 3), ("flush", 0, 0)])
+            end_server(server, at)
+            run_cached(front, [("write", 2, 3)])
+        wait_for(lambda: "the session is over" in log.read_text(), "the end of the session")
+        server = last.enter_context(nbdkit(at, "file", image))
+        wait_for(lambda: has(image, 4096 * 2, stamped(2, 3)), "the page that was left")
+        end_server(server, at)
+        time.sleep(0.1)
+        server = last.enter_context(nbdkit(at, "file", image))
+        with FrontEnd(connected(room.socket)) as front:
+            numbers = run_cached(front, [("read", 2, 0), ("read", 900, 0), ("write", 4, 4), ("flush", 0, 0)])
+            assert [front.data(number, 4096) for number in numbers][:2] == [stamped(2, 3), b"\x5a" * 4096]
+            assert has(image, 4096 * 4, stamped(4, 4))
+        end_server(server, at)
+        with FrontEnd(connected(room.socket)) as front:
+            front.read(8 * 901, 4096)
+            time.sleep(0.2)
+            assert front.answered() == 0 and front.asks()
+            last.enter_context(nbdkit(at, "file", image))
+            wait_for(lambda: front.answered() == 1 and not front.status(0), "the READ")
+    log.unlink()
     disk = f"0:0={export_of(at)},detect-zeroes=unmap"
     with nbdkit(at, "--filter=nozero", "file", image), driven(room, "--disk", disk, ends=0) as (_, front, _):
         front.write(8, bytes(4096))
         run_cached(front, [("flush", 0, 0)])
         assert has(image, 4096, bytes(4096))
+    return None
+
+
+def test_nbd_detached(room):
+    """A disk on a server that is detached lets go of its connection, and others go on."""
+    if not has_servers(room) or not room.client:
+        return NO_SERVER + ", or no libjansson-dev"
+    paths, control = [room.folder / "one", room.folder / "two"], room.folder / "control"
+    disks = [word for lun, at in enumerate(paths) for word in ("--disk", f"0:{lun}={export_of(at)}")]
+    with nbdkit(paths[0], "memory", "64M"), nbdkit(paths[1], "memory", "64M"):
+        with room.runs(*disks, "--control", control) as run, Asking(control) as asking:
+            with FrontEnd(connected(room.socket)) as front:
+                front.write(8, stamped(1, 1), 1)
+                front.flush(1)
+                run_cached(front, [("read", page, 0) for page in range(8)])
+                assert asking.ask("resize", disk="0:1", size=32 * MIB) == "File"
+            wait_for(lambda: not asking.ask("stats")["front-end"], "the end of the session")
+            before = len(os.listdir(f"/proc/{run.pid}/fd"))
+            assert asking.ask("detach", disk="0:1") == {} and len(os.listdir(f"/proc/{run.pid}/fd")) == before - 1
+            with FrontEnd(connected(room.socket)) as front:
+                run_cached(front, [("write", 3, 3), ("flush", 0, 0), ("read", 3, 0)])
+                assert front.data(2, 4096) == stamped(3, 3)
     return None
 
 
