@@ -13,9 +13,9 @@
 #include "signals.h"
 #include "storage.h"
 
-// Milliseconds: for how long a connection may take to be made, in which portions the first one is looked at, between two tries to connect
-// again, and between two looks at a connection that nothing is asked of.
-enum { MAKING = 10000, PORTION = 50, LEAST_PAUSE = 50, MOST_PAUSE = 5000, IDLE = 10 };
+// Milliseconds: for how long a connection may take to be made, in which portions the first one is looked at, and between two tries to
+// connect again.
+enum { MAKING = 10000, PORTION = 50, LEAST_PAUSE = 50, MOST_PAUSE = 5000 };
 enum { FAULT = 200 };
 
 // A request: how many parts of it the server hasn't answered yet, and by which error number one failed, or 0.
@@ -38,8 +38,7 @@ struct server {
   int epoll;
   uint32_t event;
   unsigned losses, pause;
-  uint64_t due, looked;  // when it is connected again, or has to be by; and when it was looked at last
-  size_t under_way;
+  uint64_t due;  // when it is connected again, or has to be by
   char fault[FAULT];
   struct request requests[MOST_TRANSFERS], *over, **last;
 };
@@ -216,8 +215,7 @@ bool server_turn(struct server *server) {
   bool was_there = server->is_there;
   unsigned losses = server->losses;
   uint64_t now = clock_now();
-  if (was_there && !server->under_way && now - server->looked < IDLE) return false;
-  server->looked = now;
+  // Also where nothing is asked of it: the edge that tells that it is lost comes once.
   if (!server->nbd && now >= server->due) connect_again(server);
   while (server->nbd && go_on(server)) continue;
   // Nothing was asked of it yet, so that nothing is done twice.
@@ -230,7 +228,6 @@ static struct request *begin_request(struct server *server, void *what) {
   struct request *request = server->requests;
   while (request->what) request++;
   *request = (struct request){.what = what, .server = server, .error = server->is_there ? 0 : ENOTCONN};
-  server->under_way++;
   return request;
 }
 
@@ -287,9 +284,7 @@ bool server_next(struct server *server, void **what, int *error) {
   *what = request->what;
   *error = request->error;
   request->what = NULL;
-  server->under_way--;
-  if (*error) server->looked = 0;
-  else server->pause = 0;
+  if (!*error) server->pause = 0;
   return true;
 }
 #else
