@@ -1576,6 +1576,29 @@ def test_nbd_errors(room):
     return None
 
 
+def test_nbd_lost(room):
+    """A READ of a page that a server can't read ends with MEDIUM ERROR, and that is said. The page is read once more, and where that fails
+    the next READ ends so, too. Behind that all is well, once the server reads the page.
+    """
+    if not has_servers(room):
+        return NO_SERVER
+    at, image, fails = room.folder / "nbd", room.file("image", 64 * MIB), room.folder / "fails"
+    words = ["--filter=error", "file", image, "error-pread=EIO", "error-pread-rate=100%", f"error-pread-file={fails}"]
+    with nbdkit(at, *words), driven(room, "--disk", f"0:0={export_of(at)}", ends=0) as (_, front, log):
+        fails.touch()
+        front.read(8 * 3, 4096)
+        wait_for(lambda: front.answered() == 1, "the READ")
+        # SPC-4 4.5.3: valid and current, MEDIUM ERROR, block 24, UNRECOVERED READ ERROR.
+        assert front.status(0) == 0x02 and front.sense(0) == bytes.fromhex("f0000300000018 0a00000000 1100 00000000")
+        wait_for(lambda: "can't be read, which its guest is told: Input/output error" in log.read_text(), "a line")
+        fails.unlink()
+        for count in (2, 3):
+            front.read(8 * 3, 4096)
+            wait_for(lambda: front.answered() == count, "another READ")  # noqa: B023
+        assert not front.status(2) and front.data(2, 4096) == b"\x5a" * 4096
+    return None
+
+
 def test_nbd_left(room):
     """A daemon that ends while its server is gone says what isn't kept, and with status 1. Zeros that a server doesn't take are sent."""
     if not has_servers(room):

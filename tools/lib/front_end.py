@@ -97,6 +97,11 @@ class FrontEnd:
         """The status of a request that was answered."""
         return self.memory[REQUESTS + 0x200 * (number % PLACES) + 0x100 + 10]
 
+    def sense(self, number):
+        """The sense data of a request that was answered."""
+        at = REQUESTS + 0x200 * (number % PLACES) + 0x100 + 12
+        return self.memory[at : at + 18]
+
     def data(self, number, length):
         """The data of a READ."""
         at = DATA + 0x1000 * (number % PLACES)

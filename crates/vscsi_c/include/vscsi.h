@@ -611,10 +611,10 @@ enum vscsi_answer vscsi_live_load(struct vscsi_live *device, uint8_t target, uin
 enum vscsi_answer vscsi_live_load_failed(struct vscsi_live *device, uint8_t target, uint16_t lun, uint64_t page);
 
 /* Says that the storage can't read a page which the host was told to read. Behind the next vscsi_live_wake one command that needs
- * the page ends with CHECK CONDITION, MEDIUM ERROR, UNRECOVERED READ ERROR (03/11/00), and changes no block. The page is told again
- * where another command needs it, also where the guest sends the same again. A WRITE of all 8 blocks needs no page. 64 such pages
- * are noted for a disk at most; for another the oldest of these is told again, as behind vscsi_live_load_failed. Takes no memory.
- * Since 1.8.
+ * the page ends with CHECK CONDITION, MEDIUM ERROR, UNRECOVERED READ ERROR (03/11/00), and changes no block. The page is told once more
+ * then. Where the host says again that it can't be read, the next command that needs it ends so, too, also where the guest sends the
+ * same again. A WRITE of all 8 blocks needs no page. 64 such pages are noted for a disk at most; for another the oldest of these is
+ * told again, as behind vscsi_live_load_failed. Where malloc refuses a note, the page is told again, too. Since 1.8.
  * The first of these, in this order, that is so: VSCSI_NO_DEVICE; VSCSI_NO_UNIT. */
 enum vscsi_answer vscsi_live_lost(struct vscsi_live *device, uint8_t target, uint16_t lun, uint64_t page);
 
