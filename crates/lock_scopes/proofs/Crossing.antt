@@ -49,6 +49,7 @@ use Rattle.unit_history.specs.contracts.unit.UnitState.TheInside as unit
 use Rattle.block_store.proofs.edges.Prepared.TheSendSync as pages
 use Rattle.block_store.proofs.paged.PagedStore.TheSendSync as store
 use Rattle.backed_store.proofs.cache.Cache.TheSendSync as cache
+use Rattle.backed_store.proofs.lost.LostPages.TheSendSync as lost_pages
 use Rattle.backed_store.specs.contracts.backed.BackedStore.{the_field as backed_field, the_type as backed_type}
 use Rattle.backed_store.specs.contracts.disk.Disk.{the_field as disk_field, the_type as disk_type}
 use Rattle.unit_history.proofs.changes.Changes.TheSendSync as changes
@@ -144,7 +145,8 @@ lasts_sends : IsSend lasts_row
 lasts_sends = search (sendable, lasts_fields)
 
 backed_sends : IsSend backed_field.row
-backed_sends = struct_send (shape backed_type) (search sendable, (search sendable, (cache.the_field_send, (search sendable, (search crosses depth 30, (search crosses depth 30, tt))))))
+backed_sends = struct_send (shape backed_type)
+    (search sendable, (search sendable, (cache.the_field_send, (search sendable, (lost_pages.the_field_send, (search crosses depth 30, (search crosses depth 30, tt)))))))
 
 disk_sends : IsSend disk_field.row
 disk_sends = enum_send (enum_shape disk_type) ((store.the_field_send, tt), ((backed_sends, tt), tt))
