@@ -5,7 +5,7 @@ ghost use Rattle.std.specs.Prelude.{◌≤◌, vec_len};
 use foundation::NoMemory;
 use std::alloc::Global;
 
-/// How many pages are kept at most.
+/// The most pages that are kept.
 const MOST: usize = 64;
 
 /// The latest pages that the host said it can't read, each once, the oldest first: at most 64.

@@ -1,4 +1,4 @@
-//! What a read-only unit refuses.
+//! Commands that a read-only unit refuses.
 
 ghost use Rattle.std.specs.Prelude.{◌≡◌};
 ghost use Rattle.command_model.specs.Effects.{changes_medium, changes_wide};

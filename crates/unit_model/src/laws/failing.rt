@@ -23,8 +23,8 @@ pub fn what_cant_be_read_changes_nothing()
         r.status ≡ check_condition }
     ensures sense { (o : Opening) (e : Entry) (past : List Step) (p : ℕ) (r : PlainReply) → IsUnreadAfter o e past p r →
         r.sense ≡ Some (in_format (format_told (facts_after o past)) (unrecovered_read_error (max (first_named e.command) (8 * p)))) }
-    ensures blocks { (o : Opening) (e : Entry) (t : Ticket) (past : List Step) (p : ℕ) (r : PlainReply) (b : ℕ) → IsUnreadAfter o e past p r →
-        blocks_of o (Step.Commit t r ∷ past) b ≡ blocks_of o past b }
+    ensures blocks { (o : Opening) (e : Entry) (t : Ticket) (past : List Step) (p : ℕ) (r : PlainReply) (b : ℕ) →
+        IsUnreadAfter o e past p r → blocks_of o (Step.Commit t r ∷ past) b ≡ blocks_of o past b }
     ensures cached { (o : Opening) (e : Entry) (past : List Step) (r : PlainReply) → MayReply o e past r →
         cache_told (facts_after o past) ≡ false → r ≡ reply_after o e past }
 {}
