@@ -72,7 +72,7 @@ pub goes-on : (old new : BackedStore) → IsHost old new → KeepsFlushes old ne
 goes-on old new host = stays-on old new host.storage host.owed host.writing
 
 -- a page whose write is under way has room
-writing-room : (m : Option Mark) → marks.is_writing (state_of m) ≡ true → has_room m ≡ true
+pub writing-room : (m : Option Mark) → marks.is_writing (state_of m) ≡ true → has_room m ≡ true
 writing-room None never = let no : false ≡ true = never in cc
 writing-room (Some m) is = by_test m.held m.writing m.listed refl refl refl
   where

@@ -9,3 +9,4 @@ pub mod Pairs
 pub mod Fenced
 pub mod Flushing
 pub mod Lengths
+pub mod Progressing

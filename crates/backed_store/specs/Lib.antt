@@ -12,5 +12,7 @@ pub mod Backing
 pub mod Lost
 pub mod Stores
 pub mod Flushes
+pub mod Fences
+pub mod BackedDisks
 pub mod Inner
 pub mod Disks

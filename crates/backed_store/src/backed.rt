@@ -40,10 +40,11 @@ pub struct BackedStore {
 }
 
 impl BackedStore {
-    ghost use Rattle.std.specs.Prelude.{◌*◌, ◌&&◌, nat_lt, false, min, []};
+    ghost use Rattle.std.specs.Prelude.{◌*◌, ◌&&◌, nat_lt, false, min, [], None, if◌then◌else◌};
     ghost use Rattle.block_store.specs.Pages.{blocks_in};
     ghost use Rattle.backed_store.specs.Flushes.{KeepsFlushes};
-    ghost use Rattle.backed_store.specs.Stores.{contents, backing_of, ledger_of, holds, is_noted as notes, OwesNoMore};
+    ghost use Rattle.backed_store.specs.Caches.{mark_at};
+    ghost use Rattle.backed_store.specs.Stores.{contents, backing_of, storage_of, ledger_of, holds, is_noted as notes, OwesNoMore};
     ghost use Rattle.block_store.specs.Storage.{cut, and_then, Dealing as ADealing};
 
     /// Makes a store of so many blocks, of which the host's storage has this content. No page is in memory. At most
@@ -80,6 +81,8 @@ impl BackedStore {
         ensures held { (b : ℕ) → b < min self.old.capacity blocks → holds self.new b ≡ holds self.old b }
         // The host's storage can read the zeros.
         ensures noted { (p : ℕ) → notes self.new p ≡ (nat_lt (8 * p) (min self.old.capacity blocks) && notes self.old p) }
+        ensures marks { (p : ℕ) → mark_at self.new.cache p ≡ (if nat_lt (8 * p) (min self.old.capacity blocks) then mark_at self.old.cache p else None) }
+        ensures given { (b : ℕ) → (storage_of self.new).given b ≡ cut (min self.old.capacity blocks) (storage_of self.old).given b }
         ensures owing { OwesNoMore self.old self.new }
         ensures flushes { KeepsFlushes self.old self.new }
     {

@@ -2,12 +2,14 @@
 
 ghost use Rattle.std.specs.Prelude.{◌≡◌, ℕ, ◌*◌, ◌<◌, ◌==◌, not, true, length, filter, slice_get, IsTrue, IsFalse, IfOk, OnErr, IfSome, IfNone};
 ghost use Rattle.std.specs.Option.{option_map};
-ghost use Rattle.block_store.specs.Storage.{IsPageOf, Dealing, and_then, storage_by, is_lost};
-ghost use Rattle.backed_store.specs.Disks.{size_of, blocks_of, holds, is_coming, has_room, storage_of, is_backed, noted};
+ghost use Rattle.block_store.specs.Storage.{IsPageOf, Dealing, storage_by, is_lost};
+ghost use Rattle.block_store.specs.Progress.{hosted_after};
+ghost use Rattle.backed_store.specs.Disks.{size_of, blocks_of, holds, is_coming, has_room, hosted_of, storage_of, is_backed, noted};
 
 use crate::dealing::GivenPage;
 use crate::disk::Disk;
 use crate::numbers::PAGE_BYTES;
+use crate::page_range::PageRange;
 use foundation::NoMemory;
 
 impl Disk {
@@ -16,13 +18,13 @@ impl Disk {
     pub fn next_wanted(&mut self) -> Option<u64>
         ensures blocks { (b : ℕ) → blocks_of self.new b ≡ blocks_of self.old b }
         ensures size { size_of self.new ≡ size_of self.old }
-        ensures storage { storage_of self.new ≡ storage_of self.old }
+        ensures storage { hosted_of self.new ≡ hosted_of self.old }
         ensures backed { IfSome result (λ page. is_backed self.old ≡ true) }
         ensures below { IfSome result (λ page. 8 * page < size_of self.old) }
     {
         match self {
             Disk::Whole(_) => None,
-            Disk::Backed(store) => store.next_wanted(),
+            Disk::Backed(disk) => disk.store.next_wanted(),
         }
     }
 
@@ -33,11 +35,11 @@ impl Disk {
         requires kept { IfSome (storage_of self.old) (λ s. IsPageOf (storage_by s).kept page bytes.now) }
         ensures blocks { (b : ℕ) → blocks_of self.new b ≡ blocks_of self.old b }
         ensures size { size_of self.new ≡ size_of self.old }
-        ensures storage { storage_of self.new ≡ storage_of self.old }
+        ensures storage { hosted_of self.new ≡ hosted_of self.old }
     {
         match self {
             Disk::Whole(_) => Ok(false),
-            Disk::Backed(store) => store.load(page, bytes),
+            Disk::Backed(disk) => disk.store.load(page, bytes),
         }
     }
 
@@ -45,11 +47,11 @@ impl Disk {
     pub fn load_failed(&mut self, page: u64) -> bool
         ensures blocks { (b : ℕ) → blocks_of self.new b ≡ blocks_of self.old b }
         ensures size { size_of self.new ≡ size_of self.old }
-        ensures storage { storage_of self.new ≡ storage_of self.old }
+        ensures storage { hosted_of self.new ≡ hosted_of self.old }
     {
         match self {
             Disk::Whole(_) => false,
-            Disk::Backed(store) => store.load_failed(page),
+            Disk::Backed(disk) => disk.store.load_failed(page),
         }
     }
 
@@ -60,12 +62,12 @@ impl Disk {
         ensures blocks { (b : ℕ) → blocks_of self.new b ≡ blocks_of self.old b }
         ensures size { size_of self.new ≡ size_of self.old }
         ensures backed { IsTrue result → is_backed self.old ≡ true }
-        ensures lost { IsTrue result → storage_of self.new ≡ option_map (and_then (Dealing.Lose page)) (storage_of self.old) }
-        ensures otherwise { IsFalse result → storage_of self.new ≡ storage_of self.old }
+        ensures lost { IsTrue result → hosted_of self.new ≡ option_map (hosted_after (Dealing.Lose page)) (hosted_of self.old) }
+        ensures otherwise { IsFalse result → hosted_of self.new ≡ hosted_of self.old }
     {
         match self {
             Disk::Whole(_) => false,
-            Disk::Backed(store) => store.lost(page),
+            Disk::Backed(disk) => disk.lost(page),
         }
     }
 
@@ -78,7 +80,7 @@ impl Disk {
     {
         match self {
             Disk::Whole(_) => None,
-            Disk::Backed(store) => store.lost_page(place),
+            Disk::Backed(disk) => disk.store.lost_page(place),
         }
     }
 
@@ -86,7 +88,7 @@ impl Disk {
     pub fn forget_lost(&mut self, page: u64)
         ensures blocks { (b : ℕ) → blocks_of self.new b ≡ blocks_of self.old b }
         ensures size { size_of self.new ≡ size_of self.old }
-        ensures storage { storage_of self.new ≡ storage_of self.old }
+        ensures storage { hosted_of self.new ≡ hosted_of self.old }
         ensures held { (b : ℕ) → holds self.new b ≡ holds self.old b }
         ensures coming { (b : ℕ) → is_coming self.new b ≡ is_coming self.old b }
         ensures keeps_room { (b : ℕ) → has_room self.new b ≡ has_room self.old b }
@@ -94,7 +96,7 @@ impl Disk {
     {
         match self {
             Disk::Whole(_) => {}
-            Disk::Backed(store) => store.forget_lost(page),
+            Disk::Backed(disk) => disk.store.forget_lost(page),
         }
     }
 
@@ -107,13 +109,13 @@ impl Disk {
         ensures bytes { IfOk result (λ given. IfSome given (λ g. IsPageOf (blocks_of self.old) g.page g.bytes.items)) }
         ensures len { IfOk result (λ given. IfSome given (λ g. length g.bytes.items ≡ PAGE_BYTES)) }
         ensures given { IfOk result (λ given. IfSome given (λ g.
-            storage_of self.new ≡ option_map (and_then (Dealing.Give g.page g.bytes.items)) (storage_of self.old))) }
-        ensures none { IfOk result (λ given. IfNone given (storage_of self.new ≡ storage_of self.old)) }
-        ensures err { OnErr result (storage_of self.new ≡ storage_of self.old) }
+            hosted_of self.new ≡ option_map (hosted_after (Dealing.Give g.page g.bytes.items)) (hosted_of self.old))) }
+        ensures none { IfOk result (λ given. IfNone given (hosted_of self.new ≡ hosted_of self.old)) }
+        ensures err { OnErr result (hosted_of self.new ≡ hosted_of self.old) }
     {
         match self {
             Disk::Whole(_) => Ok(None),
-            Disk::Backed(store) => store.give(),
+            Disk::Backed(disk) => disk.give(),
         }
     }
 
@@ -126,13 +128,26 @@ impl Disk {
         ensures backed { IfOk result (λ done. IsTrue done → is_backed self.old ≡ true) }
         ensures told { IfOk result (λ done. IsTrue done → IsTrue kept) }
         ensures kept { IfOk result (λ done. IsTrue done →
-            storage_of self.new ≡ option_map (and_then (Dealing.Keep page)) (storage_of self.old)) }
-        ensures otherwise { IfOk result (λ done. IsFalse done → storage_of self.new ≡ storage_of self.old) }
-        ensures err { OnErr result (storage_of self.new ≡ storage_of self.old) }
+            hosted_of self.new ≡ option_map (hosted_after (Dealing.Keep page)) (hosted_of self.old)) }
+        ensures otherwise { IfOk result (λ done. IsFalse done → hosted_of self.new ≡ hosted_of self.old) }
+        ensures err { OnErr result (hosted_of self.new ≡ hosted_of self.old) }
     {
         match self {
             Disk::Whole(_) => Ok(false),
-            Disk::Backed(store) => store.written(page, kept),
+            Disk::Backed(disk) => disk.written(page, kept),
+        }
+    }
+
+    /// Drops a clean page from memory, as [`BackedStore::evict`](crate::BackedStore::evict) does. Returns true if one went; never
+    /// of a disk that isn't backed.
+    pub fn evict(&mut self, spared: &[PageRange]) -> bool
+        ensures blocks { (b : ℕ) → blocks_of self.new b ≡ blocks_of self.old b }
+        ensures size { size_of self.new ≡ size_of self.old }
+        ensures storage { hosted_of self.new ≡ hosted_of self.old }
+    {
+        match self {
+            Disk::Whole(_) => false,
+            Disk::Backed(disk) => disk.store.evict(spared).is_some(),
         }
     }
 }

@@ -5,7 +5,7 @@ use block_store::{BLOCK_BYTES, Edges, Prepared, Readiness, Store};
 use foundation::NoMemory;
 
 impl Store for Disk {
-    ghost use Rattle.backed_store.specs.Disks.{size_of, blocks_of, holds, is_coming, has_room, storage_of, length-block};
+    ghost use Rattle.backed_store.specs.Disks.{size_of, blocks_of, holds, is_coming, has_room, hosted_of, length-block};
 
     ghost size = { size_of };
 
@@ -17,42 +17,42 @@ impl Store for Disk {
 
     ghost has_room = { has_room };
 
-    ghost storage = { storage_of };
+    ghost storage = { hosted_of };
 
     ghost whole = { λ d b below. length-block d b };
 
     fn capacity(&self) -> u64 {
         match self {
             Disk::Whole(store) => store.capacity(),
-            Disk::Backed(store) => store.capacity(),
+            Disk::Backed(disk) => disk.capacity(),
         }
     }
 
     fn ask_to_read(&mut self, first: u64, count: u32) -> Readiness {
         match self {
             Disk::Whole(_) => Readiness::Ready,
-            Disk::Backed(store) => store.ask_to_read(first, count),
+            Disk::Backed(disk) => disk.ask_to_read(first, count),
         }
     }
 
     fn ask_to_write(&mut self, first: u64, count: u32) -> Readiness {
         match self {
             Disk::Whole(_) => Readiness::Ready,
-            Disk::Backed(store) => store.ask_to_write(first, count),
+            Disk::Backed(disk) => disk.ask_to_write(first, count),
         }
     }
 
     fn read_blocks(&self, first: u64, count: u32, into: &mut Vec<u8>) {
         match self {
             Disk::Whole(store) => store.read_blocks(first, count, into),
-            Disk::Backed(store) => store.read_blocks(first, count, into),
+            Disk::Backed(disk) => disk.read_blocks(first, count, into),
         }
     }
 
     fn write_blocks(&mut self, first: u64, bytes: &[u8]) -> Result<(), NoMemory> {
         match self {
             Disk::Whole(store) => store.write_blocks(first, bytes),
-            Disk::Backed(store) => store.write_blocks(first, bytes),
+            Disk::Backed(disk) => disk.write_blocks(first, bytes),
         }
     }
 
@@ -64,21 +64,21 @@ impl Store for Disk {
     ) -> Result<(), NoMemory> {
         match self {
             Disk::Whole(store) => store.fill_blocks(first, count, block),
-            Disk::Backed(store) => store.fill_blocks(first, count, block),
+            Disk::Backed(disk) => disk.fill_blocks(first, count, block),
         }
     }
 
     fn zero_blocks(&mut self, first: u64, count: u32) {
         match self {
             Disk::Whole(store) => store.zero_blocks(first, count),
-            Disk::Backed(store) => store.zero_blocks(first, count),
+            Disk::Backed(disk) => disk.zero_blocks(first, count),
         }
     }
 
     fn zero_all(&mut self) -> Result<(), NoMemory> {
         match self {
             Disk::Whole(store) => store.zero_all(),
-            Disk::Backed(store) => store.zero_all(),
+            Disk::Backed(disk) => disk.zero_all(),
         }
     }
 }
@@ -89,9 +89,10 @@ impl Disk {
     ghost use Rattle.block_store.specs.Drafts.{edges_draft, prepared_draft};
     ghost use Rattle.block_store.specs.Inner.Drafts.{IsAsCopied};
     ghost use Rattle.std.specs.Option.{option_map};
-    ghost use Rattle.block_store.specs.Storage.{Dealing, and_then};
+    ghost use Rattle.block_store.specs.Storage.{Dealing};
     ghost use Rattle.block_store.specs.Pages.{covered};
-    ghost use Rattle.backed_store.specs.Disks.{size_of, blocks_of, holds, is_coming, has_room, storage_of, is_backed, latest_of, owes};
+    ghost use Rattle.block_store.specs.Progress.{hosted_after};
+    ghost use Rattle.backed_store.specs.Disks.{size_of, blocks_of, holds, is_coming, has_room, hosted_of, storage_of, is_backed, owes, IsBegun, IsOver, IsKeptWhole};
 
     /// Returns true if it isn't backed: all its blocks are in memory, now and later, and can be written over.
     #[inline(always)]
@@ -106,26 +107,40 @@ impl Disk {
         }
     }
 
-    /// Returns the number of the latest change of its blocks, for which a flush that begins now waits. 0 where it isn't backed.
-    pub fn latest_change(&self) -> u64
-        ensures { result ≡ latest_of self.now }
+    /// Begins a flush of what was changed by now; the one before is forgotten. Nothing is done where it isn't backed.
+    pub fn begin_flush(&mut self)
+        ensures begun { IsBegun self.new }
+        ensures blocks { (b : ℕ) → blocks_of self.new b ≡ blocks_of self.old b }
+        ensures size { size_of self.new ≡ size_of self.old }
+        ensures storage { storage_of self.new ≡ storage_of self.old }
     {
         match self {
-            Disk::Whole(_) => 0,
-            Disk::Backed(store) => store.latest_change(),
+            Disk::Whole(_) => {}
+            Disk::Backed(disk) => disk.begin_flush(),
         }
     }
 
-    /// Returns true if the host's storage has each change up to a number, so that a flush that waits for these is over.
+    /// Returns true if the latest flush has what it waits for: the host's storage has each change that was made before it began.
     /// Always where the disk isn't backed: it waits for nothing.
-    pub fn is_flushed(&self, number: u64) -> bool
-        ensures yes { IsTrue result → (p : ℕ) → owes self.now number p ≡ false }
-        ensures no { IsFalse result → (p : ℕ) × IsTrue (owes self.now number p) }
+    pub fn is_flush_over(&self) -> bool
+        ensures over { IsTrue result → IsOver self.now }
+        ensures no { IsFalse result → (p : ℕ) × IsTrue (owes self.now p) }
         ensures whole { is_backed self.now ≡ false → IsTrue result }
     {
         match self {
             Disk::Whole(_) => true,
-            Disk::Backed(store) => store.is_flushed(number),
+            Disk::Backed(disk) => disk.is_flush_over(),
+        }
+    }
+
+    /// Returns true if the host's storage has each block as it is. Always where the disk isn't backed: it has none.
+    pub fn is_kept(&self) -> bool
+        ensures kept { IsTrue result → IsKeptWhole self.now }
+        ensures whole { is_backed self.now ≡ false → IsTrue result }
+    {
+        match self {
+            Disk::Whole(_) => true,
+            Disk::Backed(disk) => disk.is_kept(),
         }
     }
 
@@ -137,11 +152,11 @@ impl Disk {
         ensures held { (b : ℕ) → holds self.new b ≡ holds self.old b }
         ensures coming { (b : ℕ) → is_coming self.new b ≡ is_coming self.old b }
         ensures keeps_room { (b : ℕ) → has_room self.new b ≡ has_room self.old b }
-        ensures storage { storage_of self.new ≡ storage_of self.old }
+        ensures storage { hosted_of self.new ≡ hosted_of self.old }
     {
         match self {
             Disk::Whole(_) => {}
-            Disk::Backed(store) => store.note_use(block),
+            Disk::Backed(disk) => disk.store.note_use(block),
         }
     }
 
@@ -174,7 +189,7 @@ impl Disk {
         ensures size { size_of self.new ≡ size_of self.old }
         ensures held { (b : ℕ) → IsTrue (holds self.old b) → IsTrue (holds self.new b) }
         ensures keeps_room { (b : ℕ) → IsTrue (has_room self.old b) → IsTrue (has_room self.new b) }
-        ensures storage { storage_of self.new ≡ storage_of self.old }
+        ensures storage { hosted_of self.new ≡ hosted_of self.old }
     {
         match self {
             Disk::Whole(store) => store.install(prepared),
@@ -190,11 +205,11 @@ impl Disk {
         ensures size { size_of self.new ≡ blocks }
         ensures blocks { (b : ℕ) → blocks_of self.new b
             ≡ (if nat_lt b (min (size_of self.old) blocks) then blocks_of self.old b else zero_block) }
-        ensures storage { storage_of self.new ≡ option_map (and_then (Dealing.Cut (min (size_of self.old) blocks))) (storage_of self.old) }
+        ensures storage { hosted_of self.new ≡ option_map (hosted_after (Dealing.Cut (min (size_of self.old) blocks))) (hosted_of self.old) }
     {
         match self {
             Disk::Whole(store) => store.resize(blocks),
-            Disk::Backed(store) => store.resize(blocks),
+            Disk::Backed(disk) => disk.resize(blocks),
         }
     }
 }

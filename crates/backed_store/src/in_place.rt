@@ -42,7 +42,7 @@ impl Disk {
     {
         match self {
             Disk::Whole(store) => store.blocks_in_place(first, count),
-            Disk::Backed(store) => store.part(first, count),
+            Disk::Backed(disk) => disk.store.part(first, count),
         }
     }
 

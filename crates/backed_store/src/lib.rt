@@ -19,6 +19,7 @@
 #![tactic(auto)]
 
 mod backed;
+mod backed_disk;
 mod cache;
 mod change_set;
 mod cutting;
@@ -44,11 +45,11 @@ mod queue;
 mod ranges;
 mod slot;
 mod slots;
-mod storing;
 mod unkept;
 mod writing_back;
 
 pub use backed::BackedStore;
+pub use backed_disk::BackedDisk;
 pub use dealing::{Dealing, GivenPage};
 pub use disk::Disk;
 pub use in_place::BlocksInPlace;

@@ -143,6 +143,8 @@ impl BackedStore {
         // Of one page no two writes are under way.
         ensures alone { IfOk result (λ given. IfSome given (λ g. (is_writing self.old g.page ≡ false) × IsTrue (is_writing self.new g.page))) }
         ensures others { IfOk result (λ given. IfSome given (λ g. (p : ℕ) → p ≢ g.page → is_writing self.new p ≡ is_writing self.old p)) }
+        ensures still { IfOk result (λ given. IfNone given ((p : ℕ) → is_writing self.new p ≡ is_writing self.old p)) }
+        ensures unchanged { OnErr result ((p : ℕ) → is_writing self.new p ≡ is_writing self.old p) }
         ensures dirty { IfOk result (λ given. IfSome given (λ g. IsTrue (is_dirty self.old g.page))) }
         ensures bytes { IfOk result (λ given. IfSome given (λ g. IsPageOf (contents self.old) g.page g.bytes.items)) }
         ensures len { IfOk result (λ given. IfSome given (λ g. length g.bytes.items ≡ PAGE_BYTES)) }
@@ -193,11 +195,14 @@ impl BackedStore {
             ≡ (if done then and_then (ADealing.Keep page) (ledger_of self.old) else ledger_of self.old)) }
         ensures err { OnErr result (ledger_of self.new ≡ ledger_of self.old) }
         ensures over { OnOk result (is_writing self.new page ≡ false) }
+        ensures still { OnOk result ((p : ℕ) → p ≢ page → is_writing self.new p ≡ is_writing self.old p) }
+        ensures unchanged { OnErr result ((p : ℕ) → is_writing self.new p ≡ is_writing self.old p) }
         // What changed since the page was given is owed from the first of these changes on.
         ensures again { OnOk result (IsTrue kept → IsTrue (is_rewritten self.old page) → IsTrue (is_dirty self.new page)) }
         ensures later { OnOk result (IsTrue kept → IsTrue (is_rewritten self.old page) → number_of self.new page ≡ again_of self.old page) }
-        ensures failed { OnOk result (IsFalse kept → IsTrue (is_dirty self.old page) → IsTrue (is_dirty self.new page)) }
-        ensures earlier { OnOk result (IsFalse kept → IsTrue (is_dirty self.old page) → number_of self.new page ≡ number_of self.old page) }
+        ensures failed { IfOk result (λ done. IsFalse done → IsTrue (is_dirty self.old page) → IsTrue (is_dirty self.new page)) }
+        ensures earlier { IfOk result (λ done. IsFalse done → number_of self.new page ≡ number_of self.old page) }
+        ensures unkept { IfOk result (λ done. IsFalse done → IsTrue (is_writing self.old page) → IsTrue (is_dirty self.new page)) }
         ensures others { OnOk result ((p : ℕ) → p ≢ page → IsOwed self.old self.new p) }
         ensures owed { OnErr result ((p : ℕ) → IsOwed self.old self.new p) }
         ensures owing { OnOk result (IsTrue kept → OwesNoMore self.old self.new) }

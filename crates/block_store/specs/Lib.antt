@@ -4,4 +4,5 @@ pub mod Kept
 pub mod Pages
 pub mod Tables
 pub mod Storage
+pub mod Progress
 pub mod Inner

@@ -2,7 +2,7 @@
 
 ghost use Rattle.std.specs.Prelude.{◌≡◌, ◌≢◌, ℕ, ◌+◌, ◌*◌, ◌%◌, ◌<◌, ◌≤◌, ◌++◌, Bool, IsTrue, List, length, vec_len, vec_capacity, OnOk, OnErr, Option, is_some, false};
 ghost use Rattle.block_store.specs.Blocks.{block_count, overwritten, filled, zeroed, run, is_within, zero_block};
-ghost use Rattle.block_store.specs.Storage.{Ledger};
+ghost use Rattle.block_store.specs.Progress.{Hosted};
 ghost use Rattle.block_store.specs.Inner.Pages.{is_beside};
 ghost use Rattle.block_store.specs.declared.readiness.Readiness.TheVariants.{Ready, Full};
 
@@ -36,8 +36,9 @@ pub trait Store {
     // True if a block can be written over without more memory for its page.
     ghost has_room: { Self → ℕ → Bool };
 
-    // What the host's storage has of them, where their pages may go; none where all are in memory, now and later.
-    ghost storage: { Self → Option Ledger };
+    // What the host's storage has of them, and how far the latest flush is, where their pages may go; none where all are in
+    // memory, now and later.
+    ghost storage: { Self → Option Hosted };
 
     /// Returns how many blocks there are.
     fn capacity(&self) -> u64
