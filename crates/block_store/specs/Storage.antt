@@ -1,5 +1,5 @@
 -- What the host's storage has of a disk whose pages come and go.
-use Rattle.std.specs.Prelude.{ℕ, ◌≡◌, ◌<◌, ◌+◌, ◌*◌, ◌/◌, ◌%◌, ◌==◌, ◌++◌, Bool, true, false, List, [], ◌∷◌, Option, Some, nat_lt, if◌then◌else◌}
+use Rattle.std.specs.Prelude.{ℕ, ◌≡◌, ◌⊎◌, ◌<◌, ◌+◌, ◌*◌, ◌/◌, ◌%◌, ◌==◌, ◌++◌, Bool, true, false, List, [], ◌∷◌, Option, Some, nat_lt, if◌then◌else◌}
 use Rattle.std.specs.List.{list_any}
 use Rattle.block_store.specs.Blocks.{Blocks, nth_block, zero_block}
 use Rattle.block_store.specs.Pages.{blocks_in}
@@ -48,6 +48,10 @@ pub record Ledger : Type 0 where
 -- own: what the storage has by that
 abbrev pub storage_by : Ledger → Storage
 storage_by l = all_dealt l.dealings (opening l.content)
+
+-- what a crash leaves: of each block what the host last said that its storage keeps, or what it was last given of it
+abbrev pub IsLeft : Ledger → Blocks → Type 0
+IsLeft l left = (b : ℕ) → (left b ≡ (storage_by l).kept b) ⊎ (left b ≡ (storage_by l).given b)
 
 -- own: with one more
 abbrev pub and_then : Dealing → Ledger → Ledger

@@ -6,18 +6,18 @@ use Rattle.ring_core.specs.declared.log.Ticket.{Ticket}
 use Rattle.block_store.specs.Blocks.{Blocks, is_within, zero_block}
 use Rattle.command_model.specs.Effects.{given}
 use Rattle.unit_model.specs.Tasks.{Entry, task_of}
-use Rattle.unit_model.specs.Steps.{Step, alive}
+use Rattle.unit_model.specs.Steps.{Step, alive, as_of}
 use Rattle.unit_model.specs.Contents.{Opening, blocks_of, block_with, capacity_of}
 use Rattle.unit_history.specs.Inner.Performing.{PlainPerformed, step_for}
-use Rattle.unit_history.specs.Changes.{PlainChanges, is_in, as_of}
+use Rattle.unit_history.specs.Changes.{PlainChanges, is_in}
 use Rattle.unit_history.specs.Inner.Noting.{Notes, AreRecorded}
 
-as_of-more : (p : ℕ) (s : Step) (past : List Step) → p ≤ length past → as_of p (s ∷ past) ≡ as_of p past
+pub as_of-more : (p : ℕ) (s : Step) (past : List Step) → p ≤ length past → as_of p (s ∷ past) ≡ as_of p past
 as_of-more p s past le =
     let more : length (s ∷ past) - p ≡ suc (length past - p) = omega (arith, le) in
     ap (λ n. drop n (s ∷ past)) more
 
-as_of-now : (p : ℕ) (steps : List Step) → length steps ≤ p → as_of p steps ≡ steps
+pub as_of-now : (p : ℕ) (steps : List Step) → length steps ≤ p → as_of p steps ≡ steps
 as_of-now p steps le =
     let none : length steps - p ≡ 0 = omega (arith, le) in
     ap (λ n. drop n steps) none

@@ -1,8 +1,8 @@
 -- Which blocks of a unit may have changed, as a unit notes them.
-use Rattle.std.specs.Prelude.{ℕ, ◌≡◌, ◌-◌, ◌<◌, ◌≤◌, Bool, false, List, length, drop}
+use Rattle.std.specs.Prelude.{ℕ, ◌≡◌, ◌<◌, ◌≤◌, Bool, false, List, length}
 use Rattle.std.specs.List.{list_any}
 use Rattle.block_store.specs.Blocks.{is_within}
-use Rattle.unit_model.specs.Steps.{Step}
+use Rattle.unit_model.specs.Steps.{Step, as_of}
 use Rattle.unit_model.specs.Contents.{Opening, blocks_of, capacity_of}
 use Rattle.unit_model.specs.Unit.{PlainUnit}
 use Rattle.unit_history.specs.declared.changes.Range.{Range}
@@ -15,10 +15,6 @@ pub record PlainChanges : Type 0 where
 -- own: one of the ranges has block b
 abbrev pub is_in : List Range → ℕ → Bool
 is_in ranges b = list_any (λ (r : Range). is_within r.first r.count b) ranges
-
--- own: the history as it was when it had so many steps; it stands newest first
-abbrev pub as_of : ℕ → List Step → List Step
-as_of place steps = drop (length steps - place) steps
 
 -- own: each block of the unit outside the ranges has now what it had at any time since that place
 abbrev pub AreUnchangedIn : Opening → List Step → PlainChanges → Type 0

@@ -30,7 +30,7 @@ uncached_replies o e past r (inr h) uncached = absurd (let f : false ≡ true = 
 
 -- what a unit replies is what its history may reply
 pub weaker : (u : PlainUnit) (e : Entry) (r : PlainReply) → Replies u e r → MayReply u.opening e u.steps r
-weaker u e r (inl is) = inl is
+weaker u e r (inl (is, flushes)) = inl is
 weaker u e r (inr (p, h, lost)) = inr (p, h)
 
 -- what may be committed is a step that may come next
@@ -40,6 +40,6 @@ commit_steps u t r (e, ready, replies) = (e, ready, weaker u e r replies)
 -- a unit whose disk is in memory replies as its history says
 pub replies_in_memory : (u : PlainUnit) (e : Entry) (r : PlainReply) → Replies u e r → is_backed u ≡ false
     → r ≡ reply_after u.opening e u.steps
-replies_in_memory u e r (inl is) off = is
+replies_in_memory u e r (inl (is, flushes)) off = is
 replies_in_memory u e r (inr (p, h, (l, at, lost))) off =
     absurd (let f : false ≡ true = sym off ∙ ap (λ (o : Option Ledger). is_some o) at in cc)

@@ -22,3 +22,4 @@ pub mod Keeping
 pub mod Owing
 pub mod Base
 pub mod Failing
+pub mod Flushing

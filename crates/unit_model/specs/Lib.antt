@@ -12,6 +12,7 @@ pub mod Base
 pub mod Endings
 pub mod Weights
 pub mod Jobs
+pub mod Flushing
 pub mod Unit
 pub mod Asking
 pub mod Counts

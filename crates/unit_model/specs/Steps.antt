@@ -1,5 +1,5 @@
 -- The steps of a unit, and which tasks are alive and done after them.
-use Rattle.std.specs.Prelude.{ℕ, ◌+◌, Bool, false, ◌==◌, ◌||◌, is_some, List, [], ◌∷◌, ◌++◌, if◌then◌else◌}
+use Rattle.std.specs.Prelude.{ℕ, ◌+◌, ◌-◌, Bool, false, ◌==◌, ◌||◌, is_some, List, [], ◌∷◌, ◌++◌, length, drop, if◌then◌else◌}
 use Rattle.command_model.specs.PlainReply.{PlainReply}
 use Rattle.ring_core.specs.declared.log.Ticket.{Ticket}
 use Rattle.unit_attention.specs.declared.code.Code.{Code}
@@ -54,3 +54,7 @@ abbrev pub has_left : Ticket → List Step → Bool
 has_left t [] = false
 has_left t (Step.Leave u ∷ past) = same_ticket u t || has_left t past
 has_left t (step ∷ past) = has_left t past
+
+-- own: the history as it was when it had so many steps
+abbrev pub as_of : ℕ → List Step → List Step
+as_of place steps = drop (length steps - place) steps

@@ -1,16 +1,18 @@
 -- A logical unit as a plain value: what it opened with, its history, and the jobs that it holds.
-use Rattle.std.specs.Prelude.{ℕ, ◌≡◌, ◌⊎◌, ◌++◌, ◌&&◌, Bool, true, min, List, [], ◌∷◌, map, filter, Option, Some, None, is_some, ⊤}
+use Rattle.std.specs.Prelude.{ℕ, ◌≡◌, ◌⊎◌, ◌++◌, ◌&&◌, Bool, true, min, List, [], ◌∷◌, map, filter, Option, Some, None, is_some, IfSome, ⊤}
 use Rattle.std.specs.Option.{option_map}
 use Rattle.block_store.specs.Storage.{Ledger, Dealing, IsPageOf, IsLostIn, and_then}
 use Rattle.cdb.specs.declared.commands.Command.{Command}
 use Rattle.command_model.specs.PlainReply.{PlainReply}
 use Rattle.command_model.specs.Waiting.{waits_at}
+use Rattle.command_model.specs.Statuses.{good}
 use Rattle.ring_core.specs.declared.log.Ticket.{Ticket}
 use Rattle.unit_model.specs.Tasks.{Entry}
 use Rattle.unit_model.specs.Steps.{Step, alive}
 use Rattle.unit_model.specs.Enabling.{is_parked}
 use Rattle.unit_model.specs.Released.{released}
 use Rattle.unit_model.specs.Contents.{Opening, blocks_of, capacity_of, reply_after, IsUnreadAfter}
+use Rattle.unit_model.specs.Flushing.{IsDurable}
 use Rattle.unit_model.specs.Lawful.{May, IsLawful, IsReady}
 use Rattle.unit_model.specs.Jobs.{PlainJob, Jobs, of_tasks, but_tasks}
 
@@ -37,11 +39,15 @@ may_wait u command = is_backed u && waits_at (capacity_of u.opening u.steps) com
 abbrev pub HasLost : PlainUnit → ℕ → Type 0
 HasLost u p = IsLostIn u.storage p
 
+-- a flush ends with GOOD only where the host said that its storage keeps what was written before it came
+abbrev pub Flushes : PlainUnit → Entry → PlainReply → Type 0
+Flushes u e r = r.status ≡ good → IfSome u.storage (λ l. IsDurable u.opening u.steps l e)
+
 -- own: the command of a task, which runs next at the unit, may be replied to so: as the history says, or since it needs a
 -- page that the host can't read
 abbrev pub Replies : PlainUnit → Entry → PlainReply → Type 0
 Replies u e r =
-    (r ≡ reply_after u.opening e u.steps) ⊎ ((p : ℕ) × IsUnreadAfter u.opening e u.steps p r × HasLost u p)
+    ((r ≡ reply_after u.opening e u.steps) × Flushes u e r) ⊎ ((p : ℕ) × IsUnreadAfter u.opening e u.steps p r × HasLost u p)
 
 -- own: the command of a ticket's task may run next at the unit, and be replied to so
 abbrev pub MayCommit : PlainUnit → Ticket → PlainReply → Type 0

@@ -4,6 +4,7 @@ mod base;
 mod cases;
 mod contents;
 mod failing;
+mod flushing;
 mod handing;
 mod keeping;
 mod marks;
@@ -22,6 +23,7 @@ pub use contents::{
     resizes_keep_the_blocks_below,
 };
 pub use failing::{a_unit_fails_as_its_host_said, what_cant_be_read_changes_nothing};
+pub use flushing::a_flush_leaves_what_was_written;
 pub use handing::{
     a_leave_hands_out_what_was_parked, an_enter_parks_what_is_blocked, fewer_are_parked_than_alive,
     marks_hand_out_what_was_parked, other_steps_hand_out_nothing,

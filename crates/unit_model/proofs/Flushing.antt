@@ -1,0 +1,37 @@
+-- What a flush leaves.
+use Rattle.std.proofs.Common.{◌≡◌, ◌≤◌, ℕ, Bool, true, false, List, ◌∷◌, length, drop, Option, Some, None, IfSome, refl, ap, sym, subst, ◌∙◌, inl, inr, arith}
+use Rattle.std.specs.Prelude.{unwrap_or}
+use Rattle.block_store.specs.Blocks.{Blocks}
+use Rattle.block_store.specs.Storage.{Ledger, IsLeft}
+use Rattle.ring_core.specs.declared.log.Ticket.{Ticket}
+use Rattle.command_model.specs.PlainReply.{PlainReply}
+use Rattle.command_model.specs.Statuses.{good}
+use Rattle.unit_model.specs.Tasks.{Entry, task_of}
+use Rattle.unit_model.specs.Steps.{Step, alive, as_of}
+use Rattle.unit_model.specs.Seen.{entered_at}
+use Rattle.unit_model.specs.Contents.{Opening, blocks_of}
+use Rattle.unit_model.specs.Flushing.{HasBeen, is_flushed, IsDurable}
+use Rattle.unit_model.specs.Unit.{PlainUnit, MayCommit, Replies}
+
+same_entry : (o : Option Entry) (d e : Entry) → o ≡ Some d → o ≡ Some e → d ≡ e
+same_entry o d e one two = ap (λ (x : Option Entry). unwrap_or x d) (sym one ∙ two)
+
+replies_durably : (u : PlainUnit) (e : Entry) (r : PlainReply) (l : Ledger) → Replies u e r → r.status ≡ good → u.storage ≡ Some l
+    → IsDurable u.opening u.steps l e
+replies_durably u e r l (inl (is, flushes)) ends at =
+    subst (λ (o : Option Ledger). IfSome o (λ l. IsDurable u.opening u.steps l e)) at (flushes ends)
+replies_durably u e r l (inr (p, unread, lost)) ends at =
+    let never : 0 ≡ 2 = sym ends ∙ ap (λ (x : PlainReply). x.status) unread.is in
+    absurd (omega (arith, never))
+
+pub durable : (u : PlainUnit) (t : Ticket) (e : Entry) (r : PlainReply) (l : Ledger) (left : Blocks) (b : ℕ) → MayCommit u t r
+    → r.status ≡ good → task_of t (alive u.steps) ≡ Some e → u.storage ≡ Some l → IsLeft l left → is_flushed e.command b ≡ true
+    → HasBeen u.opening u.steps (entered_at e.ticket u.steps) b (left b)
+durable u t e r l left b (d, ready, replies) ends there at leaves named =
+    let same : d ≡ e = same_entry (task_of t (alive u.steps)) d e ready.is_there there in
+    let kept : IsDurable u.opening u.steps l e = subst (λ x. IsDurable u.opening u.steps l x) same (replies_durably u d r l replies ends at) in
+    kept left leaves b named
+
+pub written : (o : Opening) (steps : List Step) (since b : ℕ) (left bytes : List ℕ) → HasBeen o steps since b left
+    → ((p : ℕ) → since ≤ p → p ≤ length steps → blocks_of o (as_of p steps) b ≡ bytes) → left ≡ bytes
+written o steps since b left bytes was same = was.is ∙ same was.place was.later was.past

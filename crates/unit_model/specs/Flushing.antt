@@ -1,0 +1,29 @@
+-- What a flush promises of a unit's blocks.
+use Rattle.std.specs.Prelude.{ℕ, ◌≡◌, ◌≤◌, ◌==◌, Bool, true, false, nat_le, List, length, if◌then◌else◌}
+use Rattle.block_store.specs.Blocks.{Blocks, is_within}
+use Rattle.block_store.specs.Storage.{Ledger, IsLeft}
+use Rattle.cdb.specs.declared.commands.Command.{Command}
+use Rattle.cdb.specs.declared.commands.Command.TheVariants.{SynchronizeCache}
+use Rattle.unit_model.specs.Tasks.{Entry}
+use Rattle.unit_model.specs.Steps.{Step, as_of}
+use Rattle.unit_model.specs.Seen.{entered_at}
+use Rattle.unit_model.specs.Contents.{Opening, blocks_of}
+
+-- block b is one that a flush names: one of the count blocks from lba on, or any from there on where count is 0 (SBC-3 §5.26,
+-- §5.27)
+abbrev pub is_flushed : Command → ℕ → Bool
+is_flushed (SynchronizeCache lba count) b = if count == 0 then nat_le lba b else is_within lba count b
+is_flushed _ b = false
+
+-- own: block b of a unit had these bytes once so many steps stood, or later
+pub record HasBeen (o : Opening) (steps : List Step) (since b : ℕ) (bytes : List ℕ) : Type 0 where
+  pub place : ℕ
+  pub later : since ≤ place
+  pub past : place ≤ length steps
+  pub is : bytes ≡ blocks_of o (as_of place steps) b
+
+-- whatever a crash leaves, it leaves of each block that the command of a task flushes what the block was when the task entered,
+-- or later
+abbrev pub IsDurable : Opening → List Step → Ledger → Entry → Type 0
+IsDurable o steps l e =
+    (left : Blocks) → IsLeft l left → (b : ℕ) → is_flushed e.command b ≡ true → HasBeen o steps (entered_at e.ticket steps) b (left b)
