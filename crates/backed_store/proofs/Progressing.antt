@@ -577,3 +577,12 @@ pub idle-at-opening : (s : BackedStore) (content : List ℕ) → ledger_of s ≡
 idle-at-opening s content is b =
     let same = by-ledger s ∙ ap storage_by is in
     ap (λ (h : Storage). h.given b) same ∙ sym (ap (λ (h : Storage). h.kept b) same)
+
+pub gave-now : (r : Result (Option GivenPage) NoMemory) (old new : BackedStore) →
+    IfOk r (λ given. IfSome given (λ g. (b : ℕ) → (storage_of new).given b ≡ with_page g.page (contents old) (storage_of old).given b)) →
+    IfOk r (λ given. IfSome given (λ g. (b : ℕ) → b / 8 ≡ g.page → (storage_by (ledger_of new)).given b ≡ contents old b))
+gave-now (Ok (Some g)) old new given = λ b here.
+    let test : (b / 8 == g.page) ≡ true = grind (arith, nat_tests, here) in
+    ap (λ (h : Storage). h.given b) (sym (by-ledger new)) ∙ given b ∙ rw test refl
+gave-now (Ok None) old new given = given
+gave-now (Err e) old new given = given

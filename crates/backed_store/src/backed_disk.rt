@@ -31,7 +31,7 @@ impl BackedDisk {
     ghost use Rattle.backed_store.specs.Flushes.{owes};
     ghost use Rattle.backed_store.specs.Fences.{progress_by};
     ghost use Rattle.backed_store.specs.BackedDisks.{hosted_of};
-    ghost use Rattle.block_store.specs.Storage.{Dealing, IsPageOf, cut};
+    ghost use Rattle.block_store.specs.Storage.{Dealing, IsPageOf, and_then, cut, storage_by};
     ghost use Rattle.block_store.specs.Progress.{hosted_after};
 
     /// Makes a disk of so many blocks, of which the host's storage has this content. No page is in memory. At most `budget` pages
@@ -102,6 +102,8 @@ impl BackedDisk {
         ensures len { IfOk result (λ given. IfSome given (λ g. length g.bytes.items ≡ PAGE_BYTES)) }
         ensures given { IfOk result (λ given. IfSome given (λ g.
             hosted_of self.new ≡ hosted_after (Dealing.Give g.page g.bytes.items) (hosted_of self.old))) }
+        ensures now { IfOk result (λ given. IfSome given (λ g. (b : ℕ) → b / 8 ≡ g.page →
+            (storage_by (ledger_of self.new.store)).given b ≡ contents self.old.store b)) }
         ensures none { IfOk result (λ given. IfNone given (hosted_of self.new ≡ hosted_of self.old)) }
         ensures err { OnErr result (hosted_of self.new ≡ hosted_of self.old) }
     {
@@ -121,11 +123,12 @@ impl BackedDisk {
     }
 
     /// Has so many blocks from now on, as [`BackedStore::resize`] does.
-    pub(crate) fn resize(&mut self, blocks: u64)
+    pub fn resize(&mut self, blocks: u64)
         requires { blocks < 2 ^ 63 }
         ensures size { self.new.store.capacity ≡ blocks }
         ensures blocks { (b : ℕ) → contents self.new.store b ≡ cut (min self.old.store.capacity blocks) (contents self.old.store) b }
         ensures storage { hosted_of self.new ≡ hosted_after (Dealing.Cut (min self.old.store.capacity blocks)) (hosted_of self.old) }
+        ensures ledger { ledger_of self.new.store ≡ and_then (Dealing.Cut (min self.old.store.capacity blocks)) (ledger_of self.old.store) }
     {
         self.store.resize(blocks);
     }

@@ -1,6 +1,6 @@
 //! The pages of a disk that come and go.
 
-ghost use Rattle.std.specs.Prelude.{◌≡◌, ℕ, ◌*◌, ◌<◌, ◌==◌, not, true, length, filter, slice_get, IsTrue, IsFalse, IfOk, OnErr, IfSome, IfNone};
+ghost use Rattle.std.specs.Prelude.{◌≡◌, ℕ, ◌*◌, ◌/◌, ◌<◌, ◌==◌, not, true, length, filter, slice_get, IsTrue, IsFalse, IfOk, OnErr, IfSome, IfNone};
 ghost use Rattle.std.specs.Option.{option_map};
 ghost use Rattle.block_store.specs.Storage.{IsPageOf, Dealing, storage_by, is_lost};
 ghost use Rattle.block_store.specs.Progress.{hosted_after};
@@ -110,6 +110,8 @@ impl Disk {
         ensures len { IfOk result (λ given. IfSome given (λ g. length g.bytes.items ≡ PAGE_BYTES)) }
         ensures given { IfOk result (λ given. IfSome given (λ g.
             hosted_of self.new ≡ option_map (hosted_after (Dealing.Give g.page g.bytes.items)) (hosted_of self.old))) }
+        ensures now { IfOk result (λ given. IfSome given (λ g. IfSome (storage_of self.new) (λ l. (b : ℕ) → b / 8 ≡ g.page →
+            (storage_by l).given b ≡ blocks_of self.old b))) }
         ensures none { IfOk result (λ given. IfNone given (hosted_of self.new ≡ hosted_of self.old)) }
         ensures err { OnErr result (hosted_of self.new ≡ hosted_of self.old) }
     {

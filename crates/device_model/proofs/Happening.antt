@@ -210,6 +210,26 @@ or_left : (a b : Bool) → (a || b) ≡ true → b ≡ false → a ≡ true
 or_left true b h e = refl
 or_left false b h e = absurd (let f : false ≡ true = sym e ∙ h in cc)
 
+-- a command that doesn't wait promises nothing of a storage
+nothing_promised : (backed : Bool) (needed flush : Bool) (storage : Option Ledger) (P : Ledger → Type 0) → is_some storage ≡ backed
+    → (backed && (needed || flush)) ≡ false → flush ≡ true → IfSome storage P
+nothing_promised backed needed flush None P is calm flushes = tt
+nothing_promised backed needed flush (Some l) P is calm flushes =
+    let never : true ≡ false = rw (sym is, flushes, or_true needed) at calm in absurd (cc)
+
+-- a command that may run does, or waits for the storage
+run_or_wait : (w : PlainWorld) (k : ℕ) (x : PlainJob) (holds : HandAtUnit w k (Hand.Taken x) x.unit)
+    → IsReady x.entry.ticket x.entry holds.unit.steps → (b : Bool) → may_wait holds.unit x.entry.command ≡ b → Does w (Event.Commit k)
+run_or_wait w k x holds ready true waits =
+    (Transition.Defer k x, refl, record { holds = holds; entry = x.entry; ready = ready; waits = waits })
+run_or_wait w k x holds ready false calm =
+    (Transition.Commit k x (reply_after holds.unit.opening x.entry holds.unit.steps), refl,
+    record {
+      holds = holds;
+      may = (x.entry, ready, inl (refl, λ ends flush.
+      nothing_promised _ (needs (capacity_of holds.unit.opening holds.unit.steps) x.entry.command) _ holds.unit.storage _ refl calm flush));
+    })
+
 commits : (w : PlainWorld) (k : ℕ) (x : PlainJob) (out : List PlainJob) → IsToCommit w x
     → SeatIs w k (Hand.Taken x) out → Does w (Event.Commit k)
 commits w k x out c at =
@@ -226,8 +246,7 @@ commits w k x out c at =
           let on = or_left (enabled x.entry h) (marked t h) c.handed_out m in
           let ready : IsReady t x.entry h =
           record { is_there = c.alive; is_enabled = on; is_unmarked = m; is_undone = c.undone } in
-          let r = reply_after c.unit.opening x.entry h in
-          (Transition.Commit k x r, refl, record { holds = holds; may = (x.entry, ready, inl refl) })
+          run_or_wait w k x holds ready (may_wait c.unit x.entry.command) refl
     ]) refl
 
 -- Answer and Leave

@@ -1,5 +1,5 @@
 -- A request that is served where no task is alive: what its unit is then.
-use Rattle.std.proofs.Common.{◌≡◌, ℕ, ◌+◌, ◌-◌, ◌≤◌, Bool, true, false, not, ◌||◌, cond, List, [], ◌∷◌, map, length, Option, Some, None, is_some, IsTrue, IsFalse, Result, Ok, Err, refl, sym, ◌∙◌, ap, subst, arith}
+use Rattle.std.proofs.Common.{◌≡◌, ℕ, ◌+◌, ◌-◌, ◌≤◌, Bool, true, false, not, ◌||◌, cond, List, [], ◌∷◌, map, length, Option, Some, None, is_some, IfSome, IsTrue, IsFalse, Result, Ok, Err, refl, sym, ◌∙◌, ap, subst, arith}
 use Rattle.ring_core.specs.declared.log.Ticket.{Ticket}
 use Rattle.block_store.specs.Blocks.{Blocks}
 use Rattle.foundation.specs.declared.NoMemory.{NoMemory}
@@ -16,6 +16,8 @@ use Rattle.command_model.specs.PlainReply.{PlainReply, success}
 use Rattle.command_model.specs.Inner.PlainReply.{good_data}
 use Rattle.command_model.specs.Replies.{reply_of}
 use Rattle.command_model.specs.Statuses.{good}
+use Rattle.command_model.specs.Waiting.{is_flush}
+use Rattle.unit_model.specs.Flushing.{IsDurable}
 use Rattle.command_model.specs.Facts.{Facts}
 use Rattle.request_intake.specs.declared.attribute.TaskAttribute.{TaskAttribute}
 use Rattle.request_intake.specs.declared.attribute.TaskAttribute.TheVariants.{Simple, Ordered, HeadOfQueue}
@@ -184,11 +186,12 @@ module _ (o : Opening) (past : List Step) (block_at : Blocks) (pending : List Co
 
     -- all of it
     pub serves : (storage : Option Ledger) (answers : Ending → Type 0) → j.address ≡ unit_address o
+        → ((r : PlainReply) → r.status ≡ good → is_flush j.entry.command ≡ true → IfSome storage (λ l. IsDurable o (Step.Enter j.entry ∷ past) l j.entry))
         → answers (ending_of (outcome_for (unit_address o) (length (Step.Enter j.entry ∷ past)) j.entry.ticket p))
         → j.chain.ticket ≡ j.entry.ticket
         → ServesAlone answers (unit_with o past [] false storage) j
         (unit_with o (Step.Leave j.entry.ticket ∷ step_for j.entry.ticket p ∷ Step.Enter j.entry ∷ past) [] false storage)
-    serves storage answers named answered own =
+    serves storage answers named durable answered own =
         record {
           once_entered = unit_with o (Step.Enter j.entry ∷ past) [] false storage;
           once_run = unit_with o (step_for j.entry.ticket p ∷ Step.Enter j.entry ∷ past) [] false storage;
@@ -196,7 +199,7 @@ module _ (o : Opening) (past : List Step) (block_at : Blocks) (pending : List Co
           enters = enters storage named;
           commits = commits_run (kept_entered room1 reserve) j j.entry false storage storage facts p block_at' pending' refl
               (is_of (kept_entered room1 reserve) j (task_of_job (length past) j false false) (is_found (length past) j false) refl)
-              ready as_told (performed_comes false facts (IsLostIn storage) j.entry.command j.entry.data_out p block_at block_at' pending pending' ran);
+              ready as_told (performed_comes false facts (IsLostIn storage) j.entry.command j.entry.data_out p block_at block_at' pending pending' ran) durable;
           answered = answered;
           leaves = subst (λ t. Steps (unit_with o (step_for j.entry.ticket p ∷ Step.Enter j.entry ∷ past) [] false storage) (Step.Leave t)
               (unit_with o (Step.Leave j.entry.ticket ∷ step_for j.entry.ticket p ∷ Step.Enter j.entry ∷ past) [] false storage))
@@ -258,12 +261,13 @@ module _ (o : Opening) (past : List Step) (block_at : Blocks) (pending : List Co
   pub serves_alone : (answers : Ending → Type 0) (keeps keeps' : Bool) (storage storage' : Option Ledger) → storage' ≡ storage → j.address ≡ unit_address o → keeps ≡ false → keeps' ≡ false
       → answers (ending_of (outcome_for (unit_address o) (length (Step.Enter j.entry ∷ past)) j.entry.ticket p))
       → j.chain.ticket ≡ j.entry.ticket
+      → ((r : PlainReply) → r.status ≡ good → is_flush j.entry.command ≡ true → IfSome storage (λ l. IsDurable o (Step.Enter j.entry ∷ past) l j.entry))
       → ServesAlone answers (unit_with o past (parked_of tasks) keeps storage) j (unit_with o steps' (parked_of tasks) keeps' storage')
-  serves_alone answers keeps keeps' storage storage' kind named a b answered own =
+  serves_alone answers keeps keeps' storage storage' kind named a b answered own durable =
       subst (λ x. ServesAlone answers (unit_with o past (parked_of tasks) keeps storage) j (unit_with o steps' (parked_of tasks) keeps' x)) (sym kind)
       (subst (λ x. ServesAlone answers (unit_with o past (parked_of tasks) x storage) j (unit_with o steps' (parked_of tasks) keeps' storage)) (sym a)
       (subst (λ x. ServesAlone answers (unit_with o past (parked_of tasks) false storage) j (unit_with o steps' (parked_of tasks) x storage)) (sym b)
       (subst (λ ts. ServesAlone answers (unit_with o past (parked_of ts) false storage) j (unit_with o steps' (parked_of ts) false storage)) (sym none)
       (subst (λ ss. ServesAlone answers (unit_with o past [] false storage) j (unit_with o ss [] false storage)) (sym is)
       (serves o past block_at pending last_tickets room kept_none j last_tickets' le came room1 reserve facts p block_at' pending' as_told ran
-      storage answers named answered own)))))
+      storage answers named durable answered own)))))

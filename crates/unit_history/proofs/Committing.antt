@@ -1,5 +1,5 @@
 -- What a unit answers to a job that is committed, and what its parts are then.
-use Rattle.std.proofs.Common.{◌≡◌, ◌⊎◌, ℕ, ◌+◌, ◌≤◌, ◌||◌, ◌&&◌, Bool, inl, inr, List, ◌∷◌, map, length, Option, Some, None, is_some, IsTrue, true, false, refl, sym, ◌∙◌, ap, subst}
+use Rattle.std.proofs.Common.{◌≡◌, ◌⊎◌, ℕ, ◌+◌, ◌≤◌, ◌||◌, ◌&&◌, Bool, inl, inr, List, ◌∷◌, map, length, Option, Some, None, is_some, IfSome, IsTrue, true, false, refl, sym, ◌∙◌, ap, subst}
 use Rattle.ring_core.specs.declared.log.Ticket.{Ticket}
 use Rattle.block_store.specs.Blocks.{Blocks}
 use Rattle.block_store.specs.Storage.{Ledger, IsLostIn}
@@ -21,7 +21,9 @@ use Rattle.unit_model.specs.Jobs.{PlainJob}
 use Rattle.task_set.specs.Tasks.{PlainTask, parked_of}
 use Rattle.task_set.specs.Inner.Tasks.{moved, task_at}
 use Rattle.unit_model.specs.Asking.{IsOf, asked_of, CannotCommit}
-use Rattle.command_model.specs.Waiting.{waits_at}
+use Rattle.command_model.specs.Waiting.{is_flush, waits_at}
+use Rattle.command_model.specs.Statuses.{good}
+use Rattle.unit_model.specs.Flushing.{IsDurable}
 use Rattle.unit_history.specs.Calls.{Commits, Waits}
 use Rattle.unit_history.specs.Inner.Parts.{AreKept}
 use Rattle.command_model.specs.Memory.{may_run_short}
@@ -51,6 +53,10 @@ cannot : (s : Seen) (j : PlainJob) (past : List Step) → s ≡ seen past s.entr
 cannot s j past is (inl other) = inl other
 cannot s j past is (inr (inl done)) = inr (inl (sym (ap (λ (x : Seen). x.done) is) ∙ done))
 cannot s j past is (inr (inr waits)) = inr (inr (sym (ap (λ (x : Seen). is_some x.mark) is) ∙ ap (λ m. is_some m) waits.0, sym (ap (λ (x : Seen). x.enabled) is) ∙ waits.1))
+
+with_durable : {A B C : Type 0} → A ⊎ B → C → (A × C) ⊎ B
+with_durable (inl a) c = inl (a, c)
+with_durable (inr b) c = inr b
 
 -- a command that was performed came so
 pub performed_comes : (keeps : Bool) (facts : Facts) (lost : ℕ → Type 0) (command : Command) (bytes : List ℕ) (p : Option PlainPerformed)
@@ -138,14 +144,15 @@ module _ {o : Opening} {past : List Step} {block_at : Blocks} {pending : List Co
       (came_stored keeps facts lost e.command e.data_out p block_at block_at' pending pending' ran)
       (came_pends keeps facts lost e.command e.data_out p block_at block_at' pending pending' ran) reserve
 
-  -- and what is answered
+  -- and what is answered; a flush only once the storage has what it promises
   pub commits_run : (j : PlainJob) (e : Entry) (keeps : Bool) (storage storage' : Option Ledger) (facts : Facts) (p : Option PlainPerformed) (block_at' : Blocks) (pending' : List Code)
       → storage' ≡ storage → IsOf j e past → IsReady j.entry.ticket e past → facts ≡ facts_after o past
       → Comes keeps facts (IsLostIn storage) e.command e.data_out p block_at block_at' pending pending'
+      → ((r : PlainReply) → r.status ≡ good → is_flush e.command ≡ true → IfSome storage (λ l. IsDurable o past l e))
       → Commits (record { opening = o; steps = past; parked = parked_of tasks; keeps_replies = keeps; storage = storage }) j
       (outcome_for (unit_address o) (length past) j.entry.ticket p)
       (record { opening = o; steps = step_for j.entry.ticket p ∷ past; parked = parked_of (map (moved (finished j.entry.ticket)) tasks); keeps_replies = keeps; storage = storage' })
-  commits_run j e keeps storage storage' facts None block_at' pending' kind of ready as_told short = (
+  commits_run j e keeps storage storage' facts None block_at' pending' kind of ready as_told short durable = (
     e,
     of,
     subst (λ f. IsTrue (may_run_short keeps f e.command)) as_told short.want,
@@ -154,13 +161,13 @@ module _ {o : Opening} {past : List Step} {block_at : Blocks} {pending : List Co
       is = same_unit o _ _ _ _ keeps keeps storage storage' refl (parked_busy o past block_at pending tasks last_tickets room j.entry.ticket k) refl kind;
     },
   )
-  commits_run j e keeps storage storage' facts (Some p) block_at' pending' kind of ready as_told ran =
+  commits_run j e keeps storage storage' facts (Some p) block_at' pending' kind of ready as_told ran durable =
       let replied = came_replied e keeps facts (IsLostIn storage) p block_at' pending' as_told ran in (
         e,
         of,
         ready,
         p.reply,
-        replied,
+        with_durable replied (durable p.reply),
         refl,
         record {
           may = may_commit k j.entry.ticket e p.reply ready (may_reply e (IsLostIn storage) p.reply replied);

@@ -13,10 +13,11 @@ pub mod Fitting
 pub mod Handing
 pub mod Stepping
 pub mod Entering
+pub mod Noting
+pub mod Durable
 pub mod Committing
 pub mod Losing
 pub mod Alone
-pub mod Noting
 pub mod Opening
 pub mod Ranging
 pub mod Readied

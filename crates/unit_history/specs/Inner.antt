@@ -11,5 +11,5 @@ pub mod Parts
 pub mod Turns
 pub mod Outcomes
 pub mod Noting
-pub mod Fields
 pub mod Flushes
+pub mod Fields

@@ -183,7 +183,13 @@ impl UnitState {
             Turn::Ready => {
                 let unit = self.facts.address;
                 let command = task.command();
-                if has_to_wait(&mut self.fence, &self.store, &command, ticket) {
+                if has_to_wait(
+                    &mut self.fence,
+                    &mut self.store,
+                    &command,
+                    ticket,
+                    task.place(),
+                ) {
                     return None;
                 }
                 let bytes = task.data();

@@ -3,6 +3,7 @@
 ghost use Rattle.std.specs.Prelude.{◌≡◌, ◌≤◌, IfSome, IfNone, length, true, false};
 ghost use Rattle.cdb.specs.Need.{need_of};
 ghost use Rattle.block_store.specs.Storage.{IsLostIn};
+ghost use Rattle.backed_store.specs.Disks.{storage_of};
 ghost use Rattle.command_model.specs.PlainReply.{plain_of};
 ghost use Rattle.command_model.specs.Failing.{needs_page, unread};
 ghost use Rattle.block_commands.specs.Inner.Told.{facts_of, protects};
@@ -29,7 +30,7 @@ fn lost_page(
     command: &Command,
     bytes: &[u8],
 ) -> Option<(u64, Reply)>
-    ensures lost { IfSome result (λ found. IsLostIn (⟦<Disk as Store>⟧.storage store.now) found.0) }
+    ensures lost { IfSome result (λ found. IsLostIn (storage_of store.now) found.0) }
     ensures needed { IfSome result (λ found. needs_page (⟦<Disk as Store>⟧.size store.now) command.now bytes.now found.0 ≡ true) }
     ensures unprotected { IfSome result (λ found. protects facts.now command.now ≡ false) }
     ensures reply { IfSome result (λ found. plain_of found.1
@@ -58,7 +59,7 @@ pub(crate) fn fail(
     keeps_replies: bool,
 ) -> Option<Performed>
     ensures failed { IfSome result (λ p. RanUnread keeps_replies (facts_of facts.now (⟦<Disk as Store>⟧.size store.old))
-        (IsLostIn (⟦<Disk as Store>⟧.storage store.old)) command.now bytes.now (performed_of p)
+        (IsLostIn (storage_of store.old)) command.now bytes.now (performed_of p)
         (⟦<Disk as Store>⟧.block_at store.old) (⟦<Disk as Store>⟧.block_at store.new) attentions.old attentions.new) }
     ensures otherwise { IfNone result (store.new ≡ store.old) }
     ensures pends { IfNone result (attentions.new ≡ attentions.old) }

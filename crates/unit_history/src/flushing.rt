@@ -1,9 +1,11 @@
 //! A flush that waits until the host's storage has what was changed before it.
 
-ghost use Rattle.std.specs.Prelude.{◌≡◌, ℕ, true, false, None, Some, is_some, IsTrue, IsFalse, IfSome};
-ghost use Rattle.backed_store.specs.Disks.{is_backed, latest_of, owes};
+ghost use Rattle.std.specs.Prelude.{◌≡◌, ℕ, ◌≤◌, List, length, true, false, None, IsTrue, IsFalse, IfSome};
+ghost use Rattle.backed_store.specs.Disks.{is_backed, size_of, blocks_of, hosted_of, storage_of, owes, IsOver, IsKeptWhole};
 ghost use Rattle.command_model.specs.Waiting.{is_flush as flushes};
-ghost use Rattle.unit_history.specs.Inner.Flushes.{fence_of, without};
+ghost use Rattle.unit_model.specs.Steps.{Step};
+ghost use Rattle.unit_model.specs.Contents.{Opening, blocks_of as unit_blocks};
+ghost use Rattle.unit_history.specs.Inner.Flushes.{AreSince, AreFenced, without};
 
 use backed_store::Disk;
 use cdb::Command;
@@ -14,8 +16,8 @@ use ring_core::Ticket;
 pub(crate) struct Fence {
     /// The ticket of its task.
     pub(crate) ticket: Ticket,
-    /// The number of the latest change when it came.
-    pub(crate) change: u64,
+    /// The place of the Enter of its task.
+    pub(crate) place: u64,
 }
 
 /// Returns true if a command ends only once the host's storage has what was written before it.
@@ -28,46 +30,48 @@ fn is_flush(command: &Command) -> bool
     }
 }
 
-/// Returns what the flush of a ticket waits for; `None` where another flush waits.
-fn own_fence(fence: Option<Fence>, disk: &Disk, ticket: Ticket) -> Option<Fence>
-    ensures { result ≡ fence_of fence disk.now ticket }
+/// Has the flush of a task that entered at a place be the latest of its disk, where no other waits. Returns true if it is.
+fn take_turn(fence: &mut Option<Fence>, disk: &mut Disk, ticket: Ticket, place: u64) -> bool
+    ensures fenced { (o : Opening) (steps : List Step) → place ≤ length steps → ((b : ℕ) → blocks_of disk.old b ≡ unit_blocks o steps b) →
+        AreFenced o steps fence.old (hosted_of disk.old) → AreFenced o steps fence.new (hosted_of disk.new) }
+    ensures since { (o : Opening) (steps : List Step) → place ≤ length steps → ((b : ℕ) → blocks_of disk.old b ≡ unit_blocks o steps b) →
+        AreFenced o steps fence.old (hosted_of disk.old) → IsTrue result → AreSince o steps place (hosted_of disk.new) }
+    ensures blocks { blocks_of disk.new ≡ blocks_of disk.old }
+    ensures size { size_of disk.new ≡ size_of disk.old }
+    ensures storage { storage_of disk.new ≡ storage_of disk.old }
 {
-    match fence {
-        None => Some(Fence {
-            ticket,
-            change: disk.latest_change(),
-        }),
-        Some(other) => {
-            if other.ticket == ticket {
-                Some(other)
-            } else {
-                None
-            }
+    match *fence {
+        None => {
+            disk.begin_flush();
+            *fence = Some(Fence { ticket, place });
+            true
         }
+        Some(other) => other.place == place,
     }
 }
 
-/// Returns true if a command of a ticket waits for the host's storage: it is a flush, and a change is owed that was made
-/// before it came, or another flush waits. Then its fence is kept until it is over. Nothing waits on a disk that isn't
-/// backed.
+/// Returns true if a command of a ticket, whose task entered at a place, waits for the host's storage: it is a flush, and a change
+/// is owed that was made before it came, or another flush waits. Then its fence is kept until it is over. Nothing waits on a disk
+/// that isn't backed.
 #[inline(always)]
 pub(crate) fn has_to_wait(
     fence: &mut Option<Fence>,
-    disk: &Disk,
+    disk: &mut Disk,
     command: &Command,
     ticket: Ticket,
+    place: u64,
 ) -> bool
-    ensures backed { IsTrue result → is_backed disk.now ≡ true }
+    ensures backed { IsTrue result → is_backed disk.old ≡ true }
     ensures flush { IsTrue result → IsTrue (flushes command.now) }
-    ensures owed { IsTrue result → IfSome (fence_of fence.old disk.now ticket) (λ own. (p : ℕ) × IsTrue (owes disk.now own.change p)) }
-    ensures kept { IsTrue result → IfSome (fence_of fence.old disk.now ticket) (λ own. fence.new ≡ Some own) }
-    ensures another { IsTrue result → fence_of fence.old disk.now ticket ≡ None → fence.new ≡ fence.old }
-    ensures own { IsFalse result → IsTrue (flushes command.now) → is_backed disk.now ≡ true →
-        IsTrue (is_some (fence_of fence.old disk.now ticket)) }
-    ensures over { IsFalse result → IsTrue (flushes command.now) → is_backed disk.now ≡ true →
-        IfSome (fence_of fence.old disk.now ticket) (λ own. (p : ℕ) → owes disk.now own.change p ≡ false) }
-    ensures gone { IsFalse result → IsTrue (flushes command.now) → is_backed disk.now ≡ true → fence.new ≡ None }
-    ensures others { flushes command.now ≡ false → fence.new ≡ fence.old }
+    ensures fenced { (o : Opening) (steps : List Step) → place ≤ length steps → ((b : ℕ) → blocks_of disk.old b ≡ unit_blocks o steps b) →
+        AreFenced o steps fence.old (hosted_of disk.old) → AreFenced o steps fence.new (hosted_of disk.new) }
+    ensures since { (o : Opening) (steps : List Step) → place ≤ length steps → ((b : ℕ) → blocks_of disk.old b ≡ unit_blocks o steps b) →
+        AreFenced o steps fence.old (hosted_of disk.old) → IsFalse result → IsTrue (flushes command.now) →
+        AreSince o steps place (hosted_of disk.new) }
+    ensures over { IsFalse result → IsTrue (flushes command.now) → IsOver disk.new }
+    ensures blocks { blocks_of disk.new ≡ blocks_of disk.old }
+    ensures size { size_of disk.new ≡ size_of disk.old }
+    ensures storage { storage_of disk.new ≡ storage_of disk.old }
 {
     if disk.is_resident() {
         return false;
@@ -75,23 +79,22 @@ pub(crate) fn has_to_wait(
     if !is_flush(command) {
         return false;
     }
-    let Some(own) = own_fence(*fence, disk, ticket) else {
+    if !take_turn(fence, disk, ticket, place) {
         return true;
-    };
-    if disk.is_flushed(own.change) {
+    }
+    if disk.is_flush_over() {
         *fence = None;
         return false;
     }
-    *fence = Some(own);
     true
 }
 
 /// Returns true if a command would wait that comes now, while no other flush waits.
 pub(crate) fn would_wait(disk: &Disk, command: &Command) -> bool
-    ensures over { IsFalse result → IsTrue (flushes command.now) → (p : ℕ) → owes disk.now (latest_of disk.now) p ≡ false }
+    ensures over { IsFalse result → IsTrue (flushes command.now) → IsKeptWhole disk.now }
     ensures whole { is_backed disk.now ≡ false → IsFalse result }
 {
-    is_flush(command) && !disk.is_flushed(disk.latest_change())
+    is_flush(command) && !disk.is_kept()
 }
 
 /// Forgets that the flush of a ticket waits, whose task leaves.

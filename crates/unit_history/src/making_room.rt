@@ -5,7 +5,7 @@ ghost use Rattle.command_model.specs.Capacity.{is_in_range};
 ghost use Rattle.cdb.specs.Need.{need_of};
 ghost use Rattle.command_model.specs.Attention.{met};
 ghost use Rattle.command_model.specs.Waiting.{needs};
-ghost use Rattle.backed_store.specs.Disks.{size_of, blocks_of, holds, has_room, is_coming, storage_of, is_backed};
+ghost use Rattle.backed_store.specs.Disks.{size_of, blocks_of, holds, has_room, is_coming, hosted_of, is_backed};
 ghost use Rattle.block_store.specs.declared.readiness.Readiness.TheVariants.{Ready, Full};
 ghost use Rattle.block_commands.specs.Inner.Told.{protects};
 ghost use Rattle.block_commands.specs.Inner.Ready.{IsReady};
@@ -112,19 +112,16 @@ fn needs_blocks(capacity: u64, command: &Command) -> bool
 fn drop_page(store: &mut Disk, spared: &[PageRange]) -> bool
     ensures blocks { (b : ℕ) → blocks_of store.new b ≡ blocks_of store.old b }
     ensures size { size_of store.new ≡ size_of store.old }
-    ensures storage { storage_of store.new ≡ storage_of store.old }
+    ensures storage { hosted_of store.new ≡ hosted_of store.old }
 {
-    match store {
-        Disk::Whole(_) => false,
-        Disk::Backed(store) => store.evict(spared).is_some(),
-    }
+    store.evict(spared)
 }
 
 /// Has at most so many pages go as [`drop_page`] does. Returns true if one went.
 fn drop_pages(store: &mut Disk, spared: &[PageRange], most: u32) -> bool
     ensures blocks { (b : ℕ) → blocks_of store.new b ≡ blocks_of store.old b }
     ensures size { size_of store.new ≡ size_of store.old }
-    ensures storage { storage_of store.new ≡ storage_of store.old }
+    ensures storage { hosted_of store.new ≡ hosted_of store.old }
 {
     let mut dropped = false;
     for _number in 0..most {
@@ -157,7 +154,7 @@ fn make_ready_in_turns(
     ensures idle { needs (size_of store.old) command.now ≡ false → result ≡ Ready }
     ensures blocks { (b : ℕ) → blocks_of store.new b ≡ blocks_of store.old b }
     ensures size { size_of store.new ≡ size_of store.old }
-    ensures storage { storage_of store.new ≡ storage_of store.old }
+    ensures storage { hosted_of store.new ≡ hosted_of store.old }
 {
     let readiness = make_ready(store, command, bytes, facts);
     if readiness != Readiness::Full || times == 0 {
@@ -200,7 +197,7 @@ pub(crate) fn make_ready_for(
     ensures idle { needs (size_of store.old) command.now ≡ false → result ≡ Ready }
     ensures blocks { (b : ℕ) → blocks_of store.new b ≡ blocks_of store.old b }
     ensures size { size_of store.new ≡ size_of store.old }
-    ensures storage { storage_of store.new ≡ storage_of store.old }
+    ensures storage { hosted_of store.new ≡ hosted_of store.old }
 {
     if is_behind(oldest, ticket) && needs_blocks(store.capacity(), command) {
         return Readiness::Full;

@@ -5,7 +5,7 @@ ghost use Rattle.std.specs.Option.{option_map};
 ghost use Rattle.cdb.specs.Need.{need_of};
 ghost use Rattle.command_model.specs.PlainReply.{plain_of};
 ghost use Rattle.block_store.specs.Drafts.{prepared_draft};
-ghost use Rattle.backed_store.specs.Disks.{is_backed};
+ghost use Rattle.backed_store.specs.Disks.{is_backed, storage_of};
 ghost use Rattle.block_store.specs.declared.readiness.Readiness.TheVariants.{Ready, Full};
 ghost use Rattle.block_commands.specs.Prepared.{IsOf};
 ghost use Rattle.block_commands.specs.Inner.Told.{facts_of, protects};
@@ -360,7 +360,7 @@ pub(crate) fn perform_if_ready(
     requires data { length bytes.now ≡ (need_of command.now).out }
     requires own { IfSome prepared (λ pages. IsOf command.now bytes.now (prepared_draft pages)) }
     ensures performed { IfOk result (λ ran. Comes keeps_replies
-        (facts_of (told facts.old attentions.old) (⟦<Disk as Store>⟧.size store.old)) (IsLostIn (⟦<Disk as Store>⟧.storage store.old))
+        (facts_of (told facts.old attentions.old) (⟦<Disk as Store>⟧.size store.old)) (IsLostIn (storage_of store.old))
         command.now bytes.now (option_map performed_of ran)
         (⟦<Disk as Store>⟧.block_at store.old) (⟦<Disk as Store>⟧.block_at store.new) attentions.old attentions.new) }
     ensures waits { OnErr result ((⟦<Disk as Store>⟧.block_at store.new ≡ ⟦<Disk as Store>⟧.block_at store.old)

@@ -2,7 +2,7 @@
 
 ghost use Rattle.std.specs.Prelude.{◌≡◌, ℕ, IsTrue, IsFalse, true, false, None};
 ghost use Rattle.std.specs.Bool.{OnFalse};
-ghost use Rattle.backed_store.specs.Disks.{is_backed, latest_of, owes};
+ghost use Rattle.backed_store.specs.Disks.{is_backed, IsKeptWhole};
 ghost use Rattle.block_commands.specs.Inner.Ready.{IsReady};
 ghost use Rattle.block_commands.specs.Inner.Told.{facts_of, protects};
 ghost use Rattle.command_model.specs.Attention.{met};
@@ -114,8 +114,7 @@ fn may_run(
         IsReady (⟦<Disk as Store>⟧.is_held store.new) (⟦<Disk as Store>⟧.has_room store.new) (⟦<Disk as Store>⟧.size store.new)
         arrival.now.entry.command arrival.now.entry.data_out }
     ensures whole { is_backed store.old ≡ false → IsTrue result }
-    ensures flushed { IsTrue result → is_backed store.new ≡ true → IsTrue (is_flush arrival.now.entry.command) →
-        (p : ℕ) → owes store.new (latest_of store.new) p ≡ false }
+    ensures flushed { IsTrue result → IsTrue (is_flush arrival.now.entry.command) → IsKeptWhole store.new }
     ensures storage { ⟦<Disk as Store>⟧.storage store.new ≡ ⟦<Disk as Store>⟧.storage store.old }
     ensures blocks { ⟦<Disk as Store>⟧.block_at store.new ≡ ⟦<Disk as Store>⟧.block_at store.old }
     ensures size { ⟦<Disk as Store>⟧.size store.new ≡ ⟦<Disk as Store>⟧.size store.old }
@@ -141,8 +140,7 @@ fn is_arrival_ready(
         IsReady (⟦<Disk as Store>⟧.is_held store.new) (⟦<Disk as Store>⟧.has_room store.new) (⟦<Disk as Store>⟧.size store.new)
         arrival.now.entry.command arrival.now.entry.data_out }
     ensures whole { is_backed store.old ≡ false → IsTrue result }
-    ensures flushed { IsTrue result → is_backed store.new ≡ true → IsTrue (is_flush arrival.now.entry.command) →
-        (p : ℕ) → owes store.new (latest_of store.new) p ≡ false }
+    ensures flushed { IsTrue result → IsTrue (is_flush arrival.now.entry.command) → IsKeptWhole store.new }
     ensures storage { ⟦<Disk as Store>⟧.storage store.new ≡ ⟦<Disk as Store>⟧.storage store.old }
     ensures blocks { ⟦<Disk as Store>⟧.block_at store.new ≡ ⟦<Disk as Store>⟧.block_at store.old }
     ensures size { ⟦<Disk as Store>⟧.size store.new ≡ ⟦<Disk as Store>⟧.size store.old }

@@ -149,9 +149,9 @@ fn cut_off(disk: Disk) -> Disk
             store.resize(blocks);
             Disk::Whole(store)
         }
-        Disk::Backed(mut store) => {
-            store.resize(blocks);
-            Disk::Backed(store)
+        Disk::Backed(mut disk) => {
+            disk.resize(blocks);
+            Disk::Backed(disk)
         }
     }
 }
@@ -224,6 +224,7 @@ impl UnitState {
         self.opened = Record::new().and(&disk);
         self.opening_blocks = disk.capacity();
         self.store = cut_off(disk);
+        self.fence = None;
     }
 
     /// Returns a unit's disk, as its commands and resizes left it, with what the host's storage has. The rest of the unit is

@@ -4,7 +4,7 @@ use Rattle.std.specs.Option.{option_map}
 use Rattle.block_store.specs.Storage.{Ledger, Dealing, IsPageOf, IsLostIn, and_then}
 use Rattle.cdb.specs.declared.commands.Command.{Command}
 use Rattle.command_model.specs.PlainReply.{PlainReply}
-use Rattle.command_model.specs.Waiting.{waits_at}
+use Rattle.command_model.specs.Waiting.{is_flush, waits_at}
 use Rattle.command_model.specs.Statuses.{good}
 use Rattle.ring_core.specs.declared.log.Ticket.{Ticket}
 use Rattle.unit_model.specs.Tasks.{Entry}
@@ -41,7 +41,7 @@ HasLost u p = IsLostIn u.storage p
 
 -- a flush ends with GOOD only where the host said that its storage keeps what was written before it came
 abbrev pub Flushes : PlainUnit → Entry → PlainReply → Type 0
-Flushes u e r = r.status ≡ good → IfSome u.storage (λ l. IsDurable u.opening u.steps l e)
+Flushes u e r = r.status ≡ good → is_flush e.command ≡ true → IfSome u.storage (λ l. IsDurable u.opening u.steps l e)
 
 -- own: the command of a task, which runs next at the unit, may be replied to so: as the history says, or since it needs a
 -- page that the host can't read

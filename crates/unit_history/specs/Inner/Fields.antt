@@ -5,6 +5,7 @@ use Rattle.unit_model.specs.Contents.{capacity_of}
 use Rattle.task_set.specs.Inner.Tasks.{seen_of}
 use Rattle.unit_history.specs.Inner.Noting.{AreRecorded}
 use Rattle.unit_history.specs.Inner.Parts.{AreKept, AreBased}
+use Rattle.unit_history.specs.Inner.Flushes.{AreFenced}
 use Rattle.unit_history.specs.Fields.{opening_of}
 use Rattle.unit_history.specs.declared.unit.UnitState.TheInside.{Inside}
 
@@ -13,3 +14,4 @@ pub record IsTold (u : Inside) : Type 0 where
   pub based : AreBased u.log.base u.log.forgotten u.log.steps (seen_of u.tasks)
   pub sized : disks.size_of u.store ≡ capacity_of (opening_of u) u.log.steps
   pub noted : AreRecorded (opening_of u) u.log.steps u.changes
+  pub flushing : AreFenced (opening_of u) u.log.steps u.fence (disks.hosted_of u.store)

@@ -1,5 +1,5 @@
 use Rattle.std.proofs.Common.{◌≡◌, ℕ}
-use Rattle.backed_store.specs.Disks.{size_of, blocks_of, storage_of}
+use Rattle.backed_store.specs.Disks.{size_of, blocks_of, hosted_of}
 use Rattle.unit_history.proofs.making_room.drop_pages.Given as goal
 
 abbrev pub invariant-loop-number : goal.invariant-loop-number
@@ -7,5 +7,5 @@ invariant-loop-number l =
     record {
       blocks : (b : ℕ) → blocks_of l.store b ≡ blocks_of l.initial.store b;
       size : size_of l.store ≡ size_of l.initial.store;
-      storage : storage_of l.store ≡ storage_of l.initial.store;
+      storage : hosted_of l.store ≡ hosted_of l.initial.store;
     }

@@ -1,4 +1,4 @@
-use Rattle.backed_store.proofs.Progressing.{gave-fenced, gave-hosted}
+use Rattle.backed_store.proofs.Progressing.{gave-fenced, gave-hosted, gave-now}
 use Rattle.backed_store.proofs.backed_disk.BackedDisk.give.Goals as goal
 
 pub invariant_of-self : goal.invariant_of-self
@@ -12,3 +12,6 @@ invariant_of-self c =
 
 pub returns-clause-given : goal.returns-clause-given
 returns-clause-given c = gave-hosted c.give.result c.args.self.now.fence c.args.self.now.began.items c.args.self.now.store c.give.new.self c.args.self.now.fenced c.give.ensures.taken
+
+pub returns-clause-now : goal.returns-clause-now
+returns-clause-now c = gave-now c.give.result c.args.self.now.store c.give.new.self c.give.ensures.given

@@ -10,6 +10,7 @@ use Rattle.unit_history.proofs.Keeping.{few, may_abort, keep_abort}
 use Rattle.unit_history.proofs.Handing.{given_abort, parked_abort}
 use Rattle.unit_history.proofs.Stepping.{steps_is, handed_is}
 use Rattle.unit_history.proofs.Noting.{recorded_on}
+use Rattle.unit_history.proofs.Durable.{fenced_more}
 use Rattle.unit_history.proofs.unit.UnitState.abort.Goals as goal
 
 pub mark-requires : goal.mark-requires
@@ -32,6 +33,7 @@ invariant_of-self-2 c =
           (c.make_way.ensures.clear c.self.invariant.based.clear);
       sized = c.self.invariant.sized ∙ rw (c.push.ensures.steps, c.in_ok-make_way.ensures.steps) refl;
       noted = recorded_on _ (Step.Abort c.args.rule) c.self.inside.log.steps _ _ c.self.invariant.noted (λ b below out. (below, refl)) (c.push.ensures.steps ∙ ap (λ w. Step.Abort c.args.rule ∷ w) c.make_way.ensures.steps);
+      flushing = fenced_more _ (Step.Abort c.args.rule) _ _ _ _ c.self.invariant.flushing (c.push.ensures.steps ∙ ap (λ w. Step.Abort c.args.rule ∷ w) c.make_way.ensures.steps);
     }
 
 pub returns-clause-step : goal.returns-clause-step

@@ -7,6 +7,7 @@ use Rattle.task_set.specs.Inner.Tasks.{seen_of}
 use Rattle.unit_history.specs.Inner.Parts.{AreBehind}
 use Rattle.unit_history.proofs.Basing.{based_way, behind_entering}
 use Rattle.unit_history.proofs.Noting.{recorded_on}
+use Rattle.unit_history.proofs.Durable.{fenced_more}
 use Rattle.unit_history.proofs.unit.UnitState.enter.Goals as goal
 
 pub enter-requires : goal.enter-requires
@@ -36,6 +37,9 @@ invariant_of-self-in-Err c =
       noted =
           recorded_on _ (Step.Full c.ticket-ticket.result) c.self.inside.log.steps _ _ c.self.invariant.noted (λ b below out. (below, refl))
           (c.push.ensures.steps ∙ ap (λ w. Step.Full c.ticket-ticket.result ∷ w) c.make_way.ensures.steps);
+      flushing =
+          fenced_more _ (Step.Full c.ticket-ticket.result) _ _ _ _ c.self.invariant.flushing
+          (c.push.ensures.steps ∙ ap (λ w. Step.Full c.ticket-ticket.result ∷ w) c.make_way.ensures.steps);
     }
 
 pub invariant_of-self-in-Ok-enter : goal.invariant_of-self-in-Ok-enter
@@ -63,6 +67,10 @@ invariant_of-self-in-Ok-enter c =
       sized = c.self.invariant.sized ∙ rw (c.push-in-Ok-enter.ensures.steps, c.in-Ok-make_way.ensures.steps) refl;
       noted =
           recorded_on _ (Step.Enter c.args.arrival.entry) c.self.inside.log.steps _ _ c.self.invariant.noted (λ b below out. (below, refl))
+          (c.push-in-Ok-enter.ensures.steps ∙ ap (λ e. Step.Enter e ∷ c.make_way.new.log.steps) c.recorded_entry-entered.ensures
+          ∙ ap (λ w. Step.Enter c.args.arrival.entry ∷ w) c.make_way.ensures.steps);
+      flushing =
+          fenced_more _ (Step.Enter c.args.arrival.entry) _ _ _ _ c.self.invariant.flushing
           (c.push-in-Ok-enter.ensures.steps ∙ ap (λ e. Step.Enter e ∷ c.make_way.new.log.steps) c.recorded_entry-entered.ensures
           ∙ ap (λ w. Step.Enter c.args.arrival.entry ∷ w) c.make_way.ensures.steps);
     }

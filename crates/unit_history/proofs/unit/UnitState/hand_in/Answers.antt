@@ -20,4 +20,5 @@ invariant_of-self c =
       based = c.self.invariant.based;
       sized = rw fresh (c.cut_off.ensures.size ∙ sym c.capacity-self-inside.ensures);
       noted = recorded_again _ _ _ _ fresh c.self.invariant.noted;
+      flushing = tt;
     }

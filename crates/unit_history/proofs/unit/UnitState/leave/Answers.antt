@@ -3,6 +3,9 @@ use Rattle.unit_model.specs.Steps.{Step}
 use Rattle.unit_model.specs.Seen.{freed}
 use Rattle.task_set.specs.Inner.Tasks.{seen_of, entries_of, without}
 use Rattle.unit_history.specs.Inner.Parts.{AreBehind}
+use Rattle.unit_history.specs.Inner.Flushes.{AreFenced}
+use Rattle.unit_history.specs.Fields.{opening_of}
+use Rattle.backed_store.specs.Disks as disks
 use Rattle.unit_history.proofs.Basing.{based_on, behind_moved, behind_without}
 use Rattle.std.specs.Option.{option_copied}
 use Rattle.task_set.specs.Tasks.{parked_of}
@@ -10,6 +13,7 @@ use Rattle.unit_history.proofs.Keeping.{few, has_room, may_leave, keep_leave}
 use Rattle.unit_history.proofs.Handing.{given_leave, parked_leave}
 use Rattle.unit_history.proofs.Stepping.{cannot_none, cannot_open, steps_is, handed_is}
 use Rattle.unit_history.proofs.Noting.{recorded_on}
+use Rattle.unit_history.proofs.Durable.{fenced_more, fenced_without}
 use Rattle.unit_history.proofs.unit.UnitState.leave.Goals as goal
 
 pub returns-in_default-clause-unknown : goal.returns-in_default-clause-unknown
@@ -44,6 +48,11 @@ invariant_of-self c =
           (behind_moved (freed (entries_of (without t c.self.inside.tasks))) n (without t c.self.inside.tasks) (λ s. refl) (behind_without t n c.self.inside.tasks b)));
       sized = c.self.invariant.sized ∙ rw (c.push.ensures.steps) refl;
       noted = recorded_on _ (Step.Leave t) c.self.inside.log.steps _ _ c.self.invariant.noted (λ b below out. (below, refl)) c.push.ensures.steps;
+      flushing =
+          fenced_more (opening_of c.self.inside) (Step.Leave t) c.self.inside.log.steps _ _ (disks.hosted_of c.self.inside.store)
+          (subst (λ f. AreFenced (opening_of c.self.inside) c.self.inside.log.steps f (disks.hosted_of c.self.inside.store)) (sym c.give_up.ensures)
+          (fenced_without (opening_of c.self.inside) c.self.inside.log.steps c.self.inside.fence t (disks.hosted_of c.self.inside.store) c.self.invariant.flushing))
+          c.push.ensures.steps;
     }
 
 pub returns-clause-step : goal.returns-clause-step

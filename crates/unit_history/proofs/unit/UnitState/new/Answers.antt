@@ -15,4 +15,5 @@ invariant_of-result-2 c =
       based = based_new _ _ _ _ c.new-4.ensures.steps c.new-3.ensures c.new-4.ensures.base c.new-4.ensures.forgotten;
       sized = rw (c.new-4.ensures.steps) c.new.ensures.capacity;
       noted = recorded_new _ _ _ c.new-4.ensures.steps c.since_place.ensures.since;
+      flushing = tt;
     }

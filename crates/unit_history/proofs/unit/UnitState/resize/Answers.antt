@@ -2,6 +2,7 @@ use Rattle.std.proofs.Common.{◌≡◌, ◌≤◌, ◌∷◌, true, refl, sym, 
 use Rattle.std.specs.Option.{option_map}
 use Rattle.block_store.specs.Blocks.{zero_block}
 use Rattle.block_store.specs.Storage.{Dealing, and_then}
+use Rattle.block_store.specs.Progress.{hosted_after}
 use Rattle.backed_store.specs.Disks as disks
 use Rattle.unit_model.specs.Contents.{is_capacity}
 use Rattle.unit_model.specs.Steps.{Step}
@@ -12,6 +13,7 @@ use Rattle.unit_history.proofs.Handing.{parked_resize}
 use Rattle.unit_history.proofs.Stepping.{steps_is}
 use Rattle.unit_history.specs.Fields.{opening_of}
 use Rattle.unit_history.proofs.Noting.{recorded_resize}
+use Rattle.unit_history.proofs.Durable.{fenced_same, cut_fenced, ledger_then}
 use Rattle.unit_history.proofs.unit.UnitState.resize.Goals as goal
 
 pub invariant_of-self-2 : goal.invariant_of-self-2
@@ -37,6 +39,12 @@ invariant_of-self-2 c =
           recorded_resize (opening_of u) c.args.blocks u.log.steps _ _ _ c.self.invariant.noted
           (rw (c.capacity.ensures, c.self.invariant.sized, c.len-place.ensures, c.make_way.ensures.steps) at c.note_growth.ensures.notes)
           (c.push.ensures.steps ∙ ap (λ w. Step.Resize c.args.blocks ∷ w) c.make_way.ensures.steps);
+      flushing =
+          fenced_same _ _ _ _ _
+          (cut_fenced _ u.log.steps _ _ c.args.blocks (disks.hosted_of u.store)
+          (c.push.ensures.steps ∙ ap (λ w. Step.Resize c.args.blocks ∷ w) c.make_way.ensures.steps) c.self.invariant.flushing)
+          (c.resize.ensures.storage
+          ∙ ap (λ n. option_map (hosted_after (Dealing.Cut (min n c.args.blocks))) (disks.hosted_of u.store)) c.self.invariant.sized);
     }
 
 pub returns-clause-step : goal.returns-clause-step
@@ -46,5 +54,5 @@ returns-clause-step c =
     (steps_is _ (Step.Resize c.args.blocks) _ _ _ _ _ _ _ _ (may_resize c.self.invariant.kept c.args.blocks is)
     (c.push.ensures.steps ∙ ap (λ w. Step.Resize c.args.blocks ∷ w) c.make_way.ensures.steps)
     (parked_resize c.self.inside.log.steps c.self.inside.tasks c.args.blocks) (c.push.ensures.keeps ∙ c.make_way.ensures.keeps)
-    (c.resize.ensures.storage
+    (ledger_then _ c.resize.new.self c.self.inside.store c.resize.ensures.storage
     ∙ ap (λ n. option_map (and_then (Dealing.Cut (min n c.args.blocks))) (disks.storage_of c.self.inside.store)) c.self.invariant.sized))

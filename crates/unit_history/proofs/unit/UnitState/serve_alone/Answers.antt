@@ -1,11 +1,14 @@
-use Rattle.std.proofs.Common.{◌≡◌, ◌≤◌, ◌+◌, ◌∷◌, false, ap, sym, ◌∙◌, arith, subst, refl}
+use Rattle.std.proofs.Common.{◌≡◌, ◌≤◌, ◌+◌, ◌∷◌, false, Option, IfSome, ap, sym, ◌∙◌, arith, subst, refl}
 use Rattle.block_commands.specs.Inner.Told.{facts_of}
 use Rattle.backed_store.specs.Disks as disks
 use Rattle.ring_core.specs.declared.log.Ticket.{Ticket}
 use Rattle.unit_model.specs.Endings.{Ending}
 use Rattle.unit_model.specs.Steps.{Step, next_number}
 use Rattle.unit_history.specs.Fields.{opening_of}
-use Rattle.unit_history.specs.Inner.Performing.{told, unkept}
+use Rattle.unit_history.specs.Inner.Performing.{told, step_for, unkept}
+use Rattle.block_store.specs.Storage.{Ledger}
+use Rattle.unit_model.specs.Flushing.{IsDurable}
+use Rattle.unit_history.proofs.Durable.{fenced_more, fenced_same, hosted_ledger, entered_past, kept_durable}
 use Rattle.unit_history.proofs.Alone.{no_tasks, ends_as, all_steps, based_served, kept_served, recorded_served, serves_alone}
 use Rattle.unit_history.proofs.Entering.{not_stale, came_then}
 use Rattle.unit_history.proofs.Keeping.{CameTo, told_is}
@@ -66,6 +69,15 @@ invariant_of-self-2 g c =
           _ _ _ _ c.self.invariant.noted refl
           (rw (c.command-command.ensures, c.data-bytes.ensures.data, c.len-2.ensures, c.in-Ok-make_way.ensures.steps) at c.note_command.ensures)
           (c.capacity.ensures ∙ size ∙ c.self.invariant.sized));
+      flushing =
+          rw facts
+          (fenced_more (opening_of u) (Step.Leave c.args.arrival.now.entry.ticket)
+          (step_for c.args.arrival.now.entry.ticket (unkept c.run_and_answer-ran.result) ∷ Step.Enter c.args.arrival.now.entry ∷ u.log.steps)
+          c.push_three.new.self.steps u.fence (disks.hosted_of c.run_and_answer-ran.new.store)
+          (fenced_more (opening_of u) (step_for c.args.arrival.now.entry.ticket (unkept c.run_and_answer-ran.result)) (Step.Enter c.args.arrival.now.entry ∷ u.log.steps)
+          (step_for c.args.arrival.now.entry.ticket (unkept c.run_and_answer-ran.result) ∷ Step.Enter c.args.arrival.now.entry ∷ u.log.steps) u.fence (disks.hosted_of c.run_and_answer-ran.new.store)
+          (fenced_more (opening_of u) (Step.Enter c.args.arrival.now.entry) u.log.steps (Step.Enter c.args.arrival.now.entry ∷ u.log.steps) u.fence (disks.hosted_of c.run_and_answer-ran.new.store)
+          (fenced_same (opening_of u) u.log.steps u.fence (disks.hosted_of u.store) (disks.hosted_of c.run_and_answer-ran.new.store) c.self.invariant.flushing (c.run_and_answer-ran.ensures.storage ∙ c.may_run.ensures.storage)) refl) refl) steps);
     }
 
 pub returns-clause-serves : goal.returns-clause-serves
@@ -102,10 +114,16 @@ returns-clause-serves g c =
     c.run_and_answer-ran.new.attentions (told_is c.self.invariant.kept u.facts (disks.size_of u.store) refl refl refl refl refl c.self.invariant.sized)
     performed c.push_three.new.self.steps steps
     answers c.self.inside.log.keeps c.push_three.new.self.keeps _ _
-    (c.run_and_answer-ran.ensures.storage ∙ c.may_run.ensures.storage) (c.if-not-is_named.ensures.yes refl) keeps
+    (hosted_ledger _ u.store (c.run_and_answer-ran.ensures.storage ∙ c.may_run.ensures.storage)) (c.if-not-is_named.ensures.yes refl) keeps
     (c.push_three.ensures.keeps ∙ c.in-Ok-make_way.ensures.keeps ∙ keeps)
     (subst answers (ends_as _ _ _ c.run_and_answer-ran.result) c.run_and_answer-ran.ensures.answered)
-    (sym c.ticket-ticket.ensures.chain ∙ own))
+    (sym c.ticket-ticket.ensures.chain ∙ own)
+    (λ r ends flush.
+    subst (λ (x : Option Ledger). IfSome x (λ l. IsDurable (opening_of u) (Step.Enter c.args.arrival.now.entry ∷ u.log.steps) l c.args.arrival.now.entry))
+    (hosted_ledger c.may_run.new.store u.store c.may_run.ensures.storage)
+    (kept_durable (opening_of u) (Step.Enter c.args.arrival.now.entry ∷ u.log.steps) c.args.arrival.now.entry c.may_run.new.store
+    (entered_past c.args.arrival.now.entry.ticket (Step.Enter c.args.arrival.now.entry ∷ u.log.steps))
+    (λ b. ap (λ f. f b) blocks ∙ c.self.invariant.kept.stored b) (c.may_run.ensures.flushed (c.if-not-may_run.false) flush))))
 
 pub invariant_of-self-in_default : goal.invariant_of-self-in_default
 invariant_of-self-in_default g c =
@@ -129,6 +147,7 @@ invariant_of-self-in_default g c =
       based = c.self.invariant.based;
       sized = rw facts (size ∙ c.self.invariant.sized);
       noted = rw facts c.self.invariant.noted;
+      flushing = rw facts (fenced_same _ _ _ _ _ c.self.invariant.flushing c.may_run.ensures.storage);
     }
 
 pub invariant_of-self-in_default-make_way : goal.invariant_of-self-in_default-make_way
@@ -156,4 +175,5 @@ invariant_of-self-in_default-make_way g c =
       based = rw steps (record { based = more.0 ∙ c.self.invariant.based.based; clear = c.make_way.ensures.clear c.self.invariant.based.clear });
       sized = rw (facts, steps) (size ∙ c.self.invariant.sized);
       noted = rw (facts, steps) c.self.invariant.noted;
+      flushing = rw (facts, steps) (fenced_same _ _ _ _ _ c.self.invariant.flushing c.may_run.ensures.storage);
     }
