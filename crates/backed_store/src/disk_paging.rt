@@ -33,7 +33,11 @@ impl Disk {
         requires kept { IfSome (storage_of self.old) (λ s. IsPageOf (storage_by s).kept page bytes.now) }
         ensures blocks { (b : ℕ) → blocks_of self.new b ≡ blocks_of self.old b }
         ensures size { size_of self.new ≡ size_of self.old }
-        ensures storage { storage_of self.new ≡ storage_of self.old }
+        ensures backed { IfOk result (λ done. IsTrue done → is_backed self.old ≡ true) }
+        ensures loaded { IfOk result (λ done. IsTrue done →
+            storage_of self.new ≡ option_map (and_then (Dealing.Load page)) (storage_of self.old)) }
+        ensures otherwise { IfOk result (λ done. IsFalse done → storage_of self.new ≡ storage_of self.old) }
+        ensures err { OnErr result (storage_of self.new ≡ storage_of self.old) }
     {
         match self {
             Disk::Whole(_) => Ok(false),
