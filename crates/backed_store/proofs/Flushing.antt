@@ -1,10 +1,10 @@
 -- A flush goes on, and what a crash leaves once it is over.
-use Rattle.std.proofs.Common.{◌≡◌, inl, inr, ℕ, ◌*◌, ◌/◌, ◌%◌, ◌<◌, ◌≤◌, nat_lt, Bool, true, false, IsTrue, List, Option, Some, None, if◌then◌else◌, refl, sym, ◌∙◌, ap, subst, arith}
+use Rattle.std.proofs.Common.{◌≡◌, ◌≢◌, ◌==◌, inl, inr, ℕ, ◌*◌, ◌/◌, ◌%◌, ◌<◌, ◌≤◌, nat_lt, Bool, true, false, IsTrue, List, Option, Some, None, if◌then◌else◌, refl, sym, ◌∙◌, ap, subst, arith}
 use Rattle.std.proofs.lemmas.Bool.Decides.{nat_tests, leb_tells}
 use Rattle.block_store.specs.Blocks.{Blocks, nth_block, zero_block}
 use Rattle.backed_store.specs.Marks.{State, state_of, is_steady, has_room}
 use Rattle.backed_store.specs.Marks as marks
-use Rattle.block_store.specs.Storage.{Storage, cut}
+use Rattle.block_store.specs.Storage.{Storage, cut, with_page}
 use Rattle.backed_store.specs.Caches.{mark_at, state_at, bytes_at}
 use Rattle.backed_store.specs.Stores.{contents, backing_of, storage_of, is_dirty, is_writing, is_rewritten, number_of, again_of, latest_of, IsOwed, IsHost}
 use Rattle.backed_store.specs.Flushes.{owes, IsFlushed, HasBeen, IsFlushing, KeepsFlushes, IsLeft}
@@ -162,3 +162,84 @@ goes-cut old new left blocks keeps gives marked = λ moments n m was at.
         let zero : x ≡ zero_block = is ∙ rw test refl in
         let now : contents new b ≡ zero_block = blocks b ∙ rw test refl in
         record { moment = m; is = zero ∙ sym now ∙ at b }
+
+-- over the end of a write that the host kept
+pub goes-kept : (old new : BackedStore) (page : ℕ) → is_writing old page ≡ true → is_writing new page ≡ false →
+    ((p : ℕ) → p ≢ page → is_writing new p ≡ is_writing old p) →
+    ((b : ℕ) → backing_of new b ≡ with_page page (storage_of old).given (backing_of old) b) →
+    ((b : ℕ) → (storage_of new).given b ≡ (storage_of old).given b) → ((p : ℕ) → p ≢ page → IsOwed old new p) →
+    (IsTrue (is_rewritten old page) → IsTrue (is_dirty new page)) →
+    (IsTrue (is_rewritten old page) → number_of new page ≡ again_of old page) → KeepsFlushes old new
+goes-kept old new page began over writing keeps gives others dirty later = λ moments n m was at.
+    record {
+      now = λ b. record { moment = m; is = at b };
+      kept = λ b paid. kept_of moments n was b paid (b / 8 == page) refl;
+      given = λ b writes paid. given_of moments n was b writes paid (b / 8 == page) refl;
+    }
+  where
+    kept_of : (moments : ℕ → Blocks) (n : ℕ) → IsFlushing moments n old → (b : ℕ) →
+        (IsTrue (is_dirty new (b / 8)) → n < number_of new (b / 8)) → (t : Bool) → (b / 8 == page) ≡ t → HasBeen moments b (backing_of new b)
+    kept_of moments n was b paid true here =
+        let number : b / 8 ≡ page = grind (arith, nat_tests, here) in
+        let first : is_rewritten old (b / 8) ≡ true → n < again_of old (b / 8) =
+        subst (λ p. is_rewritten old p ≡ true → n < again_of old p) (sym number)
+        (λ is.
+        let due : n < number_of new page = subst (λ p. is_dirty new p ≡ true → n < number_of new p) number paid (dirty is) in
+        let same : number_of new page ≡ again_of old page = later is in
+        omega (arith, due, same)) in
+        has-been (was.given b (ap (λ p. is_writing old p) number ∙ began) first) (keeps b ∙ rw here refl)
+    kept_of moments n was b paid false apart =
+        let other : b / 8 ≢ page = grind (arith, nat_tests, apart) in
+        has-been (kept-on moments n old new b was (others (b / 8) other) paid) (keeps b ∙ rw apart refl)
+
+    given_of : (moments : ℕ → Blocks) (n : ℕ) → IsFlushing moments n old → (b : ℕ) → IsTrue (is_writing new (b / 8)) →
+        (IsTrue (is_rewritten new (b / 8)) → n < again_of new (b / 8)) → (t : Bool) → (b / 8 == page) ≡ t →
+        HasBeen moments b ((storage_of new).given b)
+    given_of moments n was b writes paid true here =
+        let number : b / 8 ≡ page = grind (arith, nat_tests, here) in
+        let no : false ≡ true = sym over ∙ ap (λ p. is_writing new p) (sym number) ∙ writes in
+        absurd (cc)
+    given_of moments n was b writes paid false apart =
+        let other : b / 8 ≢ page = grind (arith, nat_tests, apart) in
+        has-been (given-on moments n old new b was (others (b / 8) other) (sym (writing (b / 8) other) ∙ writes) paid) (gives b)
+
+-- over the end of a write that failed
+pub goes-failed : (old new : BackedStore) (page : ℕ) → is_writing new page ≡ false →
+    ((p : ℕ) → p ≢ page → is_writing new p ≡ is_writing old p) → ((b : ℕ) → backing_of new b ≡ backing_of old b) →
+    ((b : ℕ) → (storage_of new).given b ≡ (storage_of old).given b) → ((p : ℕ) → p ≢ page → IsOwed old new p) →
+    (IsTrue (is_dirty old page) → IsTrue (is_dirty new page)) →
+    (IsTrue (is_dirty old page) → number_of new page ≡ number_of old page) → KeepsFlushes old new
+goes-failed old new page over writing keeps gives others dirty earlier = λ moments n m was at.
+    record {
+      now = λ b. record { moment = m; is = at b };
+      kept = λ b paid. kept_of moments n was b paid (b / 8 == page) refl;
+      given = λ b writes paid. given_of moments n was b writes paid (b / 8 == page) refl;
+    }
+  where
+    kept_of : (moments : ℕ → Blocks) (n : ℕ) → IsFlushing moments n old → (b : ℕ) →
+        (IsTrue (is_dirty new (b / 8)) → n < number_of new (b / 8)) → (t : Bool) → (b / 8 == page) ≡ t → HasBeen moments b (backing_of new b)
+    kept_of moments n was b paid true here = by_dirty (is_dirty old (b / 8)) refl
+      where
+        by_dirty : (t : Bool) → is_dirty old (b / 8) ≡ t → HasBeen moments b (backing_of new b)
+        by_dirty true is =
+            let number : b / 8 ≡ page = grind (arith, nat_tests, here) in
+            let was_dirty : is_dirty old page ≡ true = ap (λ p. is_dirty old p) (sym number) ∙ is in
+            let due : n < number_of new page = subst (λ p. is_dirty new p ≡ true → n < number_of new p) number paid (dirty was_dirty) in
+            let same : number_of new page ≡ number_of old page = earlier was_dirty in
+            let young : n < number_of old page = omega (arith, due, same) in
+            has-been (was.kept b (λ _. subst (λ p. n < number_of old p) (sym number) young)) (keeps b)
+        by_dirty false clean = has-been (was.now b) (keeps b ∙ sym (contents-kept old b clean))
+    kept_of moments n was b paid false apart =
+        let other : b / 8 ≢ page = grind (arith, nat_tests, apart) in
+        has-been (kept-on moments n old new b was (others (b / 8) other) paid) (keeps b)
+
+    given_of : (moments : ℕ → Blocks) (n : ℕ) → IsFlushing moments n old → (b : ℕ) → IsTrue (is_writing new (b / 8)) →
+        (IsTrue (is_rewritten new (b / 8)) → n < again_of new (b / 8)) → (t : Bool) → (b / 8 == page) ≡ t →
+        HasBeen moments b ((storage_of new).given b)
+    given_of moments n was b writes paid true here =
+        let number : b / 8 ≡ page = grind (arith, nat_tests, here) in
+        let no : false ≡ true = sym over ∙ ap (λ p. is_writing new p) (sym number) ∙ writes in
+        absurd (cc)
+    given_of moments n was b writes paid false apart =
+        let other : b / 8 ≢ page = grind (arith, nat_tests, apart) in
+        has-been (given-on moments n old new b was (others (b / 8) other) (sym (writing (b / 8) other) ∙ writes) paid) (gives b)

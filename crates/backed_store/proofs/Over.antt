@@ -10,7 +10,7 @@ use Rattle.backed_store.specs.Marks.{State, state_of, is_clean, is_steady, given
 use Rattle.block_store.specs.Storage.{with_page}
 use Rattle.backed_store.specs.Slots.{bytes_of}
 use Rattle.backed_store.specs.declared.dealing.Dealing.{Dealing}
-use Rattle.backed_store.specs.declared.dealing.Dealing.TheVariants.{Given, Kept, Lost, Cut}
+use Rattle.backed_store.specs.declared.dealing.Dealing.TheVariants.{Given, Kept, Lost, Loaded, Cut}
 use Rattle.backed_store.specs.declared.slot.Slot.{Slot}
 use Rattle.backed_store.proofs.Parted.{stored}
 
@@ -61,12 +61,14 @@ abbrev pub given-page : Dealing → ℕ
 given-page (Given g) = g.page
 given-page (Kept p) = 0
 given-page (Lost p) = 0
+given-page (Loaded p) = 0
 given-page (Cut n) = 0
 
 abbrev pub given-bytes : Dealing → List ℕ
 given-bytes (Given g) = g.bytes.items
 given-bytes (Kept p) = []
 given-bytes (Lost p) = []
+given-bytes (Loaded p) = []
 given-bytes (Cut n) = []
 
 -- a page that is in memory has all its bytes

@@ -586,3 +586,19 @@ gave-now (Ok (Some g)) old new given = λ b here.
     ap (λ (h : Storage). h.given b) (sym (by-ledger new)) ∙ given b ∙ rw test refl
 gave-now (Ok None) old new given = given
 gave-now (Err e) old new given = given
+
+pub loaded-fenced : (r : Result Bool NoMemory) (n : ℕ) (began : List BackedStore) (old new : BackedStore) (page : ℕ) → IsFenced n began old →
+    IfOk r (λ done. ledger_of new ≡ (if done then and_then (Dealing.Load page) (ledger_of old) else ledger_of old)) →
+    OnErr r (ledger_of new ≡ ledger_of old) → storage_of new ≡ storage_of old → ((p : ℕ) → IsOwed old new p) →
+    ((p : ℕ) → is_writing new p ≡ is_writing old p) → IsFenced n began new
+loaded-fenced (Ok true) n began old new page was told err storage owed writing =
+    said n began old new (Dealing.Load page) told (λ x. refl) storage owed writing was
+loaded-fenced (Ok false) n began old new page was told err storage owed writing = same-ledger n began old new told storage owed writing was
+loaded-fenced (Err e) n began old new page was told err storage owed writing = same-ledger n began old new err storage owed writing was
+
+pub loaded-hosted : (r : Result Bool NoMemory) (n : ℕ) (began : List BackedStore) (old new : BackedStore) (page : ℕ) → IsFenced n began old →
+    IfOk r (λ done. ledger_of new ≡ (if done then and_then (Dealing.Load page) (ledger_of old) else ledger_of old)) →
+    IfOk r (λ done. IsTrue done → hosted_by n began (ledger_of new) ≡ hosted_after (Dealing.Load page) (hosted_by n began (ledger_of old)))
+loaded-hosted (Ok true) n began old new page was told = λ _. hosted-more n began (ledger_of old) (ledger_of new) (Dealing.Load page) was.behind told
+loaded-hosted (Ok false) n began old new page was told = λ never. never-both false never refl
+loaded-hosted (Err e) n began old new page was told = told

@@ -84,6 +84,19 @@ impl BackedDisk {
         self.store.is_flushed(self.store.latest_change())
     }
 
+    /// Takes the bytes of a page that the host was asked for, as [`BackedStore::load`] does.
+    pub(crate) fn load(&mut self, page: u64, bytes: &[u8]) -> Result<bool, NoMemory>
+        requires len { length bytes.now ≡ PAGE_BYTES }
+        requires kept { IsPageOf (backing_of self.old.store) page bytes.now }
+        ensures blocks { (b : ℕ) → contents self.new.store b ≡ contents self.old.store b }
+        ensures size { self.new.store.capacity ≡ self.old.store.capacity }
+        ensures loaded { IfOk result (λ done. IsTrue done → hosted_of self.new ≡ hosted_after (Dealing.Load page) (hosted_of self.old)) }
+        ensures otherwise { IfOk result (λ done. IsFalse done → hosted_of self.new ≡ hosted_of self.old) }
+        ensures err { OnErr result (hosted_of self.new ≡ hosted_of self.old) }
+    {
+        self.store.load(page, bytes)
+    }
+
     /// Notes that the host can't read a page, as [`BackedStore::lost`] does.
     pub(crate) fn lost(&mut self, page: u64) -> bool
         ensures blocks { (b : ℕ) → contents self.new.store b ≡ contents self.old.store b }

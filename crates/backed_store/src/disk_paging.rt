@@ -35,11 +35,15 @@ impl Disk {
         requires kept { IfSome (storage_of self.old) (λ s. IsPageOf (storage_by s).kept page bytes.now) }
         ensures blocks { (b : ℕ) → blocks_of self.new b ≡ blocks_of self.old b }
         ensures size { size_of self.new ≡ size_of self.old }
-        ensures storage { hosted_of self.new ≡ hosted_of self.old }
+        ensures backed { IfOk result (λ done. IsTrue done → is_backed self.old ≡ true) }
+        ensures loaded { IfOk result (λ done. IsTrue done →
+            hosted_of self.new ≡ option_map (hosted_after (Dealing.Load page)) (hosted_of self.old)) }
+        ensures otherwise { IfOk result (λ done. IsFalse done → hosted_of self.new ≡ hosted_of self.old) }
+        ensures err { OnErr result (hosted_of self.new ≡ hosted_of self.old) }
     {
         match self {
             Disk::Whole(_) => Ok(false),
-            Disk::Backed(disk) => disk.store.load(page, bytes),
+            Disk::Backed(disk) => disk.load(page, bytes),
         }
     }
 

@@ -10,7 +10,7 @@
 //! change on until that is kept. [`BlocksInPlace`] gives the bytes of each block once, in order.
 //!
 //! The host is asked only for pages below the capacity. Each page that is noted as lost is one of which the host said that it
-//! can't read it. At most 64 are noted: one more drops the oldest. A page that is loaded, or cut off, isn't noted any longer.
+//! can't read it. At most 64 are noted: one more drops the oldest. A page that is loaded, kept or cut off isn't noted any longer.
 //!
 //! A flush waits for the changes that were made before it. Once none of these is owed, a crash leaves each block as it was
 //! when the flush began, or later (`a_crash_leaves_what_was_flushed`). No call makes it wait for more, unless a write of the

@@ -38,7 +38,14 @@ impl BackedStore {
         // The host owes it: its storage gives back what it kept, or had at the opening.
         requires owed { IsTrue (is_reading self.old page) → holds self.old (8 * page) ≡ false → IsPageOf (backing_of self.old) page bytes.now }
         ensures same { IsSame self.old self.new }
-        ensures host { IsHost self.old self.new }
+        ensures storage { storage_of self.new ≡ storage_of self.old }
+        ensures told { IfOk result (λ stands. ledger_of self.new
+            ≡ (if stands then and_then (ADealing.Load page) (ledger_of self.old) else ledger_of self.old)) }
+        ensures err { OnErr result (ledger_of self.new ≡ ledger_of self.old) }
+        ensures owed { (p : ℕ) → IsOwed self.old self.new p }
+        ensures writing { (p : ℕ) → is_writing self.new p ≡ is_writing self.old p }
+        ensures owing { OwesNoMore self.old self.new }
+        ensures flushes { KeepsFlushes self.old self.new }
         ensures loaded { IfOk result (λ stands. IsTrue stands → IsTrue (holds self.new (8 * page))) }
         // The host's storage can read it after all.
         ensures found { IfOk result (λ stands. IsTrue stands → is_noted self.new page ≡ false) }
@@ -56,6 +63,7 @@ impl BackedStore {
         }
         self.cache.load(page, bytes)?;
         self.lost_pages.forget(page);
+        given::record(&mut self.dealings, &Dealing::Loaded(page));
         Ok(true)
     }
 
@@ -176,7 +184,7 @@ impl BackedStore {
         given::record(&mut self.dealings, &dealing);
         match dealing {
             Dealing::Given(given) => Ok(Some(given)),
-            Dealing::Kept(_) | Dealing::Lost(_) | Dealing::Cut(_) => Ok(None),
+            Dealing::Kept(_) | Dealing::Lost(_) | Dealing::Loaded(_) | Dealing::Cut(_) => Ok(None),
         }
     }
 
@@ -197,6 +205,8 @@ impl BackedStore {
         ensures over { OnOk result (is_writing self.new page ≡ false) }
         ensures still { OnOk result ((p : ℕ) → p ≢ page → is_writing self.new p ≡ is_writing self.old p) }
         ensures unchanged { OnErr result ((p : ℕ) → is_writing self.new p ≡ is_writing self.old p) }
+        // The host's storage can read what it kept.
+        ensures found { IfOk result (λ done. IsTrue done → is_noted self.new page ≡ false) }
         // What changed since the page was given is owed from the first of these changes on.
         ensures again { OnOk result (IsTrue kept → IsTrue (is_rewritten self.old page) → IsTrue (is_dirty self.new page)) }
         ensures later { OnOk result (IsTrue kept → IsTrue (is_rewritten self.old page) → number_of self.new page ≡ again_of self.old page) }
@@ -221,6 +231,7 @@ impl BackedStore {
         }
         self.cache.end_write(page, kept)?;
         if kept {
+            self.lost_pages.forget(page);
             given::record(&mut self.dealings, &Dealing::Kept(page));
         }
         Ok(kept)

@@ -10,3 +10,4 @@ pub mod Rows
 pub mod Made
 pub mod CutOff
 pub mod Placed
+pub mod Losing

@@ -1,6 +1,5 @@
 -- What the host's storage has of a disk whose pages come and go.
-use Rattle.std.specs.Prelude.{ℕ, ◌≡◌, ◌⊎◌, ◌<◌, ◌+◌, ◌*◌, ◌/◌, ◌%◌, ◌==◌, ◌++◌, Bool, true, false, List, [], ◌∷◌, Option, Some, nat_lt, if◌then◌else◌}
-use Rattle.std.specs.List.{list_any}
+use Rattle.std.specs.Prelude.{ℕ, ◌≡◌, ◌⊎◌, ◌<◌, ◌+◌, ◌*◌, ◌/◌, ◌%◌, ◌==◌, ◌++◌, ◌||◌, ◌&&◌, not, Bool, true, false, List, [], ◌∷◌, Option, Some, nat_lt, if◌then◌else◌}
 use Rattle.block_store.specs.Blocks.{Blocks, nth_block, zero_block}
 use Rattle.block_store.specs.Pages.{blocks_in}
 
@@ -10,11 +9,12 @@ pub record Storage : Type 0 where
   pub kept : Blocks
 
 -- own: the host takes the bytes of a page to write them; it says that it wrote the page as it was last given it, so that a
--- crash leaves it; it says that it can't read the page; it cuts its storage off at a block
+-- crash leaves it; it says that it can't read the page; it hands in the bytes of the page; it cuts its storage off at a block
 pub data Dealing : Type 0 where
   Give : ℕ → List ℕ → Dealing
   Keep : ℕ → Dealing
   Lose : ℕ → Dealing
+  Load : ℕ → Dealing
   Cut : ℕ → Dealing
 
 -- with the blocks of page p that `from` has
@@ -29,6 +29,7 @@ abbrev pub dealt : Dealing → Storage → Storage
 dealt (Dealing.Give p bytes) s = record s { given = with_page p (λ b. blocks_in bytes (b % 8)) s.given }
 dealt (Dealing.Keep p) s = record s { kept = with_page p s.given s.kept }
 dealt (Dealing.Lose p) s = s
+dealt (Dealing.Load p) s = s
 dealt (Dealing.Cut n) s = record { given = cut n s.given; kept = cut n s.kept }
 
 -- once all of this was done, the first of it first
@@ -57,13 +58,21 @@ IsLeft l left = (b : ℕ) → (left b ≡ (storage_by l).kept b) ⊎ (left b ≡
 abbrev pub and_then : Dealing → Ledger → Ledger
 and_then d l = record l { dealings = l.dealings ++ d ∷ [] }
 
--- own: the host said that it can't read page p
-abbrev pub loses : ℕ → Dealing → Bool
-loses p (Dealing.Lose q) = p == q
-loses p d = false
+-- own: whether page p is lost once this was done: the host can read a page that it hands in, and one that it wrote
+abbrev pub lost_after : ℕ → Bool → Dealing → Bool
+lost_after p was (Dealing.Lose q) = was || p == q
+lost_after p was (Dealing.Load q) = was && not (p == q)
+lost_after p was (Dealing.Keep q) = was && not (p == q)
+lost_after p was d = was
 
+-- own: once all of this was done, the first of it first
+abbrev pub lost_by : ℕ → Bool → List Dealing → Bool
+lost_by p was [] = was
+lost_by p was (d ∷ more) = lost_by p (lost_after p was d) more
+
+-- own: the host's last word of reading page p is that it can't
 abbrev pub is_lost : ℕ → Ledger → Bool
-is_lost p l = list_any (loses p) l.dealings
+is_lost p l = lost_by p false l.dealings
 
 -- own: there is a storage, and the host said so of it
 abbrev pub IsLostIn : Option Ledger → ℕ → Type 0

@@ -1,8 +1,9 @@
 //! Laws that follow from the definitions alone.
 
-ghost use Rattle.std.specs.Prelude.{◌≡◌, ℕ, ◌+◌, ◌-◌, ◌*◌, ◌<◌, ◌≤◌, ◌++◌, List, [], IsTrue, length, replicate};
+ghost use Rattle.std.specs.Prelude.{◌≡◌, ℕ, true, false, ◌+◌, ◌-◌, ◌*◌, ◌<◌, ◌≤◌, ◌++◌, List, [], IsTrue, length, replicate};
 ghost use Rattle.block_store.specs.Pages.{covered};
 ghost use Rattle.block_store.specs.Blocks.{Blocks, block_count, nth_block, is_within, overwritten, filled, zeroed, run};
+ghost use Rattle.block_store.specs.Storage.{Ledger, Dealing, and_then, is_lost};
 
 /// A read gives back the bytes that were written.
 pub fn written_is_read_back()
@@ -66,4 +67,11 @@ pub fn installed_is_written()
     ensures { (blocks copied prepared : Blocks) (first count : ℕ) (bytes : List ℕ) → length bytes ≡ 512 * count →
         ((b : ℕ) → prepared b ≡ overwritten copied first bytes b) →
         (b : ℕ) → covered blocks prepared first count b ≡ overwritten blocks first bytes b }
+{}
+
+/// A page is lost once the host said that it can't read it, until the host hands it in, or says that it wrote it.
+pub fn the_latest_word_of_a_page_counts()
+    ensures lost { (p : ℕ) (l : Ledger) → is_lost p (and_then (Dealing.Lose p) l) ≡ true }
+    ensures loaded { (p : ℕ) (l : Ledger) → is_lost p (and_then (Dealing.Load p) l) ≡ false }
+    ensures kept { (p : ℕ) (l : Ledger) → is_lost p (and_then (Dealing.Keep p) l) ≡ false }
 {}

@@ -28,8 +28,8 @@ pub use edges::{Edges, Prepared};
 pub use flat::FlatStore;
 pub use laws::{
     filled_has_the_block, installed_is_written, later_write_wins, nothing_written_changes_nothing,
-    others_stay, read_gives_512_bytes_a_block, read_in_two_parts, written_is_read_back,
-    zeroed_reads_as_zeros,
+    others_stay, read_gives_512_bytes_a_block, read_in_two_parts, the_latest_word_of_a_page_counts,
+    written_is_read_back, zeroed_reads_as_zeros,
 };
 pub use paged::PagedStore;
 pub use readiness::Readiness;

@@ -1,13 +1,12 @@
 -- Transitions but for a few leave what the host's storage has of a unit's disk.
-use Rattle.std.proofs.Common.{◌≡◌, ℕ, Bool, true, false, ◌||◌, ◌&&◌, eqb, List, [], ◌∷◌, ◌++◌, Option, Some, None, refl, sym, ◌∙◌, ap}
+use Rattle.std.proofs.Common.{◌≡◌, ℕ, Bool, true, false, ◌&&◌, eqb, List, [], ◌∷◌, ◌++◌, Option, Some, None, is_some, refl, sym, ◌∙◌, ap}
 use Rattle.std.specs.Prelude.{slice_get, option_map, unwrap_or, min}
-use Rattle.std.specs.List.{list_any}
-use Rattle.std.proofs.lemmas.List.Folds.{list_any-append}
 use Rattle.block_store.specs.Storage as storage
-use Rattle.block_store.specs.Storage.{Storage, Dealing, Ledger, dealt, all_dealt, opening, storage_by, and_then}
+use Rattle.block_store.specs.Storage.{Storage, Dealing, Ledger, dealt, all_dealt, opening, storage_by, and_then, lost_after, lost_by}
+use Rattle.block_store.proofs.Losing.{lost-last, lose-last, load-last, keep-last, lose-else, load-else, keep-else}
 use Rattle.unit_model.specs.Steps.{Step}
 use Rattle.unit_model.specs.Contents.{capacity_of}
-use Rattle.unit_model.specs.Unit.{PlainUnit, after as stepped, parking, dealing}
+use Rattle.unit_model.specs.Unit.{PlainUnit, is_backed, after as stepped, parking, dealing}
 use Rattle.task_mgmt.specs.Functions.{step_by}
 use Rattle.task_mgmt.specs.declared.kind.MarkBy.TheVariants.{Abort, Reset}
 use Rattle.device_model.specs.World.{PlainWorld, change}
@@ -15,7 +14,7 @@ use Rattle.device_model.specs.Transitions.{Transition}
 use Rattle.device_model.specs.Event.Hard.{hard_code}
 use Rattle.device_model.specs.After.{after}
 use Rattle.device_model.specs.Found.{UnitIs}
-use Rattle.device_model.specs.Storing.{given_of, kept_of, lost_of, gives, keeps, loses}
+use Rattle.device_model.specs.Storing.{given_of, kept_of, lost_of, gives, keeps, tells}
 use Rattle.device_model.proofs.Lists.{same, stays, get_other, get_change}
 
 -- what a change leaves of a unit
@@ -60,6 +59,18 @@ given_lost : (page : ℕ) (o : Option Ledger)
 given_lost page None = refl
 given_lost page (Some l) = ap (λ (s : Storage). Some s.given) (last_dealt l.dealings (Dealing.Lose page) (opening l.content))
 
+kept_loaded : (page : ℕ) (o : Option Ledger)
+    → option_map (λ (l : Ledger). (storage_by l).kept) (option_map (and_then (Dealing.Load page)) o)
+    ≡ option_map (λ (l : Ledger). (storage_by l).kept) o
+kept_loaded page None = refl
+kept_loaded page (Some l) = ap (λ (s : Storage). Some s.kept) (last_dealt l.dealings (Dealing.Load page) (opening l.content))
+
+given_loaded : (page : ℕ) (o : Option Ledger)
+    → option_map (λ (l : Ledger). (storage_by l).given) (option_map (and_then (Dealing.Load page)) o)
+    ≡ option_map (λ (l : Ledger). (storage_by l).given) o
+given_loaded page None = refl
+given_loaded page (Some l) = ap (λ (s : Storage). Some s.given) (last_dealt l.dealings (Dealing.Load page) (opening l.content))
+
 pub given_stays : (d : Transition) (w : PlainWorld) (place : ℕ) (u v : PlainUnit) → UnitIs w place u → UnitIs (after d w) place v
     → gives place d ≡ false → given_of v ≡ given_of u
 given_stays (Transition.Run x) w place u v at now off =
@@ -86,6 +97,8 @@ given_stays (Transition.Deal k (Dealing.Keep page)) w place u v at now off =
     unchanged given_of (dealing (Dealing.Keep page)) k w.units (λ z. given_kept page z.storage) place u v at now
 given_stays (Transition.Deal k (Dealing.Lose page)) w place u v at now off =
     unchanged given_of (dealing (Dealing.Lose page)) k w.units (λ z. given_lost page z.storage) place u v at now
+given_stays (Transition.Deal k (Dealing.Load page)) w place u v at now off =
+    unchanged given_of (dealing (Dealing.Load page)) k w.units (λ z. given_loaded page z.storage) place u v at now
 given_stays (Transition.Deal k (Dealing.Give page bytes)) w place u v at now off =
     ap (λ z. given_of z) (elsewhere (dealing (Dealing.Give page bytes)) k w.units place u v off at now)
 given_stays (Transition.Deal k (Dealing.Cut blocks)) w place u v at now off =
@@ -118,38 +131,37 @@ kept_stays (Transition.Deal k (Dealing.Give page bytes)) w place u v at now off 
     unchanged kept_of (dealing (Dealing.Give page bytes)) k w.units (λ z. kept_given page bytes z.storage) place u v at now
 kept_stays (Transition.Deal k (Dealing.Lose page)) w place u v at now off =
     unchanged kept_of (dealing (Dealing.Lose page)) k w.units (λ z. kept_lost page z.storage) place u v at now
+kept_stays (Transition.Deal k (Dealing.Load page)) w place u v at now off =
+    unchanged kept_of (dealing (Dealing.Load page)) k w.units (λ z. kept_loaded page z.storage) place u v at now
 kept_stays (Transition.Deal k (Dealing.Keep page)) w place u v at now off =
     ap (λ z. kept_of z) (elsewhere (dealing (Dealing.Keep page)) k w.units place u v off at now)
 kept_stays (Transition.Deal k (Dealing.Cut blocks)) w place u v at now off =
     ap (λ z. kept_of z) (elsewhere (dealing (Dealing.Cut blocks)) k w.units place u v off at now)
 kept_stays d w place u v at now off = ap (λ z. kept_of z) (same (sym now ∙ at))
 
-false_or : (b : Bool) → (b || false) ≡ b
-false_or true = refl
-false_or false = refl
+-- whether a page is lost, by a storage
+abbrev lost_by_storage : ℕ → Option Ledger → Bool
+lost_by_storage p o = unwrap_or (option_map (λ (l : Ledger). storage.is_lost p l) o) false
 
--- a deal that doesn't lose a page leaves whether it is lost
-lost_on : (p : ℕ) (x : Dealing) (o : Option Ledger) → storage.loses p x ≡ false
-    → unwrap_or (option_map (λ (l : Ledger). storage.is_lost p l) (option_map (and_then x) o)) false
-    ≡ unwrap_or (option_map (λ (l : Ledger). storage.is_lost p l) o) false
+-- a deal that says nothing of a page leaves whether it is lost
+lost_on : (p : ℕ) (x : Dealing) (o : Option Ledger) → ((was : Bool) → lost_after p was x ≡ was)
+    → lost_by_storage p (option_map (and_then x) o) ≡ lost_by_storage p o
 lost_on p x None off = refl
-lost_on p x (Some l) off =
-    list_any-append (storage.loses p) l.dealings (x ∷ [])
-    ∙ ap (λ b. list_any (storage.loses p) l.dealings || (b || false)) off
-    ∙ false_or (list_any (storage.loses p) l.dealings)
+lost_on p x (Some l) off = lost-last p false l.dealings x ∙ off (lost_by p false l.dealings)
 
--- another unit's page is lost, or another page
-loses_else : (k page : ℕ) (w : PlainWorld) (place p : ℕ) (u v : PlainUnit) → UnitIs w place u
-    → UnitIs (after (Transition.Deal k (Dealing.Lose page)) w) place v → (here : Bool) → eqb k place ≡ here → (same_page : Bool)
+-- it is said of another unit's page, or of another page
+told_else : (k page : ℕ) (x : Dealing) (w : PlainWorld) (place p : ℕ) (u v : PlainUnit)
+    → (eqb p page ≡ false → (was : Bool) → lost_after p was x ≡ was) → UnitIs w place u
+    → UnitIs (after (Transition.Deal k x) w) place v → (here : Bool) → eqb k place ≡ here → (same_page : Bool)
     → eqb p page ≡ same_page → (here && same_page) ≡ false → lost_of p v ≡ lost_of p u
-loses_else k page w place p u v at now false off same_page is unlost =
-    ap (λ z. lost_of p z) (elsewhere (dealing (Dealing.Lose page)) k w.units place u v off at now)
-loses_else k page w place p u v at now true on false off unlost =
-    unchanged (lost_of p) (dealing (Dealing.Lose page)) k w.units (λ z. lost_on p (Dealing.Lose page) z.storage off) place u v at now
-loses_else k page w place p u v at now true on true off unlost = absurd (let f : false ≡ true = sym unlost in cc)
+told_else k page x w place p u v else_same at now false off same_page is untold =
+    ap (λ z. lost_of p z) (elsewhere (dealing x) k w.units place u v off at now)
+told_else k page x w place p u v else_same at now true on false off untold =
+    unchanged (lost_of p) (dealing x) k w.units (λ z. lost_on p x z.storage (else_same off)) place u v at now
+told_else k page x w place p u v else_same at now true on true off untold = absurd (let f : false ≡ true = sym untold in cc)
 
 pub lost_stays : (d : Transition) (w : PlainWorld) (place p : ℕ) (u v : PlainUnit) → UnitIs w place u → UnitIs (after d w) place v
-    → loses place p d ≡ false → lost_of p v ≡ lost_of p u
+    → tells place p d ≡ false → lost_of p v ≡ lost_of p u
 lost_stays (Transition.Run x) w place p u v at now off =
     unchanged (lost_of p) (stepped (Step.Enter x.entry)) x.unit w.units (λ z. refl) place u v at now
 lost_stays (Transition.Park x) w place p u v at now off =
@@ -170,18 +182,54 @@ lost_stays (Transition.Hard q jobs) w place p u v at now off =
     unchanged (lost_of p) (stepped (Step.Reset hard_code)) q.unit w.units (λ z. refl) place u v at now
 lost_stays (Transition.Resize k blocks) w place p u v at now off =
     unchanged (lost_of p) (stepped (Step.Resize blocks)) k w.units
-    (λ z. lost_on p (Dealing.Cut (min (capacity_of z.opening z.steps) blocks)) z.storage refl) place u v at now
-lost_stays (Transition.Deal k (Dealing.Keep page)) w place p u v at now off =
-    unchanged (lost_of p) (dealing (Dealing.Keep page)) k w.units (λ z. lost_on p (Dealing.Keep page) z.storage refl) place u v at now
+    (λ z. lost_on p (Dealing.Cut (min (capacity_of z.opening z.steps) blocks)) z.storage (λ was. refl)) place u v at now
 lost_stays (Transition.Deal k (Dealing.Give page bytes)) w place p u v at now off =
-    unchanged (lost_of p) (dealing (Dealing.Give page bytes)) k w.units (λ z. lost_on p (Dealing.Give page bytes) z.storage refl) place u v at now
+    unchanged (lost_of p) (dealing (Dealing.Give page bytes)) k w.units (λ z. lost_on p (Dealing.Give page bytes) z.storage (λ was. refl)) place u v at now
 lost_stays (Transition.Deal k (Dealing.Cut blocks)) w place p u v at now off =
-    unchanged (lost_of p) (dealing (Dealing.Cut blocks)) k w.units (λ z. lost_on p (Dealing.Cut blocks) z.storage refl) place u v at now
+    unchanged (lost_of p) (dealing (Dealing.Cut blocks)) k w.units (λ z. lost_on p (Dealing.Cut blocks) z.storage (λ was. refl)) place u v at now
 lost_stays (Transition.Deal k (Dealing.Lose page)) w place p u v at now off =
-    loses_else k page w place p u v at now (eqb k place) refl (eqb p page) refl off
+    told_else k page (Dealing.Lose page) w place p u v (lose-else p page) at now (eqb k place) refl (eqb p page) refl off
+lost_stays (Transition.Deal k (Dealing.Load page)) w place p u v at now off =
+    told_else k page (Dealing.Load page) w place p u v (load-else p page) at now (eqb k place) refl (eqb p page) refl off
+lost_stays (Transition.Deal k (Dealing.Keep page)) w place p u v at now off =
+    told_else k page (Dealing.Keep page) w place p u v (keep-else p page) at now (eqb k place) refl (eqb p page) refl off
 lost_stays d w place p u v at now off = ap (λ z. lost_of p z) (same (sym now ∙ at))
 
 -- a deal is one of the unit's storage alone
 pub deals_alone : (w : PlainWorld) (place : ℕ) (x : Dealing) (u : PlainUnit) → UnitIs w place u
     → UnitIs (after (Transition.Deal place x) w) place (dealing x u)
 deals_alone w place x u at = get_change (dealing x) place w.units u at
+
+-- what a unit is behind a deal with its storage
+dealt_so : (w : PlainWorld) (place : ℕ) (x : Dealing) (u v : PlainUnit) → UnitIs w place u
+    → UnitIs (after (Transition.Deal place x) w) place v → v ≡ dealing x u
+dealt_so w place x u v at now = same (sym now ∙ deals_alone w place x u at)
+
+lost_now : (p : ℕ) (o : Option Ledger) → is_some o ≡ true → lost_by_storage p (option_map (and_then (Dealing.Lose p)) o) ≡ true
+lost_now p None never = let no : false ≡ true = never in cc
+lost_now p (Some l) there = lose-last p false l.dealings
+
+loaded_now : (p : ℕ) (o : Option Ledger) → lost_by_storage p (option_map (and_then (Dealing.Load p)) o) ≡ false
+loaded_now p None = refl
+loaded_now p (Some l) = load-last p false l.dealings
+
+kept_now : (p : ℕ) (o : Option Ledger) → lost_by_storage p (option_map (and_then (Dealing.Keep p)) o) ≡ false
+kept_now p None = refl
+kept_now p (Some l) = keep-last p false l.dealings
+
+-- a page is lost once the host said that it can't read it
+pub lost_then : (w : PlainWorld) (place p : ℕ) (u v : PlainUnit) → UnitIs w place u
+    → UnitIs (after (Transition.Deal place (Dealing.Lose p)) w) place v → is_backed u ≡ true → lost_of p v ≡ true
+lost_then w place p u v at now backed =
+    ap (λ (z : PlainUnit). lost_of p z) (dealt_so w place (Dealing.Lose p) u v at now) ∙ lost_now p u.storage backed
+
+-- and isn't once it read it, or wrote it
+pub loaded_then : (w : PlainWorld) (place p : ℕ) (u v : PlainUnit) → UnitIs w place u
+    → UnitIs (after (Transition.Deal place (Dealing.Load p)) w) place v → lost_of p v ≡ false
+loaded_then w place p u v at now =
+    ap (λ (z : PlainUnit). lost_of p z) (dealt_so w place (Dealing.Load p) u v at now) ∙ loaded_now p u.storage
+
+pub kept_then : (w : PlainWorld) (place p : ℕ) (u v : PlainUnit) → UnitIs w place u
+    → UnitIs (after (Transition.Deal place (Dealing.Keep p)) w) place v → lost_of p v ≡ false
+kept_then w place p u v at now =
+    ap (λ (z : PlainUnit). lost_of p z) (dealt_so w place (Dealing.Keep p) u v at now) ∙ kept_now p u.storage

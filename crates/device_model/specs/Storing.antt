@@ -27,11 +27,14 @@ keeps place (Transition.Deal k (Dealing.Cut blocks)) = k == place
 keeps place (Transition.Resize k blocks) = k == place
 keeps place d = false
 
--- the host said that it can't read page p of a unit's disk
+-- the host's last word of reading page p of a unit's disk is that it can't
 abbrev pub lost_of : ℕ → PlainUnit → Bool
 lost_of p u = unwrap_or (option_map (λ (l : Ledger). is_lost p l) u.storage) false
 
--- the transition says so of page p of the unit at a place
-abbrev pub loses : ℕ → ℕ → Transition → Bool
-loses place p (Transition.Deal k (Dealing.Lose page)) = k == place && p == page
-loses place p d = false
+-- the transition says whether the host can read page p of the unit at a place: not one that it lost, but one that it handed
+-- in, or wrote
+abbrev pub tells : ℕ → ℕ → Transition → Bool
+tells place p (Transition.Deal k (Dealing.Lose page)) = k == place && p == page
+tells place p (Transition.Deal k (Dealing.Load page)) = k == place && p == page
+tells place p (Transition.Deal k (Dealing.Keep page)) = k == place && p == page
+tells place p d = false

@@ -338,3 +338,14 @@ wrote_by o steps f (Ok true) page new old kept otherwise err was =
 wrote_by o steps f (Ok false) page new old kept otherwise err was =
     fenced_same o steps f (disks.hosted_of old) (disks.hosted_of new) was (otherwise refl)
 wrote_by o steps f (Err e) page new old kept otherwise err was = fenced_same o steps f (disks.hosted_of old) (disks.hosted_of new) was err
+
+pub loaded_by : (o : Opening) (steps : List Step) (f : Option Fence) (r : Result Bool NoMemory) (page : ℕ) (new old : Disk)
+    → IfOk r (λ done. IsTrue done → disks.hosted_of new ≡ option_map (hosted_after (Dealing.Load page)) (disks.hosted_of old))
+    → IfOk r (λ done. IsFalse done → disks.hosted_of new ≡ disks.hosted_of old) → OnErr r (disks.hosted_of new ≡ disks.hosted_of old)
+    → AreFenced o steps f (disks.hosted_of old) → AreFenced o steps f (disks.hosted_of new)
+loaded_by o steps f (Ok true) page new old loaded otherwise err was =
+    fenced_same o steps f _ (disks.hosted_of new)
+    (said_fenced o steps f (Dealing.Load page) (disks.hosted_of old) (λ s. refl) (λ p. refl) was) (loaded refl)
+loaded_by o steps f (Ok false) page new old loaded otherwise err was =
+    fenced_same o steps f (disks.hosted_of old) (disks.hosted_of new) was (otherwise refl)
+loaded_by o steps f (Err e) page new old loaded otherwise err was = fenced_same o steps f (disks.hosted_of old) (disks.hosted_of new) was err

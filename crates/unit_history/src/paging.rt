@@ -24,13 +24,17 @@ impl UnitState {
     }
 
     /// Takes the bytes of a page that the host was asked for, as its storage has them. Returns true if they now stand in
-    /// memory, so that commands that wait for them may be tried again. A host that is given the page meanwhile says
-    /// [`UnitState::load_failed`] in place of this. `NoMemory` where memory was refused; the page may be handed in again.
+    /// memory, so that commands that wait for them may be tried again. Then the page isn't lost any longer. A host that is
+    /// given the page meanwhile says [`UnitState::load_failed`] in place of this. `NoMemory` where memory was refused; the
+    /// page may be handed in again.
     pub fn load(&mut self, page: u64, bytes: &[u8]) -> Result<bool, NoMemory>
         requires len { length bytes.now ≡ PAGE_BYTES }
         // The premise: the storage gives back what it kept, or had at the opening.
         requires kept { IfSome self.old.storage (λ s. IsPageOf (storage_by s).kept page bytes.now) }
-        ensures same { self.new ≡ self.old }
+        ensures may { IfOk result (λ done. IsTrue done → MayDeal self.old (Dealing.Load page)) }
+        ensures loaded { IfOk result (λ done. IsTrue done → self.new ≡ dealing (Dealing.Load page) self.old) }
+        ensures otherwise { IfOk result (λ done. IsFalse done → self.new ≡ self.old) }
+        ensures err { OnErr result (self.new ≡ self.old) }
     {
         self.store.load(page, bytes)
     }

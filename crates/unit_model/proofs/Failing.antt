@@ -1,7 +1,9 @@
 -- Replies of commands that need what can't be read.
 use Rattle.std.proofs.Common.{◌≡◌, ℕ, List, ◌∷◌, Bool, true, false, Option, Some, None, is_some, refl, ap, sym, ◌∙◌, inl, inr}
+use Rattle.std.specs.Option.{option_map}
 use Rattle.block_store.specs.Blocks.{Blocks}
-use Rattle.block_store.specs.Storage.{Ledger}
+use Rattle.block_store.specs.Storage.{Ledger, Dealing, and_then, is_lost, IsLostIn}
+use Rattle.block_store.proofs.Losing.{load-last, keep-last}
 use Rattle.ring_core.specs.declared.log.Ticket.{Ticket}
 use Rattle.command_model.specs.PlainReply.{PlainReply}
 use Rattle.command_model.specs.Replies.{cache_told}
@@ -9,7 +11,7 @@ use Rattle.unit_model.specs.Tasks.{Entry, task_of}
 use Rattle.unit_model.specs.Steps.{Step, alive}
 use Rattle.unit_model.specs.Contents.{Opening, blocks_of, block_with, facts_after, reply_after, IsUnreadAfter, MayReply}
 use Rattle.unit_model.specs.Lawful.{May}
-use Rattle.unit_model.specs.Unit.{PlainUnit, is_backed, Replies, MayCommit}
+use Rattle.unit_model.specs.Unit.{PlainUnit, is_backed, HasLost, Replies, MayCommit, dealing}
 
 none_with : (o : Option Entry) (blocks : Blocks) (b : ℕ) → block_with o 2 blocks b ≡ blocks b
 none_with None blocks b = refl
@@ -43,3 +45,20 @@ pub replies_in_memory : (u : PlainUnit) (e : Entry) (r : PlainReply) → Replies
 replies_in_memory u e r (inl (is, flushes)) off = is
 replies_in_memory u e r (inr (p, h, (l, at, lost))) off =
     absurd (let f : false ≡ true = sym off ∙ ap (λ (o : Option Ledger). is_some o) at in cc)
+
+-- whether page p is lost, where there is a storage
+abbrev lost_in : ℕ → Option Ledger → Bool
+lost_in p None = false
+lost_in p (Some l) = is_lost p l
+
+-- where the host's latest word is another, it isn't
+ended : (p : ℕ) (d : Dealing) (o : Option Ledger) → ((l : Ledger) → is_lost p (and_then d l) ≡ false)
+    → IsLostIn (option_map (and_then d) o) p → ⊥
+ended p d None ends (l, at, lost) = let f : false ≡ true = ap (lost_in p) at ∙ lost in cc
+ended p d (Some s) ends (l, at, lost) = let f : false ≡ true = sym (ends s) ∙ ap (lost_in p) at ∙ lost in cc
+
+pub loaded_ends : (u : PlainUnit) (p : ℕ) → HasLost (dealing (Dealing.Load p) u) p → ⊥
+loaded_ends u p lost = ended p (Dealing.Load p) u.storage (λ l. load-last p false l.dealings) lost
+
+pub kept_ends : (u : PlainUnit) (p : ℕ) → HasLost (dealing (Dealing.Keep p) u) p → ⊥
+kept_ends u p lost = ended p (Dealing.Keep p) u.storage (λ l. keep-last p false l.dealings) lost

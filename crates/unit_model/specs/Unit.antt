@@ -35,7 +35,7 @@ is_backed u = is_some u.storage
 abbrev pub may_wait : PlainUnit → Command → Bool
 may_wait u command = is_backed u && waits_at (capacity_of u.opening u.steps) command
 
--- own: the host said that it can't read page p of the unit's disk
+-- own: the host's last word of reading page p of the unit's disk is that it can't
 abbrev pub HasLost : PlainUnit → ℕ → Type 0
 HasLost u p = IsLostIn u.storage p
 
@@ -88,12 +88,13 @@ tasks_of_jobs jobs = map (λ (j : PlainJob). j.entry) jobs
 abbrev pub dealing : Dealing → PlainUnit → PlainUnit
 dealing d u = record u { storage = option_map (and_then d) u.storage }
 
--- own: the host is given what the unit's blocks are, and says itself what it kept and what it can't read; a Resize cuts the
--- storage off
+-- own: the host is given what the unit's blocks are, and says itself what it kept, what it can't read and what it read; a
+-- Resize cuts the storage off
 abbrev pub IsAsItIs : PlainUnit → Dealing → Type 0
 IsAsItIs u (Dealing.Give page bytes) = IsPageOf (blocks_of u.opening u.steps) page bytes
 IsAsItIs u (Dealing.Keep page) = ⊤
 IsAsItIs u (Dealing.Lose page) = ⊤
+IsAsItIs u (Dealing.Load page) = ⊤
 IsAsItIs u (Dealing.Cut blocks) = ⊥
 
 -- own: the host may deal so with the storage of the unit's disk: there is one, and it is given what the blocks are

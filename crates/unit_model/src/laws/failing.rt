@@ -14,7 +14,8 @@ ghost use Rattle.unit_model.specs.Tasks.{Entry};
 ghost use Rattle.unit_model.specs.Steps.{Step};
 ghost use Rattle.unit_model.specs.Contents.{Opening, blocks_of, facts_after, reply_after, IsUnreadAfter, MayReply};
 ghost use Rattle.unit_model.specs.Lawful.{May};
-ghost use Rattle.unit_model.specs.Unit.{PlainUnit, is_backed, Replies, MayCommit};
+ghost use Rattle.block_store.specs.Storage.{Dealing};
+ghost use Rattle.unit_model.specs.Unit.{PlainUnit, is_backed, HasLost, Replies, MayCommit, dealing};
 
 /// A command that needs a page which can't be read ends with CHECK CONDITION and UNRECOVERED READ ERROR, and changes no
 /// block. No unit replies so that tells of no volatile write cache.
@@ -30,9 +31,11 @@ pub fn what_cant_be_read_changes_nothing()
 {}
 
 /// A unit replies as the history says but where its host said of a page that it can't read it. So a unit whose disk is in
-/// memory always does.
+/// memory always does. A page isn't lost any longer once the host handed it in, or said that it wrote it.
 pub fn a_unit_fails_as_its_host_said()
     ensures may { (u : PlainUnit) (t : Ticket) (r : PlainReply) → MayCommit u t r → May u.opening (Step.Commit t r) u.steps }
     ensures memory { (u : PlainUnit) (e : Entry) (r : PlainReply) → Replies u e r → is_backed u ≡ false →
         r ≡ reply_after u.opening e u.steps }
+    ensures loaded { (u : PlainUnit) (p : ℕ) → HasLost (dealing (Dealing.Load p) u) p → ⊥ }
+    ensures kept { (u : PlainUnit) (p : ℕ) → HasLost (dealing (Dealing.Keep p) u) p → ⊥ }
 {}

@@ -1,8 +1,8 @@
-use Rattle.std.proofs.Common.{ap, map, ◌∙◌}
-use Rattle.std.specs.List.{list_any}
-use Rattle.block_store.specs.Storage.{loses}
+use Rattle.std.proofs.Common.{false, ap, map, ◌∙◌}
+use Rattle.block_store.specs.Storage.{lost_by}
+use Rattle.block_store.proofs.Losing.{lost-last}
 use Rattle.backed_store.specs.Backing.{plain, after_all}
-use Rattle.backed_store.proofs.Dealt.{after-last, plain-last, lost-on}
+use Rattle.backed_store.proofs.Dealt.{after-last, plain-last}
 use Rattle.backed_store.proofs.given.record.Goals as goal
 
 pub returns-clause-storage : goal.returns-clause-storage
@@ -12,5 +12,6 @@ pub returns-clause-ledger : goal.returns-clause-ledger
 returns-clause-ledger c = ap (λ ds. map plain ds) c.push.ensures ∙ plain-last c.args.dealings.now.items c.args.dealing.now
 
 pub returns-clause-lost : goal.returns-clause-lost
-returns-clause-lost c = λ p is.
-    ap (λ l. list_any (loses p) l) (returns-clause-ledger c) ∙ lost-on p (map plain c.args.dealings.now.items) (plain c.args.dealing.now) is
+returns-clause-lost c = λ p.
+    ap (λ l. lost_by p false l) (returns-clause-ledger c)
+    ∙ lost-last p false (map plain c.args.dealings.now.items) (plain c.args.dealing.now)

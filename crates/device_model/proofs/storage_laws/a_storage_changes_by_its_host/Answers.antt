@@ -1,4 +1,4 @@
-use Rattle.device_model.proofs.Storing.{given_stays, kept_stays, lost_stays, deals_alone}
+use Rattle.device_model.proofs.Storing.{given_stays, kept_stays, lost_stays, lost_then, loaded_then, kept_then, deals_alone}
 use Rattle.device_model.proofs.storage_laws.a_storage_changes_by_its_host.Goals as goal
 
 pub returns-clause-given : goal.returns-clause-given
@@ -12,3 +12,12 @@ returns-clause-deals c = deals_alone
 
 pub returns-clause-lost : goal.returns-clause-lost
 returns-clause-lost c = λ w d place p u v. lost_stays d w place p u v
+
+pub returns-clause-unread : goal.returns-clause-unread
+returns-clause-unread c = lost_then
+
+pub returns-clause-read : goal.returns-clause-read
+returns-clause-read c = loaded_then
+
+pub returns-clause-written : goal.returns-clause-written
+returns-clause-written c = kept_then

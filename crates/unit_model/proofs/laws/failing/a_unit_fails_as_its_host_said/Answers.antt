@@ -1,4 +1,4 @@
-use Rattle.unit_model.proofs.Failing.{commit_steps, replies_in_memory}
+use Rattle.unit_model.proofs.Failing.{commit_steps, replies_in_memory, loaded_ends, kept_ends}
 use Rattle.unit_model.proofs.laws.failing.a_unit_fails_as_its_host_said.Goals as goal
 
 pub returns-clause-may : goal.returns-clause-may
@@ -6,3 +6,9 @@ returns-clause-may c = commit_steps
 
 pub returns-clause-memory : goal.returns-clause-memory
 returns-clause-memory c = replies_in_memory
+
+pub returns-clause-loaded : goal.returns-clause-loaded
+returns-clause-loaded c = loaded_ends
+
+pub returns-clause-kept : goal.returns-clause-kept
+returns-clause-kept c = kept_ends
