@@ -52,4 +52,4 @@ returns-else-kept-clause-flushes c =
     goes-failed c.args.self.now _ c.args.page (returns-else-kept-clause-over c) (λ p apart. search rules)
     (λ b. returns-else-kept-clause-kept c b ∙ rw c.if-kept.false refl)
     (returns-else-kept-clause-given c) (returns-else-kept-clause-others c)
-    (returns-else-kept-clause-failed c c.if-kept.false) (returns-else-kept-clause-earlier c c.if-kept.false)
+    (returns-else-kept-clause-failed c c.if-kept.false) (λ _. returns-else-kept-clause-earlier c c.if-kept.false)
