@@ -35,14 +35,6 @@ WantsPage target lun page found page' found' d answer.NoUnit d' = IsPlaceAmong d
     × (page' ≡ page) × (found' ≡ found) × (d' ≡ d)
 WantsPage target lun page found page' found' d a d' = ⊥
 
--- as `LiveWorld::load`: what the guest sees of the device is as it was; before all else the bytes are measured
-abbrev pub LoadsPage : ℕ → ℕ → List ℕ → LiveServed → Answer → LiveServed → Type 0
-LoadsPage target lun bytes d answer.BadLength d' = (length bytes ≢ 4096) × (d' ≡ d)
-LoadsPage target lun bytes d answer.NoUnit d' = (length bytes ≡ 4096) × IsPlaceAmong d.world.device.units target lun None × (d' ≡ d)
-LoadsPage target lun bytes d answer.Done d' = (length bytes ≡ 4096) × (d' ≡ d)
-LoadsPage target lun bytes d answer.NoMemory d' = (length bytes ≡ 4096) × (d' ≡ d)
-LoadsPage target lun bytes d a d' = ⊥
-
 -- as `LiveWorld::load_failed`
 abbrev pub FailsPage : ℕ → ℕ → LiveServed → Answer → LiveServed → Type 0
 FailsPage target lun d answer.Done d' = d' ≡ d
@@ -56,6 +48,16 @@ pub record Deals (target lun : ℕ) (x : Dealing) (d d' : LiveServed) : Type 0 w
   pub dealt : DealsPromised true d.world.memory.size d.world.device place x d'.world.device
   pub memory : d'.world.memory ≡ d.world.memory
   pub rest : KeepsRest d d'
+
+-- as `LiveWorld::load`: the host handed in the page, or nothing changed; before all else the bytes are measured
+abbrev pub LoadsPage : ℕ → ℕ → ℕ → List ℕ → LiveServed → Answer → LiveServed → Type 0
+LoadsPage target lun page bytes d answer.BadLength d' = (length bytes ≢ 4096) × (d' ≡ d)
+LoadsPage target lun page bytes d answer.NoUnit d' = (length bytes ≡ 4096) × IsPlaceAmong d.world.device.units target lun None
+    × (d' ≡ d)
+LoadsPage target lun page bytes d answer.Done d' = (length bytes ≡ 4096)
+    × (Deals target lun (Dealing.Load page) d d' ⊎ (d' ≡ d))
+LoadsPage target lun page bytes d answer.NoMemory d' = (length bytes ≡ 4096) × (d' ≡ d)
+LoadsPage target lun page bytes d a d' = ⊥
 
 -- as `LiveWorld::lost`: the host can't read the page, or nothing changed
 abbrev pub LosesPage : ℕ → ℕ → ℕ → LiveServed → Answer → LiveServed → Type 0

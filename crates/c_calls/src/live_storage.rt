@@ -39,7 +39,7 @@ impl LiveServed {
     pub(crate) fn load(&mut self, target: u8, lun: u16, page: u64, bytes: &[u8]) -> Answer
         requires kept { (place : ℕ) → IsPlaceAmong self.old.world.device.units target lun (Some place)
             → IsKeptPage self.old.world.device.units place page bytes.now }
-        ensures { LoadsPage target lun bytes.now self.old result self.new }
+        ensures { LoadsPage target lun page bytes.now self.old result self.new }
     {
         if bytes.len() != PAGE_BYTES {
             return Answer::BadLength;

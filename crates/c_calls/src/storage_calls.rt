@@ -42,7 +42,7 @@ pub fn load(
     bytes: &[u8],
 ) -> Answer
     requires owed { OwesPage target lun page bytes.now (live_at device.old) }
-    ensures { ServingLive (LoadsPage target lun bytes.now) (Unit {0}) (live_at device.old) result (live_at device.new) }
+    ensures { ServingLive (LoadsPage target lun page bytes.now) (Unit {0}) (live_at device.old) result (live_at device.new) }
 {
     let Some(mut served) = device.take(alloc) else {
         return Answer::NoDevice;

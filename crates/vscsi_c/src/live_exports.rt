@@ -309,7 +309,7 @@ pub extern "C" fn vscsi_raw_live_load(
     bytes: &[u8],
 ) -> u32
     requires owed { OwesPage target lun page bytes.now (live_at device.old) }
-    ensures { Tells result (λ a. ServingLive (LoadsPage target lun bytes.now) (Unit {0}) (live_at device.old) a
+    ensures { Tells result (λ a. ServingLive (LoadsPage target lun page bytes.now) (Unit {0}) (live_at device.old) a
         (live_at device.new)) }
 {
     storage_calls::load(device, alloc, target, lun, page, bytes).code()

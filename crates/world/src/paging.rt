@@ -32,14 +32,19 @@ impl World {
     }
 
     /// Takes the bytes of a page that the host was asked for, as its storage has them. Returns true if they now stand in
-    /// memory; then a Wake has the commands that wait tried again. A host that is given the page meanwhile says
-    /// [`World::load_failed`] in place of this. `NoMemory` where memory was refused; the page may be handed in again.
+    /// memory; then the page isn't lost any longer, and a Wake has the commands that wait tried again. A host that is given
+    /// the page meanwhile says [`World::load_failed`] in place of this. `NoMemory` where memory was refused; the page may be
+    /// handed in again.
     pub fn load(&mut self, place: u16, page: u64, bytes: &[u8]) -> Result<bool, NoMemory>
         requires len { length bytes.now ≡ PAGE_BYTES }
         // The premise: the storage gives back what it kept, or had at the opening.
         requires kept { IsKeptPage self.old.units place page bytes.now }
-        ensures same { self.new ≡ self.old }
+        ensures loaded { IfOk result (λ done. IsTrue done → DealsAsPromised self.old place (Dealing.Load page) self.new) }
+        ensures otherwise { IfOk result (λ done. IsFalse done → self.new ≡ self.old) }
+        ensures err { OnErr result (self.new ≡ self.old) }
     {
+        every_run_goes_on();
+        the_promise_is_kept();
         self.device.load(place, page, bytes)
     }
 
