@@ -6,7 +6,7 @@ ghost use Rattle.c_calls.specs.Disks.{CreatesBacked, has_backed};
 
 use crate::answer::Answer;
 use crate::disk::Disk;
-use backed_store::{BackedStore, Disk as UnitDisk};
+use backed_store::{BackedDisk, Disk as UnitDisk};
 use foundation::Record;
 use std::alloc::Global;
 use unit_history::is_capacity;
@@ -29,8 +29,8 @@ pub fn create(disk: &mut Disk, alloc: Global, blocks: u64, most_pages: usize) ->
     if most_pages < LEAST_PAGES {
         return Answer::BadLength;
     }
-    let store = BackedStore::new(alloc, blocks, most_pages, Record::any());
-    match Box::new(alloc, UnitDisk::Backed(store)) {
+    let backed = BackedDisk::new(alloc, blocks, most_pages, Record::any());
+    match Box::new(alloc, UnitDisk::Backed(backed)) {
         Ok(store) => {
             disk.put(store);
             Answer::Done

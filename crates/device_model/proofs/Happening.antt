@@ -1,5 +1,5 @@
 -- What applies happens.
-use Rattle.std.proofs.Common.{◌≡◌, ℕ, ◌<◌, ◌≤◌, ◌+◌, ◌-◌, ◌||◌, Bool, true, false, List, [], ◌∷◌, length, mod-lt, Option, Some, None, is_some, refl, sym, ◌∙◌, ap, subst, arith, inl, inr}
+use Rattle.std.proofs.Common.{◌≡◌, ℕ, ◌<◌, ◌≤◌, ◌+◌, ◌-◌, ◌||◌, Bool, true, false, List, [], ◌∷◌, length, mod-lt, Option, Some, None, is_some, IfSome, ◌&&◌, refl, sym, ◌∙◌, ap, subst, arith, inl, inr}
 use Rattle.std.specs.Prelude.{slice_get, ◌⊎◌}
 use Rattle.std.specs.List.{AllByRecursion}
 use Rattle.std.proofs.lemmas.Option.{slice_get_cases, slice_get_within}
@@ -14,7 +14,10 @@ use Rattle.unit_model.specs.Steps.{Step, alive, next_number}
 use Rattle.unit_model.specs.Marks.{mark_of, marked}
 use Rattle.unit_model.specs.Enabling.{enabled}
 use Rattle.unit_model.specs.Lawful.{IsReady}
-use Rattle.unit_model.specs.Contents.{reply_after}
+use Rattle.block_store.specs.Storage.{Ledger}
+use Rattle.command_model.specs.Waiting.{needs}
+use Rattle.unit_model.specs.Contents.{capacity_of, reply_after}
+use Rattle.unit_model.specs.Unit.{may_wait}
 use Rattle.unit_model.specs.Seen.{any_met}
 use Rattle.unit_model.proofs.Few.{alive_few}
 use Rattle.unit_model.specs.Jobs.{PlainJob}
@@ -209,6 +212,10 @@ some_reason (Some why) h = (why, refl)
 or_left : (a b : Bool) → (a || b) ≡ true → b ≡ false → a ≡ true
 or_left true b h e = refl
 or_left false b h e = absurd (let f : false ≡ true = sym e ∙ h in cc)
+
+or_true : (a : Bool) → (a || true) ≡ true
+or_true true = refl
+or_true false = refl
 
 -- a command that doesn't wait promises nothing of a storage
 nothing_promised : (backed : Bool) (needed flush : Bool) (storage : Option Ledger) (P : Ledger → Type 0) → is_some storage ≡ backed

@@ -1,12 +1,24 @@
 -- Transitions but for a few leave what the host's storage has of a unit's disk.
-use Rattle.std.proofs.Common.{◌≡◌, ℕ, Bool, true, false, ◌&&◌, eqb, List, [], ◌∷◌, ◌++◌, Option, Some, None, is_some, refl, sym, ◌∙◌, ap}
+use Rattle.std.proofs.Common.{◌≡◌, ℕ, Bool, true, false, ◌&&◌, eqb, List, [], ◌∷◌, ◌++◌, Option, Some, None, is_some, refl, sym, ◌∙◌, ap, subst}
 use Rattle.std.specs.Prelude.{slice_get, option_map, unwrap_or, min}
 use Rattle.block_store.specs.Storage as storage
 use Rattle.block_store.specs.Storage.{Storage, Dealing, Ledger, dealt, all_dealt, opening, storage_by, and_then, lost_after, lost_by}
 use Rattle.block_store.proofs.Losing.{lost-last, lose-last, load-last, keep-last, lose-else, load-else, keep-else}
 use Rattle.unit_model.specs.Steps.{Step}
 use Rattle.unit_model.specs.Contents.{capacity_of}
-use Rattle.unit_model.specs.Unit.{PlainUnit, is_backed, after as stepped, parking, dealing}
+use Rattle.unit_model.specs.Unit.{PlainUnit, is_backed, after as stepped, parking, dealing, MayCommit}
+use Rattle.block_store.specs.Blocks.{Blocks}
+use Rattle.block_store.specs.Storage.{IsLeft}
+use Rattle.command_model.specs.PlainReply.{PlainReply}
+use Rattle.command_model.specs.Statuses.{good}
+use Rattle.command_model.specs.Waiting.{is_flush}
+use Rattle.unit_model.specs.Tasks.{Entry, task_of}
+use Rattle.unit_model.specs.Steps.{alive}
+use Rattle.unit_model.specs.Seen.{entered_at}
+use Rattle.unit_model.specs.Flushing.{HasBeen, is_flushed}
+use Rattle.unit_model.specs.Jobs.{PlainJob}
+use Rattle.unit_model.proofs.Flushing.{durable}
+use Rattle.device_model.specs.Happens.{Happens}
 use Rattle.task_mgmt.specs.Functions.{step_by}
 use Rattle.task_mgmt.specs.declared.kind.MarkBy.TheVariants.{Abort, Reset}
 use Rattle.device_model.specs.World.{PlainWorld, change}
@@ -233,3 +245,12 @@ pub kept_then : (w : PlainWorld) (place p : ℕ) (u v : PlainUnit) → UnitIs w 
     → UnitIs (after (Transition.Deal place (Dealing.Keep p)) w) place v → lost_of p v ≡ false
 kept_then w place p u v at now =
     ap (λ (z : PlainUnit). lost_of p z) (dealt_so w place (Dealing.Keep p) u v at now) ∙ kept_now p u.storage
+
+-- a flush that may end with GOOD is durable
+pub flush_kept : (w : PlainWorld) (k : ℕ) (x : PlainJob) (r : PlainReply) (u : PlainUnit) (e : Entry) (l : Ledger) (left : Blocks) (b : ℕ)
+    → Happens (Transition.Commit k x r) w → UnitIs w x.unit u → r.status ≡ good → task_of x.entry.ticket (alive u.steps) ≡ Some e
+    → is_flush e.command ≡ true → u.storage ≡ Some l → IsLeft l left → is_flushed e.command b ≡ true
+    → HasBeen u.opening u.steps (entered_at e.ticket u.steps) b (left b)
+flush_kept w k x r u e l left b h at ends there flush has leaves named =
+    let one : h.holds.unit ≡ u = same (sym h.holds.there ∙ at) in
+    durable u x.entry.ticket e r l left b (subst (λ v. MayCommit v x.entry.ticket r) one h.may) ends there flush has leaves named

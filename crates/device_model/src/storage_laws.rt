@@ -1,12 +1,22 @@
 //! Laws of what the host's storage has of units' disks, in every order of the device's steps. They say nothing of code: they
 //! hold of every program whose calls are transitions.
 
-ghost use Rattle.std.specs.Prelude.{ℕ, ◌≡◌, true, false};
-ghost use Rattle.block_store.specs.Storage.{Dealing};
+ghost use Rattle.std.specs.Prelude.{ℕ, ◌≡◌, Some, true, false};
+ghost use Rattle.block_store.specs.Blocks.{Blocks};
+ghost use Rattle.block_store.specs.Storage.{Ledger, Dealing, IsLeft};
+ghost use Rattle.command_model.specs.PlainReply.{PlainReply};
+ghost use Rattle.command_model.specs.Statuses.{good};
+ghost use Rattle.command_model.specs.Waiting.{is_flush};
+ghost use Rattle.unit_model.specs.Tasks.{Entry, task_of};
+ghost use Rattle.unit_model.specs.Steps.{alive};
+ghost use Rattle.unit_model.specs.Seen.{entered_at};
+ghost use Rattle.unit_model.specs.Flushing.{HasBeen, is_flushed};
+ghost use Rattle.unit_model.specs.Jobs.{PlainJob};
 ghost use Rattle.unit_model.specs.Unit.{PlainUnit, is_backed, dealing};
 ghost use Rattle.device_model.specs.World.{PlainWorld};
 ghost use Rattle.device_model.specs.Transitions.{Transition};
 ghost use Rattle.device_model.specs.After.{after};
+ghost use Rattle.device_model.specs.Happens.{Happens};
 ghost use Rattle.device_model.specs.Found.{UnitIs};
 ghost use Rattle.device_model.specs.Storing.{given_of, kept_of, lost_of, gives, keeps, tells};
 
@@ -36,4 +46,14 @@ pub fn a_storage_changes_by_its_host()
         UnitIs (after (Transition.Deal place (Dealing.Keep p)) w) place v → lost_of p v ≡ false }
     ensures deals { (w : PlainWorld) (place : ℕ) (x : Dealing) (u : PlainUnit) → UnitIs w place u →
         UnitIs (after (Transition.Deal place x) w) place (dealing x u) }
+{}
+
+/// A flush ends with GOOD only once the host's storage has what it names: where the command of a SYNCHRONIZE CACHE may run so, a
+/// crash at that moment leaves each block that it names as the block was when the command came, or later. So each WRITE is left
+/// that was answered before it came, unless the block was written over since.
+pub fn a_flush_ends_once_it_is_kept()
+    ensures { (w : PlainWorld) (k : ℕ) (x : PlainJob) (r : PlainReply) (u : PlainUnit) (e : Entry) (l : Ledger) (left : Blocks) (b : ℕ) →
+        Happens (Transition.Commit k x r) w → UnitIs w x.unit u → r.status ≡ good → task_of x.entry.ticket (alive u.steps) ≡ Some e →
+        is_flush e.command ≡ true → u.storage ≡ Some l → IsLeft l left → is_flushed e.command b ≡ true →
+        HasBeen u.opening u.steps (entered_at e.ticket u.steps) b (left b) }
 {}

@@ -1,6 +1,6 @@
 //! A flush that waits until the host's storage has what was changed before it.
 
-ghost use Rattle.std.specs.Prelude.{◌≡◌, ℕ, ◌≤◌, List, length, true, false, None, IsTrue, IsFalse, IfSome};
+ghost use Rattle.std.specs.Prelude.{◌≡◌, ◌≢◌, ℕ, ◌≤◌, List, length, is_some, true, false, None, IsTrue, IsFalse, IfSome};
 ghost use Rattle.backed_store.specs.Disks.{is_backed, size_of, blocks_of, hosted_of, storage_of, owes, IsOver, IsKeptWhole};
 ghost use Rattle.command_model.specs.Waiting.{is_flush as flushes};
 ghost use Rattle.unit_model.specs.Steps.{Step};
@@ -36,6 +36,9 @@ fn take_turn(fence: &mut Option<Fence>, disk: &mut Disk, ticket: Ticket, place: 
         AreFenced o steps fence.old (hosted_of disk.old) → AreFenced o steps fence.new (hosted_of disk.new) }
     ensures since { (o : Opening) (steps : List Step) → place ≤ length steps → ((b : ℕ) → blocks_of disk.old b ≡ unit_blocks o steps b) →
         AreFenced o steps fence.old (hosted_of disk.old) → IsTrue result → AreSince o steps place (hosted_of disk.new) }
+    ensures own { IsTrue result → IfSome fence.new (λ f. f.place ≡ place) × IsTrue (is_some fence.new) }
+    ensures another { IsFalse result → IfSome fence.new (λ f. f.place ≢ place) }
+    ensures waits { IsTrue (is_some fence.old) → (fence.new ≡ fence.old) × (disk.new ≡ disk.old) }
     ensures blocks { blocks_of disk.new ≡ blocks_of disk.old }
     ensures size { size_of disk.new ≡ size_of disk.old }
     ensures storage { storage_of disk.new ≡ storage_of disk.old }
@@ -69,6 +72,10 @@ pub(crate) fn has_to_wait(
         AreFenced o steps fence.old (hosted_of disk.old) → IsFalse result → IsTrue (flushes command.now) →
         AreSince o steps place (hosted_of disk.new) }
     ensures over { IsFalse result → IsTrue (flushes command.now) → IsOver disk.new }
+    // The own flush waits for what is owed, and is kept; that of another stays as it is.
+    ensures owed { IsTrue result → IfSome fence.new (λ f. f.place ≡ place → (p : ℕ) × IsTrue (owes disk.new p)) }
+    ensures kept { IsTrue result → IsTrue (is_some fence.new) }
+    ensures waits { IsTrue result → IsTrue (is_some fence.old) → (fence.new ≡ fence.old) × (disk.new ≡ disk.old) }
     ensures blocks { blocks_of disk.new ≡ blocks_of disk.old }
     ensures size { size_of disk.new ≡ size_of disk.old }
     ensures storage { storage_of disk.new ≡ storage_of disk.old }
