@@ -5,7 +5,8 @@ use Rattle.std.proofs.lemmas.List.{drop-append-le, length-append}
 use Rattle.std.proofs.Math.Seq.{drop-length}
 use Rattle.block_store.specs.Blocks.{Blocks, zero_block}
 use Rattle.block_store.specs.Storage.{Storage, Ledger, Dealing, with_page, cut, and_then, storage_by}
-use Rattle.block_store.specs.Progress.{Progress, Hosted, progress_after, all_progress, hosted_after}
+use Rattle.block_store.specs.Progress.{Progress, progress_after, all_progress}
+use Rattle.block_store.specs.Inner.Hosted.{Hosted, hosted_after}
 use Rattle.backed_store.specs.Marks.{state_of, has_room}
 use Rattle.backed_store.specs.Marks as marks
 use Rattle.backed_store.specs.Caches.{mark_at, state_at}

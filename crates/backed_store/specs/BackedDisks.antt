@@ -1,6 +1,7 @@
 -- A backed store with its latest flush.
 use Rattle.std.specs.Prelude.{ℕ}
-use Rattle.block_store.specs.Progress.{Progress, Hosted}
+use Rattle.block_store.specs.Progress.{Progress}
+use Rattle.block_store.specs.Inner.Hosted.{Hosted}
 use Rattle.backed_store.specs.Stores.{ledger_of}
 use Rattle.backed_store.specs.Fences.{progress_by, hosted_by}
 use Rattle.backed_store.specs.declared.backed_disk.BackedDisk.{BackedDisk}

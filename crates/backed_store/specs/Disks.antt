@@ -2,7 +2,7 @@
 use Rattle.std.specs.Prelude.{◌≡◌, ℕ, ◌/◌, ◌%◌, Bool, true, false, List, [], length, Option, Some, None, is_some, IfSome}
 use Rattle.block_store.specs.Blocks.{Blocks}
 use Rattle.block_store.specs.Storage.{Ledger, storage_by}
-use Rattle.block_store.specs.Progress.{Hosted}
+use Rattle.block_store.specs.Inner.Hosted.{Hosted}
 use Rattle.block_store.specs.Kept as pages
 use Rattle.block_store.specs.Inner.Padding.{length-blocks_in}
 use Rattle.backed_store.specs.Stores as backed

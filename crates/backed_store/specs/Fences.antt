@@ -1,7 +1,8 @@
 -- How far the latest flush of a backed store is.
 use Rattle.std.specs.Prelude.{ℕ, ◌≡◌, ◌≤◌, ◌/◌, ◌&&◌, not, Bool, true, false, nat_le, List, [], ◌∷◌, length, drop, if◌then◌else◌}
 use Rattle.block_store.specs.Storage.{Ledger}
-use Rattle.block_store.specs.Progress.{Progress, Hosted, all_progress}
+use Rattle.block_store.specs.Progress.{Progress, all_progress}
+use Rattle.block_store.specs.Inner.Hosted.{Hosted}
 use Rattle.backed_store.specs.Stores.{ledger_of, storage_of, backing_of, is_dirty, is_writing, is_rewritten, number_of, again_of}
 use Rattle.backed_store.specs.declared.backed.BackedStore.{BackedStore}
 

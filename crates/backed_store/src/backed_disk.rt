@@ -32,7 +32,7 @@ impl BackedDisk {
     ghost use Rattle.backed_store.specs.Fences.{progress_by};
     ghost use Rattle.backed_store.specs.BackedDisks.{hosted_of};
     ghost use Rattle.block_store.specs.Storage.{Dealing, IsPageOf, and_then, cut, storage_by};
-    ghost use Rattle.block_store.specs.Progress.{hosted_after};
+    ghost use Rattle.block_store.specs.Inner.Hosted.{hosted_after};
 
     /// Makes a disk of so many blocks, of which the host's storage has this content. No page is in memory. At most `budget` pages
     /// will be. Takes no memory.

@@ -3,7 +3,7 @@
 ghost use Rattle.std.specs.Prelude.{◌≡◌, ℕ, ◌*◌, ◌/◌, ◌<◌, ◌==◌, not, true, length, filter, slice_get, IsTrue, IsFalse, IfOk, OnErr, IfSome, IfNone};
 ghost use Rattle.std.specs.Option.{option_map};
 ghost use Rattle.block_store.specs.Storage.{IsPageOf, Dealing, storage_by, is_lost};
-ghost use Rattle.block_store.specs.Progress.{hosted_after};
+ghost use Rattle.block_store.specs.Inner.Hosted.{hosted_after};
 ghost use Rattle.backed_store.specs.Disks.{size_of, blocks_of, holds, is_coming, has_room, hosted_of, storage_of, is_backed, noted};
 
 use crate::dealing::GivenPage;

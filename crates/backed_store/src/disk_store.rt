@@ -91,7 +91,7 @@ impl Disk {
     ghost use Rattle.std.specs.Option.{option_map};
     ghost use Rattle.block_store.specs.Storage.{Dealing};
     ghost use Rattle.block_store.specs.Pages.{covered};
-    ghost use Rattle.block_store.specs.Progress.{hosted_after};
+    ghost use Rattle.block_store.specs.Inner.Hosted.{hosted_after};
     ghost use Rattle.backed_store.specs.Disks.{size_of, blocks_of, holds, is_coming, has_room, hosted_of, storage_of, is_backed, owes, IsBegun, IsOver, IsKeptWhole};
 
     /// Returns true if it isn't backed: all its blocks are in memory, now and later, and can be written over.

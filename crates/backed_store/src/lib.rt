@@ -15,7 +15,8 @@
 //! A flush waits for the changes that were made before it. Once none of these is owed, a crash leaves each block as it was
 //! when the flush began, or later (`a_crash_leaves_what_was_flushed`). No call makes it wait for more, unless a write of the
 //! host failed; each page that the host is given and keeps makes it wait for less (`what_is_owed_is_due`). Where no page is
-//! left to give, each that is owed is being written.
+//! left to give, each that is owed is being written. [`BackedDisk`] keeps how far the latest flush is by what the host was given
+//! and kept since it began.
 #![tactic(auto)]
 
 mod backed;

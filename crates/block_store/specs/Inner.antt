@@ -5,3 +5,4 @@ pub mod Padding
 pub mod Pages
 pub mod Tables
 pub mod Whole
+pub mod Hosted

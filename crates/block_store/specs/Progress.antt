@@ -1,6 +1,6 @@
 -- How far a flush is.
 use Rattle.std.specs.Prelude.{ℕ, ◌*◌, ◌==◌, ◌||◌, Bool, nat_le, List, [], ◌∷◌, if◌then◌else◌}
-use Rattle.block_store.specs.Storage.{Ledger, Dealing, and_then}
+use Rattle.block_store.specs.Storage.{Dealing}
 
 -- own: of each page, whether what the storage keeps of it, and what the host was last given of it, is as the page was at a time
 -- since a flush began
@@ -19,12 +19,3 @@ progress_after d x = x
 abbrev pub all_progress : List Dealing → Progress → Progress
 all_progress [] x = x
 all_progress (d ∷ more) x = all_progress more (progress_after d x)
-
--- own: what was done of a storage, and how far the latest flush is by that
-pub record Hosted : Type 0 where
-  pub ledger : Ledger
-  pub progress : Progress
-
--- own: with one more
-abbrev pub hosted_after : Dealing → Hosted → Hosted
-hosted_after d x = record { ledger = and_then d x.ledger; progress = progress_after d x.progress }

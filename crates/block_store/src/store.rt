@@ -2,7 +2,7 @@
 
 ghost use Rattle.std.specs.Prelude.{◌≡◌, ◌≢◌, ℕ, ◌+◌, ◌*◌, ◌%◌, ◌<◌, ◌≤◌, ◌++◌, Bool, IsTrue, List, length, vec_len, vec_capacity, OnOk, OnErr, Option, is_some, false};
 ghost use Rattle.block_store.specs.Blocks.{block_count, overwritten, filled, zeroed, run, is_within, zero_block};
-ghost use Rattle.block_store.specs.Progress.{Hosted};
+ghost use Rattle.block_store.specs.Inner.Hosted.{Hosted};
 ghost use Rattle.block_store.specs.Inner.Pages.{is_beside};
 ghost use Rattle.block_store.specs.declared.readiness.Readiness.TheVariants.{Ready, Full};
 

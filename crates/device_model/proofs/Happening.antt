@@ -229,13 +229,22 @@ run_or_wait : (w : PlainWorld) (k : ℕ) (x : PlainJob) (holds : HandAtUnit w k 
     → IsReady x.entry.ticket x.entry holds.unit.steps → (b : Bool) → may_wait holds.unit x.entry.command ≡ b → Does w (Event.Commit k)
 run_or_wait w k x holds ready true waits =
     (Transition.Defer k x, refl, record { holds = holds; entry = x.entry; ready = ready; waits = waits })
-run_or_wait w k x holds ready false calm =
-    (Transition.Commit k x (reply_after holds.unit.opening x.entry holds.unit.steps), refl,
-    record {
-      holds = holds;
-      may = (x.entry, ready, inl (refl, λ ends flush.
-      nothing_promised _ (needs (capacity_of holds.unit.opening holds.unit.steps) x.entry.command) _ holds.unit.storage _ refl calm flush));
-    })
+run_or_wait w k x holds ready false calm = (
+  Transition.Commit k x (reply_after holds.unit.opening x.entry holds.unit.steps),
+  refl,
+  record {
+    holds = holds;
+    may = (
+      x.entry,
+      ready,
+      inl (
+        refl,
+        λ ends flush.
+            nothing_promised _ (needs (capacity_of holds.unit.opening holds.unit.steps) x.entry.command) _ holds.unit.storage _ refl calm flush,
+      ),
+    );
+  },
+)
 
 commits : (w : PlainWorld) (k : ℕ) (x : PlainJob) (out : List PlainJob) → IsToCommit w x
     → SeatIs w k (Hand.Taken x) out → Does w (Event.Commit k)

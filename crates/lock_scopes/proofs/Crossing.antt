@@ -51,6 +51,7 @@ use Rattle.block_store.proofs.paged.PagedStore.TheSendSync as store
 use Rattle.backed_store.proofs.cache.Cache.TheSendSync as cache
 use Rattle.backed_store.proofs.lost.LostPages.TheSendSync as lost_pages
 use Rattle.backed_store.specs.contracts.backed.BackedStore.{the_field as backed_field, the_type as backed_type}
+use Rattle.backed_store.specs.contracts.backed_disk.BackedDisk.{the_field as backed_disk_field, the_type as backed_disk_type}
 use Rattle.backed_store.specs.contracts.disk.Disk.{the_field as disk_field, the_type as disk_type}
 use Rattle.unit_history.proofs.changes.Changes.TheSendSync as changes
 use Rattle.block_commands.specs.contracts.facts.UnitFacts.{the_field as facts_field, the_type as facts_type}
@@ -148,8 +149,11 @@ backed_sends : IsSend backed_field.row
 backed_sends = struct_send (shape backed_type)
     (search sendable, (search sendable, (cache.the_field_send, (search sendable, (lost_pages.the_field_send, (search crosses depth 30, (search crosses depth 30, tt)))))))
 
+backed_disk_sends : IsSend backed_disk_field.row
+backed_disk_sends = struct_send (shape backed_disk_type) (backed_sends, (search sendable, (search crosses depth 30, tt)))
+
 disk_sends : IsSend disk_field.row
-disk_sends = enum_send (enum_shape disk_type) ((store.the_field_send, tt), ((backed_sends, tt), tt))
+disk_sends = enum_send (enum_shape disk_type) ((store.the_field_send, tt), ((backed_disk_sends, tt), tt))
 
 unit_fields : IsSend unit.the_row
 unit_fields = declared_send unit.the_type

@@ -4,7 +4,8 @@ use Rattle.std.proofs.lemmas.Bool.Decides.{nat_tests}
 use Rattle.std.specs.Option.{option_map}
 use Rattle.block_store.specs.Blocks.{Blocks, zero_block}
 use Rattle.block_store.specs.Storage.{Storage, Ledger, Dealing, and_then, dealt, all_dealt, opening, storage_by, cut, IsLeft}
-use Rattle.block_store.specs.Progress.{Progress, Hosted, progress_after, hosted_after}
+use Rattle.block_store.specs.Progress.{Progress, progress_after}
+use Rattle.block_store.specs.Inner.Hosted.{Hosted, hosted_after}
 use Rattle.backed_store.specs.Disks as disks
 use Rattle.backed_store.specs.Disks.{IsBegun, IsOver, IsKeptWhole}
 use Rattle.backed_store.specs.declared.disk.Disk.{Disk}
@@ -173,10 +174,13 @@ pub said_fenced : (o : Opening) (steps : List Step) (f : Option Fence) (d : Deal
     → AreFenced o steps f x → AreFenced o steps f (option_map (hosted_after d) x)
 said_fenced o steps None d x same still was = tt
 said_fenced o steps (Some f) d None same still was = was
-said_fenced o steps (Some f) d (Some h) same still was =
-    (was.0, λ b.
-    (λ is. been_as ((was.1 b).0 (ap (λ (p : Progress). p.kept (b / 8)) (sym (still h.progress)) ∙ is)) (ap (λ (s : Storage). s.kept b) (storage_then d h.ledger ∙ same (storage_by h.ledger))),
-    λ is. been_as ((was.1 b).1 (ap (λ (p : Progress). p.given (b / 8)) (sym (still h.progress)) ∙ is)) (ap (λ (s : Storage). s.given b) (storage_then d h.ledger ∙ same (storage_by h.ledger)))))
+said_fenced o steps (Some f) d (Some h) same still was = (
+  was.0,
+  λ b. (
+    λ is. been_as ((was.1 b).0 (ap (λ (p : Progress). p.kept (b / 8)) (sym (still h.progress)) ∙ is)) (ap (λ (s : Storage). s.kept b) (storage_then d h.ledger ∙ same (storage_by h.ledger))),
+    λ is. been_as ((was.1 b).1 (ap (λ (p : Progress). p.given (b / 8)) (sym (still h.progress)) ∙ is)) (ap (λ (s : Storage). s.given b) (storage_then d h.ledger ∙ same (storage_by h.ledger))),
+  ),
+)
 
 -- it takes a page
 pub gave_fenced : (o : Opening) (steps : List Step) (f : Option Fence) (page : ℕ) (bytes : List ℕ) (x : Option Hosted)
@@ -184,9 +188,11 @@ pub gave_fenced : (o : Opening) (steps : List Step) (f : Option Fence) (page : �
     → AreFenced o steps f x → AreFenced o steps f (option_map (hosted_after (Dealing.Give page bytes)) x)
 gave_fenced o steps None page bytes x now was = tt
 gave_fenced o steps (Some f) page bytes None now was = was
-gave_fenced o steps (Some f) page bytes (Some h) now was =
-    (was.0, λ b.
-    (λ is. been_as ((was.1 b).0 is) (ap (λ (s : Storage). s.kept b) (storage_then (Dealing.Give page bytes) h.ledger)), λ is. by_test b (b / 8 == page) refl is))
+gave_fenced o steps (Some f) page bytes (Some h) now was = (
+  was.0,
+  λ b.
+      (λ is. been_as ((was.1 b).0 is) (ap (λ (s : Storage). s.kept b) (storage_then (Dealing.Give page bytes) h.ledger)), λ is. by_test b (b / 8 == page) refl is),
+)
   where
     by_test : (b : ℕ) (t : Bool) → (b / 8 == page) ≡ t → (b / 8 == page || h.progress.given (b / 8)) ≡ true
         → HasBeen o steps f.place b ((storage_by (and_then (Dealing.Give page bytes) h.ledger)).given b)
@@ -199,9 +205,11 @@ pub kept_fenced : (o : Opening) (steps : List Step) (f : Option Fence) (page : �
     → AreFenced o steps f x → AreFenced o steps f (option_map (hosted_after (Dealing.Keep page)) x)
 kept_fenced o steps None page x was = tt
 kept_fenced o steps (Some f) page None was = was
-kept_fenced o steps (Some f) page (Some h) was =
-    (was.0, λ b.
-    (λ is. by_test b (b / 8 == page) refl is, λ is. been_as ((was.1 b).1 is) (ap (λ (s : Storage). s.given b) (storage_then (Dealing.Keep page) h.ledger))))
+kept_fenced o steps (Some f) page (Some h) was = (
+  was.0,
+  λ b.
+      (λ is. by_test b (b / 8 == page) refl is, λ is. been_as ((was.1 b).1 is) (ap (λ (s : Storage). s.given b) (storage_then (Dealing.Keep page) h.ledger))),
+)
   where
     by_test : (b : ℕ) (t : Bool) → (b / 8 == page) ≡ t → (if b / 8 == page then h.progress.given (b / 8) else h.progress.kept (b / 8)) ≡ true
         → HasBeen o steps f.place b ((storage_by (and_then (Dealing.Keep page) h.ledger)).kept b)

@@ -1,7 +1,7 @@
 -- The flush of a unit that waits.
 use Rattle.std.specs.Prelude.{ℕ, ◌≡◌, ◌≤◌, ◌/◌, true, List, length, Option, Some, None, IfSome, if◌then◌else◌, ⊤}
 use Rattle.block_store.specs.Storage.{storage_by}
-use Rattle.block_store.specs.Progress.{Hosted}
+use Rattle.block_store.specs.Inner.Hosted.{Hosted}
 use Rattle.ring_core.specs.declared.log.Ticket.{Ticket}
 use Rattle.unit_model.specs.Tasks.{same_ticket}
 use Rattle.unit_model.specs.Steps.{Step}

@@ -2,7 +2,7 @@ use Rattle.std.proofs.Common.{◌≡◌, ◌≤◌, ◌∷◌, true, refl, sym, 
 use Rattle.std.specs.Option.{option_map}
 use Rattle.block_store.specs.Blocks.{zero_block}
 use Rattle.block_store.specs.Storage.{Dealing, and_then}
-use Rattle.block_store.specs.Progress.{hosted_after}
+use Rattle.block_store.specs.Inner.Hosted.{hosted_after}
 use Rattle.backed_store.specs.Disks as disks
 use Rattle.unit_model.specs.Contents.{is_capacity}
 use Rattle.unit_model.specs.Steps.{Step}
