@@ -81,7 +81,8 @@ impl BackedStore {
         ensures held { (b : ℕ) → b < min self.old.capacity blocks → holds self.new b ≡ holds self.old b }
         // The host's storage can read the zeros.
         ensures noted { (p : ℕ) → notes self.new p ≡ (nat_lt (8 * p) (min self.old.capacity blocks) && notes self.old p) }
-        ensures marks { (p : ℕ) → mark_at self.new.cache p ≡ (if nat_lt (8 * p) (min self.old.capacity blocks) then mark_at self.old.cache p else None) }
+        ensures marks { (p : ℕ) → mark_at self.new.cache p
+            ≡ (if nat_lt (8 * p) (min self.old.capacity blocks) then mark_at self.old.cache p else None) }
         ensures given { (b : ℕ) → (storage_of self.new).given b ≡ cut (min self.old.capacity blocks) (storage_of self.old).given b }
         ensures owing { OwesNoMore self.old self.new }
         ensures flushes { KeepsFlushes self.old self.new }

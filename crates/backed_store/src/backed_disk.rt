@@ -29,8 +29,7 @@ impl BackedDisk {
     ghost use Rattle.backed_store.specs.Stores.{contents, holds, backing_of, storage_of, ledger_of};
     ghost use Rattle.block_store.specs.Pages.{blocks_in};
     ghost use Rattle.backed_store.specs.Flushes.{owes};
-    ghost use Rattle.backed_store.specs.Fences.{progress_by};
-    ghost use Rattle.backed_store.specs.BackedDisks.{hosted_of};
+    ghost use Rattle.backed_store.specs.BackedDisks.{progress_of, hosted_of};
     ghost use Rattle.block_store.specs.Storage.{Dealing, IsPageOf, and_then, cut, storage_by};
     ghost use Rattle.block_store.specs.Inner.Hosted.{hosted_after};
 
@@ -57,9 +56,9 @@ impl BackedDisk {
     /// Begins a flush of what was changed by now. The one before is forgotten.
     pub(crate) fn begin_flush(&mut self)
         ensures store { self.new.store ≡ self.old.store }
-        ensures kept { (b : ℕ) → (progress_by self.new.fence self.new.began.items (ledger_of self.new.store)).kept (b / 8) ≡ true →
+        ensures kept { (b : ℕ) → (progress_of self.new).kept (b / 8) ≡ true →
             backing_of self.new.store b ≡ contents self.new.store b }
-        ensures given { (b : ℕ) → (progress_by self.new.fence self.new.began.items (ledger_of self.new.store)).given (b / 8) ≡ true →
+        ensures given { (b : ℕ) → (progress_of self.new).given (b / 8) ≡ true →
             (storage_of self.new.store).given b ≡ contents self.new.store b }
     {
         self.fence = self.store.latest_change();
@@ -69,8 +68,8 @@ impl BackedDisk {
     /// Returns true if the latest flush is over: the host's storage has what was changed before it began. It looks at the oldest
     /// change alone.
     pub(crate) fn is_flush_over(&self) -> bool
-        ensures kept { IsTrue result → (p : ℕ) → (progress_by self.now.fence self.now.began.items (ledger_of self.now.store)).kept p ≡ true }
-        ensures given { IsTrue result → (p : ℕ) → (progress_by self.now.fence self.now.began.items (ledger_of self.now.store)).given p ≡ true }
+        ensures kept { IsTrue result → (p : ℕ) → (progress_of self.now).kept p ≡ true }
+        ensures given { IsTrue result → (p : ℕ) → (progress_of self.now).given p ≡ true }
         ensures no { IsFalse result → (p : ℕ) × IsTrue (owes self.now.store self.now.fence p) }
     {
         self.store.is_flushed(self.fence)

@@ -205,7 +205,8 @@ impl Disk {
         ensures size { size_of self.new ≡ blocks }
         ensures blocks { (b : ℕ) → blocks_of self.new b
             ≡ (if nat_lt b (min (size_of self.old) blocks) then blocks_of self.old b else zero_block) }
-        ensures storage { hosted_of self.new ≡ option_map (hosted_after (Dealing.Cut (min (size_of self.old) blocks))) (hosted_of self.old) }
+        ensures storage { hosted_of self.new
+            ≡ option_map (hosted_after (Dealing.Cut (min (size_of self.old) blocks))) (hosted_of self.old) }
     {
         match self {
             Disk::Whole(store) => store.resize(blocks),

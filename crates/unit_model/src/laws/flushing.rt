@@ -23,7 +23,8 @@ ghost use Rattle.unit_model.specs.Unit.{PlainUnit, MayCommit};
 pub fn a_flush_leaves_what_was_written()
     ensures durable { (u : PlainUnit) (t : Ticket) (e : Entry) (r : PlainReply) (l : Ledger) (left : Blocks) (b : ℕ) →
         MayCommit u t r → r.status ≡ good → task_of t (alive u.steps) ≡ Some e → is_flush e.command ≡ true →
-        u.storage ≡ Some l → IsLeft l left → is_flushed e.command b ≡ true → HasBeen u.opening u.steps (entered_at e.ticket u.steps) b (left b) }
+        u.storage ≡ Some l → IsLeft l left → is_flushed e.command b ≡ true →
+        HasBeen u.opening u.steps (entered_at e.ticket u.steps) b (left b) }
     ensures written { (o : Opening) (steps : List Step) (since b : ℕ) (left bytes : List ℕ) → HasBeen o steps since b left →
         ((p : ℕ) → since ≤ p → p ≤ length steps → blocks_of o (as_of p steps) b ≡ bytes) → left ≡ bytes }
 {}
