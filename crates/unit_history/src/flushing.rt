@@ -36,7 +36,8 @@ fn take_turn(fence: &mut Option<Fence>, disk: &mut Disk, ticket: Ticket, place: 
         AreFenced o steps fence.old (hosted_of disk.old) → AreFenced o steps fence.new (hosted_of disk.new) }
     ensures since { (o : Opening) (steps : List Step) → place ≤ length steps → ((b : ℕ) → blocks_of disk.old b ≡ unit_blocks o steps b) →
         AreFenced o steps fence.old (hosted_of disk.old) → IsTrue result → AreSince o steps place (hosted_of disk.new) }
-    ensures own { IsTrue result → IfSome fence.new (λ f. f.place ≡ place) × IsTrue (is_some fence.new) }
+    ensures stands { IsTrue (is_some fence.new) }
+    ensures own { IsTrue result → IfSome fence.new (λ f. f.place ≡ place) }
     ensures another { IsFalse result → IfSome fence.new (λ f. f.place ≢ place) }
     ensures waits { IsTrue (is_some fence.old) → (fence.new ≡ fence.old) × (disk.new ≡ disk.old) }
     ensures blocks { blocks_of disk.new ≡ blocks_of disk.old }
