@@ -5,7 +5,8 @@ use Rattle.unit_model.specs.Contents.{is_capacity}
 use Rattle.config.specs.declared.config.Config.{Config}
 use Rattle.c_calls.specs.Wanted.{Asks}
 use Rattle.block_store.specs.Blocks.{Blocks}
-use Rattle.backed_store.specs.Disks.{size_of, blocks_of, storage_of}
+use Rattle.backed_store.specs.Disks.{size_of, blocks_of, hosted_of}
+use Rattle.unit_history.proofs.Durable.{hosted_ledger}
 use Rattle.backed_store.specs.declared.disk.Disk.{Disk as UnitDisk}
 use Rattle.c_calls.specs.Disks.{OnDisk, CreatesDisk, IsBlank, CreatesBacked, IsBackedOver, IsUnchanged}
 use Rattle.c_calls.specs.Calls.{Serving, Creates, Makes, Refuses}
@@ -32,9 +33,10 @@ pub without_disk : (R : UnitDisk → Answer → UnitDisk → Type 0) (Same : Typ
     → OnDisk R Same old answer.NoDisk after
 without_disk R Same old after e f s = subst (λ (o : Option UnitDisk). OnDisk R Same o answer.NoDisk after) (sym e) (refl, f, s)
 
-pub unchanged : (s s' : UnitDisk) → blocks_of s' ≡ blocks_of s → size_of s' ≡ size_of s → storage_of s' ≡ storage_of s
+pub unchanged : (s s' : UnitDisk) → blocks_of s' ≡ blocks_of s → size_of s' ≡ size_of s → hosted_of s' ≡ hosted_of s
     → IsUnchanged s s'
-unchanged s s' same size storage = record { size = size; blocks = λ b. ap (λ (f : Blocks). f b) same; storage = storage }
+unchanged s s' same size storage =
+    record { size = size; blocks = λ b. ap (λ (f : Blocks). f b) same; storage = hosted_ledger s' s storage }
 
 pub created : (blocks : ℕ) (old after : Option UnitDisk) (s : UnitDisk) → is_some old ≡ false → is_capacity blocks ≡ true → IsBlank blocks s
     → after ≡ Some s → CreatesDisk blocks old answer.Done after

@@ -3,7 +3,7 @@
 ghost use Rattle.std.specs.Prelude.{ℕ, ◌≡◌, ◌≤◌, ◌<◌, ◌+◌, true, false, IsTrue};
 ghost use Rattle.block_store.specs.Blocks.{is_within};
 ghost use Rattle.block_store.specs.Inner.Pages.{is_beside};
-ghost use Rattle.backed_store.specs.Disks.{size_of, blocks_of, storage_of, holds, has_room};
+ghost use Rattle.backed_store.specs.Disks.{size_of, blocks_of, hosted_of, holds, has_room};
 ghost use Rattle.c_calls.specs.Kept.{disk_at};
 ghost use Rattle.c_calls.specs.Disks.{CreatesDisk, DestroysDisk, OnDisk, HasBlocks, IsUnchanged, LoadsBlocks, SavesBlocks, Saves};
 
@@ -74,7 +74,7 @@ fn may_read(store: &mut UnitDisk, first: u64, count: u32) -> bool
     ensures held { IsTrue result → (b : ℕ) → IsTrue (is_within first count b) → IsTrue (holds store.new b) }
     ensures blocks { blocks_of store.new ≡ blocks_of store.old }
     ensures size { size_of store.new ≡ size_of store.old }
-    ensures storage { storage_of store.new ≡ storage_of store.old }
+    ensures storage { hosted_of store.new ≡ hosted_of store.old }
 {
     store.ask_to_read(first, count) == Readiness::Ready
 }
@@ -86,7 +86,7 @@ fn may_write(store: &mut UnitDisk, first: u64, count: u32) -> bool
     ensures beside { IsTrue result → (b : ℕ) → IsTrue (is_beside first count b) → IsTrue (holds store.new b) }
     ensures blocks { blocks_of store.new ≡ blocks_of store.old }
     ensures size { size_of store.new ≡ size_of store.old }
-    ensures storage { storage_of store.new ≡ storage_of store.old }
+    ensures storage { hosted_of store.new ≡ hosted_of store.old }
 {
     store.ask_to_write(first, count) == Readiness::Ready
 }

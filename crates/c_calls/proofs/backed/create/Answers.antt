@@ -11,9 +11,9 @@ returns-in-Ok g c =
     (omega (arith, c.if-most_pages-lt-LEAST_PAGES.false))
     (subst (λ s. IsBackedOver g.content c.args.blocks c.args.most_pages s) (sym c.in-Ok.ensures.ok)
     (record {
-      size = c.new-store.ensures.capacity;
-      contents = λ b. c.new-store.ensures.blocks b ∙ ap (λ bytes. blocks_in bytes b) c.any.ensures;
-      absent = c.new-store.ensures.absent;
-      storage = ap (λ l. Some l) (c.new-store.ensures.ledger ∙ ap (λ bytes. record { content = bytes; dealings = [] }) c.any.ensures);
-      budget = ap (λ n. Some n) c.new-store.ensures.budget;
+      size = c.new-backed.ensures.capacity;
+      contents = λ b. c.new-backed.ensures.blocks b ∙ ap (λ bytes. blocks_in bytes b) c.any.ensures;
+      absent = c.new-backed.ensures.absent;
+      storage = ap (λ l. Some l) (c.new-backed.ensures.ledger ∙ ap (λ bytes. record { content = bytes; dealings = [] }) c.any.ensures);
+      budget = ap (λ n. Some n) c.new-backed.ensures.budget;
     })) c.put.ensures

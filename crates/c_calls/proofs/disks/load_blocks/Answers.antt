@@ -1,6 +1,7 @@
 use Rattle.std.proofs.Common.{◌≡◌, ◌∙◌, ◌+◌, ◌*◌, ◌≤◌, length, ap, arith}
 use Rattle.block_store.specs.Blocks.{Blocks, overwritten}
 use Rattle.backed_store.specs.Disks.{size_of}
+use Rattle.unit_history.proofs.Durable.{hosted_ledger}
 use Rattle.c_calls.proofs.Serve.{unchanged}
 use Rattle.c_calls.proofs.disks.load_blocks.Goals as goal
 
@@ -18,7 +19,7 @@ returns-in-Ok c = (
   record {
     size = c.write_blocks.ensures.size ∙ c.may_write.ensures.size;
     blocks = λ b. c.in-Ok.ensures.ok b ∙ ap (λ (f : Blocks). overwritten f c.args.first c.args.bytes.now b) c.may_write.ensures.blocks;
-    storage = c.write_blocks.ensures.storage ∙ c.may_write.ensures.storage;
+    storage = hosted_ledger c.write_blocks.new.self c.args.store.now (c.write_blocks.ensures.storage ∙ c.may_write.ensures.storage);
   },
 )
 
@@ -29,6 +30,6 @@ returns-in-Err c = (
   record {
     size = c.write_blocks.ensures.size ∙ c.may_write.ensures.size;
     blocks = λ b. c.in-Err.ensures.err b ∙ ap (λ (f : Blocks). f b) c.may_write.ensures.blocks;
-    storage = c.write_blocks.ensures.storage ∙ c.may_write.ensures.storage;
+    storage = hosted_ledger c.write_blocks.new.self c.args.store.now (c.write_blocks.ensures.storage ∙ c.may_write.ensures.storage);
   },
 )
