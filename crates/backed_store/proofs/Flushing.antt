@@ -7,13 +7,13 @@ use Rattle.backed_store.specs.Marks as marks
 use Rattle.block_store.specs.Storage.{Storage, cut, with_page}
 use Rattle.backed_store.specs.Caches.{mark_at, state_at, bytes_at}
 use Rattle.backed_store.specs.Stores.{contents, backing_of, storage_of, is_dirty, is_writing, is_rewritten, number_of, again_of, latest_of, IsOwed, IsHost}
-use Rattle.backed_store.specs.Flushes.{owes, IsFlushed, HasBeen, IsFlushing, KeepsFlushes, IsLeft}
+use Rattle.backed_store.specs.Flushes.{owes, IsFlushed, IsOfAMoment, IsFlushing, KeepsFlushes, MayBeLeft}
 use Rattle.backed_store.specs.declared.mark.Mark.{Mark}
 use Rattle.backed_store.specs.declared.backed.BackedStore.{BackedStore}
 use Rattle.backed_store.proofs.Fenced.{contents-kept}
 
-pub has-been : {moments : ℕ → Blocks} {b : ℕ} {x y : List ℕ} → HasBeen moments b x → y ≡ x → HasBeen moments b y
-has-been was same = record { moment = was.moment; is = same ∙ was.is }
+pub of-a-moment : {moments : ℕ → Blocks} {b : ℕ} {x y : List ℕ} → IsOfAMoment moments b x → y ≡ x → IsOfAMoment moments b y
+of-a-moment was same = record { moment = was.moment; is = same ∙ was.is }
 
 -- what the host was given of a page that didn't change since is what it is
 as-given : (state : State) (bytes kept given : List ℕ) (k : ℕ) → marks.is_writing state ≡ true → marks.is_rewritten state ≡ false →
@@ -34,37 +34,37 @@ contents-given s b writes same =
 
 -- what the host's storage has of a page that doesn't owe
 pub kept-on : (moments : ℕ → Blocks) (n : ℕ) (old new : BackedStore) (b : ℕ) → IsFlushing moments n old → IsOwed old new (b / 8) →
-    (IsTrue (is_dirty new (b / 8)) → n < number_of new (b / 8)) → HasBeen moments b (backing_of old b)
+    (IsTrue (is_dirty new (b / 8)) → n < number_of new (b / 8)) → IsOfAMoment moments b (backing_of old b)
 kept-on moments n old new b was owed paid = by_test (is_dirty old (b / 8)) refl
   where
-    by_test : (t : Bool) → is_dirty old (b / 8) ≡ t → HasBeen moments b (backing_of old b)
+    by_test : (t : Bool) → is_dirty old (b / 8) ≡ t → IsOfAMoment moments b (backing_of old b)
     by_test true is =
         let number = owed.number is in
         let later = paid (owed.dirty is) in
         was.kept b (λ _. omega (arith, number, later))
-    by_test false clean = has-been (was.now b) (sym (contents-kept old b clean))
+    by_test false clean = of-a-moment (was.now b) (sym (contents-kept old b clean))
 
 -- what it was given of a page that won't owe
 pub given-on : (moments : ℕ → Blocks) (n : ℕ) (old new : BackedStore) (b : ℕ) → IsFlushing moments n old → IsOwed old new (b / 8) →
     IsTrue (is_writing old (b / 8)) → (IsTrue (is_rewritten new (b / 8)) → n < again_of new (b / 8)) →
-    HasBeen moments b ((storage_of old).given b)
+    IsOfAMoment moments b ((storage_of old).given b)
 given-on moments n old new b was owed writes paid = by_test (is_rewritten old (b / 8)) refl
   where
-    by_test : (t : Bool) → is_rewritten old (b / 8) ≡ t → HasBeen moments b ((storage_of old).given b)
+    by_test : (t : Bool) → is_rewritten old (b / 8) ≡ t → IsOfAMoment moments b ((storage_of old).given b)
     by_test true is =
         let number = owed.again is in
         let later = paid (owed.rewritten is) in
         was.given b writes (λ _. omega (arith, number, later))
-    by_test false same = has-been (was.now b) (contents-given old b writes same)
+    by_test false same = of-a-moment (was.now b) (contents-given old b writes same)
 
 pub stays-on : (old new : BackedStore) → storage_of new ≡ storage_of old → ((p : ℕ) → IsOwed old new p) →
     ((p : ℕ) → is_writing new p ≡ is_writing old p) → KeepsFlushes old new
 stays-on old new storage owed writing = λ moments n m was at.
     record {
       now = λ b. record { moment = m; is = at b };
-      kept = λ b paid. has-been (kept-on moments n old new b was (owed (b / 8)) paid) (ap (λ (z : Storage). z.kept b) storage);
+      kept = λ b paid. of-a-moment (kept-on moments n old new b was (owed (b / 8)) paid) (ap (λ (z : Storage). z.kept b) storage);
       given = λ b writes paid.
-          has-been (given-on moments n old new b was (owed (b / 8)) (sym (writing (b / 8)) ∙ writes) paid)
+          of-a-moment (given-on moments n old new b was (owed (b / 8)) (sym (writing (b / 8)) ∙ writes) paid)
           (ap (λ (z : Storage). z.given b) storage);
     }
 
@@ -91,7 +91,7 @@ begins s moments m at =
     }
   where
     kept_of : (b : ℕ) → (IsTrue (is_dirty s (b / 8)) → latest_of s < number_of s (b / 8)) → (t : Bool) → is_dirty s (b / 8) ≡ t →
-        HasBeen moments b (backing_of s b)
+        IsOfAMoment moments b (backing_of s b)
     kept_of b paid true is =
         let young = paid is in
         let old = s.cache.indexed.numbers (b / 8) in
@@ -99,7 +99,7 @@ begins s moments m at =
     kept_of b paid false clean = record { moment = m; is = sym (contents-kept s b clean) ∙ at b }
 
     given_of : (b : ℕ) → IsTrue (is_writing s (b / 8)) → (IsTrue (is_rewritten s (b / 8)) → latest_of s < again_of s (b / 8)) →
-        (t : Bool) → is_rewritten s (b / 8) ≡ t → HasBeen moments b ((storage_of s).given b)
+        (t : Bool) → is_rewritten s (b / 8) ≡ t → IsOfAMoment moments b ((storage_of s).given b)
     given_of b writes paid true is =
         let young = paid is in
         let old = s.cache.indexed.again (b / 8) in
@@ -110,18 +110,18 @@ begins s moments m at =
 young-number : (s : BackedStore) (n p : ℕ) → owes s n p ≡ false → has_room (mark_at s.cache p) ≡ true → n < number_of s p
 young-number s n p paid room = let not = rw room at paid in grind (arith, nat_tests, not)
 
-pub ends-page : (s : BackedStore) (moments : ℕ → Blocks) (n : ℕ) (left : Blocks) → IsFlushing moments n s → IsLeft s left →
-    (b : ℕ) → owes s n (b / 8) ≡ false → HasBeen moments b (left b)
+pub ends-page : (s : BackedStore) (moments : ℕ → Blocks) (n : ℕ) (left : Blocks) → IsFlushing moments n s → MayBeLeft s left →
+    (b : ℕ) → owes s n (b / 8) ≡ false → IsOfAMoment moments b (left b)
 ends-page s moments n left was leaves b paid =
     elim (leaves b) [
-      | inl same ↦ has-been (was.kept b (λ is. young-number s n (b / 8) paid (s.cache.indexed.dirty (b / 8) is))) same
+      | inl same ↦ of-a-moment (was.kept b (λ is. young-number s n (b / 8) paid (s.cache.indexed.dirty (b / 8) is))) same
       | inr wrote ↦
           let young = young-number s n (b / 8) paid (writing-room (mark_at s.cache (b / 8)) wrote.0) in
-          has-been (was.given b wrote.0 (λ is. let later = s.cache.indexed.later (b / 8) is in omega (arith, young, later))) wrote.1
+          of-a-moment (was.given b wrote.0 (λ is. let later = s.cache.indexed.later (b / 8) is in omega (arith, young, later))) wrote.1
     ]
 
-pub ends : (s : BackedStore) (moments : ℕ → Blocks) (n : ℕ) (left : Blocks) → IsFlushing moments n s → IsLeft s left →
-    IsFlushed s n → (b : ℕ) → HasBeen moments b (left b)
+pub ends : (s : BackedStore) (moments : ℕ → Blocks) (n : ℕ) (left : Blocks) → IsFlushing moments n s → MayBeLeft s left →
+    IsFlushed s n → (b : ℕ) → IsOfAMoment moments b (left b)
 ends s moments n left was leaves flushed b = ends-page s moments n left was leaves b (flushed (b / 8))
 
 -- over a cut
@@ -137,7 +137,7 @@ goes-cut old new left blocks keeps gives marked = λ moments n m was at.
             let test : nat_lt b left ≡ true = grind (arith, nat_tests, short.1) in
             let same : mark_at new.cache (b / 8) ≡ mark_at old.cache (b / 8) = stays b short.1 in
             let owing = subst (λ (x : Option Mark). IsTrue (marks.is_dirty (state_of x)) → n < marks.number_of x) same paid in
-            has-been (was.kept b owing) (keeps b ∙ rw test refl)
+            of-a-moment (was.kept b owing) (keeps b ∙ rw test refl)
       ];
       given = λ b writes paid. elim (leb_tells left b) [
         | inl past ↦ behind moments m at b past.1 ((storage_of new).given b) ((storage_of old).given b) (gives b)
@@ -146,7 +146,7 @@ goes-cut old new left blocks keeps gives marked = λ moments n m was at.
             let same : mark_at new.cache (b / 8) ≡ mark_at old.cache (b / 8) = stays b short.1 in
             let wrote = subst (λ (x : Option Mark). IsTrue (marks.is_writing (state_of x))) same writes in
             let owing = subst (λ (x : Option Mark). IsTrue (marks.is_rewritten (state_of x)) → n < marks.again_of x) same paid in
-            has-been (was.given b wrote owing) (gives b ∙ rw test refl)
+            of-a-moment (was.given b wrote owing) (gives b ∙ rw test refl)
       ];
     }
   where
@@ -156,7 +156,7 @@ goes-cut old new left blocks keeps gives marked = λ moments n m was at.
         marked (b / 8) ∙ rw test refl
 
     behind : (moments : ℕ → Blocks) (m : ℕ) → ((b : ℕ) → contents new b ≡ moments m b) → (b : ℕ) → left ≤ b → (x y : List ℕ) →
-        x ≡ (if nat_lt b left then y else zero_block) → HasBeen moments b x
+        x ≡ (if nat_lt b left then y else zero_block) → IsOfAMoment moments b x
     behind moments m at b past x y is =
         let test : nat_lt b left ≡ false = grind (arith, nat_tests, past) in
         let zero : x ≡ zero_block = is ∙ rw test refl in
@@ -178,7 +178,7 @@ goes-kept old new page began over writing keeps gives others dirty later = λ mo
     }
   where
     kept_of : (moments : ℕ → Blocks) (n : ℕ) → IsFlushing moments n old → (b : ℕ) →
-        (IsTrue (is_dirty new (b / 8)) → n < number_of new (b / 8)) → (t : Bool) → (b / 8 == page) ≡ t → HasBeen moments b (backing_of new b)
+        (IsTrue (is_dirty new (b / 8)) → n < number_of new (b / 8)) → (t : Bool) → (b / 8 == page) ≡ t → IsOfAMoment moments b (backing_of new b)
     kept_of moments n was b paid true here =
         let number : b / 8 ≡ page = grind (arith, nat_tests, here) in
         let first : is_rewritten old (b / 8) ≡ true → n < again_of old (b / 8) =
@@ -187,21 +187,21 @@ goes-kept old new page began over writing keeps gives others dirty later = λ mo
         let due : n < number_of new page = subst (λ p. is_dirty new p ≡ true → n < number_of new p) number paid (dirty is) in
         let same : number_of new page ≡ again_of old page = later is in
         omega (arith, due, same)) in
-        has-been (was.given b (ap (λ p. is_writing old p) number ∙ began) first) (keeps b ∙ rw here refl)
+        of-a-moment (was.given b (ap (λ p. is_writing old p) number ∙ began) first) (keeps b ∙ rw here refl)
     kept_of moments n was b paid false apart =
         let other : b / 8 ≢ page = grind (arith, nat_tests, apart) in
-        has-been (kept-on moments n old new b was (others (b / 8) other) paid) (keeps b ∙ rw apart refl)
+        of-a-moment (kept-on moments n old new b was (others (b / 8) other) paid) (keeps b ∙ rw apart refl)
 
     given_of : (moments : ℕ → Blocks) (n : ℕ) → IsFlushing moments n old → (b : ℕ) → IsTrue (is_writing new (b / 8)) →
         (IsTrue (is_rewritten new (b / 8)) → n < again_of new (b / 8)) → (t : Bool) → (b / 8 == page) ≡ t →
-        HasBeen moments b ((storage_of new).given b)
+        IsOfAMoment moments b ((storage_of new).given b)
     given_of moments n was b writes paid true here =
         let number : b / 8 ≡ page = grind (arith, nat_tests, here) in
         let no : false ≡ true = sym over ∙ ap (λ p. is_writing new p) (sym number) ∙ writes in
         absurd (cc)
     given_of moments n was b writes paid false apart =
         let other : b / 8 ≢ page = grind (arith, nat_tests, apart) in
-        has-been (given-on moments n old new b was (others (b / 8) other) (sym (writing (b / 8) other) ∙ writes) paid) (gives b)
+        of-a-moment (given-on moments n old new b was (others (b / 8) other) (sym (writing (b / 8) other) ∙ writes) paid) (gives b)
 
 -- over the end of a write that failed
 pub goes-failed : (old new : BackedStore) (page : ℕ) → is_writing new page ≡ false →
@@ -217,29 +217,29 @@ goes-failed old new page over writing keeps gives others dirty earlier = λ mome
     }
   where
     kept_of : (moments : ℕ → Blocks) (n : ℕ) → IsFlushing moments n old → (b : ℕ) →
-        (IsTrue (is_dirty new (b / 8)) → n < number_of new (b / 8)) → (t : Bool) → (b / 8 == page) ≡ t → HasBeen moments b (backing_of new b)
+        (IsTrue (is_dirty new (b / 8)) → n < number_of new (b / 8)) → (t : Bool) → (b / 8 == page) ≡ t → IsOfAMoment moments b (backing_of new b)
     kept_of moments n was b paid true here = by_dirty (is_dirty old (b / 8)) refl
       where
-        by_dirty : (t : Bool) → is_dirty old (b / 8) ≡ t → HasBeen moments b (backing_of new b)
+        by_dirty : (t : Bool) → is_dirty old (b / 8) ≡ t → IsOfAMoment moments b (backing_of new b)
         by_dirty true is =
             let number : b / 8 ≡ page = grind (arith, nat_tests, here) in
             let was_dirty : is_dirty old page ≡ true = ap (λ p. is_dirty old p) (sym number) ∙ is in
             let due : n < number_of new page = subst (λ p. is_dirty new p ≡ true → n < number_of new p) number paid (dirty was_dirty) in
             let same : number_of new page ≡ number_of old page = earlier was_dirty in
             let young : n < number_of old page = omega (arith, due, same) in
-            has-been (was.kept b (λ _. subst (λ p. n < number_of old p) (sym number) young)) (keeps b)
-        by_dirty false clean = has-been (was.now b) (keeps b ∙ sym (contents-kept old b clean))
+            of-a-moment (was.kept b (λ _. subst (λ p. n < number_of old p) (sym number) young)) (keeps b)
+        by_dirty false clean = of-a-moment (was.now b) (keeps b ∙ sym (contents-kept old b clean))
     kept_of moments n was b paid false apart =
         let other : b / 8 ≢ page = grind (arith, nat_tests, apart) in
-        has-been (kept-on moments n old new b was (others (b / 8) other) paid) (keeps b)
+        of-a-moment (kept-on moments n old new b was (others (b / 8) other) paid) (keeps b)
 
     given_of : (moments : ℕ → Blocks) (n : ℕ) → IsFlushing moments n old → (b : ℕ) → IsTrue (is_writing new (b / 8)) →
         (IsTrue (is_rewritten new (b / 8)) → n < again_of new (b / 8)) → (t : Bool) → (b / 8 == page) ≡ t →
-        HasBeen moments b ((storage_of new).given b)
+        IsOfAMoment moments b ((storage_of new).given b)
     given_of moments n was b writes paid true here =
         let number : b / 8 ≡ page = grind (arith, nat_tests, here) in
         let no : false ≡ true = sym over ∙ ap (λ p. is_writing new p) (sym number) ∙ writes in
         absurd (cc)
     given_of moments n was b writes paid false apart =
         let other : b / 8 ≢ page = grind (arith, nat_tests, apart) in
-        has-been (given-on moments n old new b was (others (b / 8) other) (sym (writing (b / 8) other) ∙ writes) paid) (gives b)
+        of-a-moment (given-on moments n old new b was (others (b / 8) other) (sym (writing (b / 8) other) ∙ writes) paid) (gives b)

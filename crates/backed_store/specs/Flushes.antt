@@ -15,7 +15,7 @@ abbrev pub IsFlushed : BackedStore → ℕ → Type 0
 IsFlushed s n = (p : ℕ) → owes s n p ≡ false
 
 -- block b had these bytes at one of some moments
-pub record HasBeen (moments : ℕ → Blocks) (b : ℕ) (bytes : List ℕ) : Type 0 where
+pub record IsOfAMoment (moments : ℕ → Blocks) (b : ℕ) (bytes : List ℕ) : Type 0 where
   pub moment : ℕ
   pub is : bytes ≡ moments moment b
 
@@ -23,10 +23,10 @@ pub record HasBeen (moments : ℕ → Blocks) (b : ℕ) (bytes : List ℕ) : Typ
 -- those that the host's storage has of a page that doesn't owe, and those that it was given of one that won't, once it
 -- says that it kept them
 pub record IsFlushing (moments : ℕ → Blocks) (n : ℕ) (s : BackedStore) : Type 0 where
-  pub now : (b : ℕ) → HasBeen moments b (contents s b)
-  pub kept : (b : ℕ) → (IsTrue (is_dirty s (b / 8)) → n < number_of s (b / 8)) → HasBeen moments b (backing_of s b)
+  pub now : (b : ℕ) → IsOfAMoment moments b (contents s b)
+  pub kept : (b : ℕ) → (IsTrue (is_dirty s (b / 8)) → n < number_of s (b / 8)) → IsOfAMoment moments b (backing_of s b)
   pub given : (b : ℕ) → IsTrue (is_writing s (b / 8)) → (IsTrue (is_rewritten s (b / 8)) → n < again_of s (b / 8)) →
-      HasBeen moments b ((storage_of s).given b)
+      IsOfAMoment moments b ((storage_of s).given b)
 
 -- a flush that began goes on, where the blocks are as at one of its moments
 abbrev pub KeepsFlushes : BackedStore → BackedStore → Type 0
@@ -35,5 +35,5 @@ KeepsFlushes old new = (moments : ℕ → Blocks) (n m : ℕ) → IsFlushing mom
 
 -- what a crash leaves in the host's storage: of each block what it kept last, or, while a write of its page is under way,
 -- what it was given
-abbrev pub IsLeft : BackedStore → Blocks → Type 0
-IsLeft s left = (b : ℕ) → (left b ≡ backing_of s b) ⊎ (IsTrue (is_writing s (b / 8)) × (left b ≡ (storage_of s).given b))
+abbrev pub MayBeLeft : BackedStore → Blocks → Type 0
+MayBeLeft s left = (b : ℕ) → (left b ≡ backing_of s b) ⊎ (IsTrue (is_writing s (b / 8)) × (left b ≡ (storage_of s).given b))

@@ -26,7 +26,7 @@ pub struct BackedDisk {
 
 impl BackedDisk {
     ghost use Rattle.std.specs.Prelude.{◌≡◌, ℕ, ◌/◌, ◌^◌, ◌<◌, [], true, false, IsTrue, IsFalse, IfOk, OnErr, IfSome, IfNone, length, min};
-    ghost use Rattle.backed_store.specs.Stores.{contents, holds, backing_of, storage_of, ledger_of};
+    ghost use Rattle.backed_store.specs.Stores.{contents, holds, backing_of, storage_of, ledger_of, latest_of};
     ghost use Rattle.block_store.specs.Pages.{blocks_in};
     ghost use Rattle.backed_store.specs.Flushes.{owes};
     ghost use Rattle.backed_store.specs.BackedDisks.{progress_of, hosted_of};
@@ -56,6 +56,7 @@ impl BackedDisk {
     /// Begins a flush of what was changed by now. The one before is forgotten.
     pub(crate) fn begin_flush(&mut self)
         ensures store { self.new.store ≡ self.old.store }
+        ensures fence { self.new.fence ≡ latest_of self.old.store }
         ensures kept { (b : ℕ) → (progress_of self.new).kept (b / 8) ≡ true →
             backing_of self.new.store b ≡ contents self.new.store b }
         ensures given { (b : ℕ) → (progress_of self.new).given (b / 8) ≡ true →

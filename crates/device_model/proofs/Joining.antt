@@ -14,7 +14,7 @@ use Rattle.device_model.specs.Event.Fetch.{Finds}
 use Rattle.device_model.specs.Event.Enter.{Comes}
 use Rattle.device_model.specs.Found.{HandAtUnit}
 use Rattle.device_model.specs.Event.Mark.{IsMarking}
-use Rattle.device_model.specs.Phases.{GivesChain, IsLeft, StandsFor, LendsUnit, LendsQueue}
+use Rattle.device_model.specs.Phases.{GivesChain, VisitsNext, StandsFor, LendsUnit, LendsQueue}
 use Rattle.device_model.specs.Found.{SlotIs, HasSeat, HasHand}
 use Rattle.device_model.proofs.Lists.{same}
 
@@ -44,7 +44,7 @@ abbrev holds : (w : PlainWorld) (k : ℕ) (hand : Hand) (place : ℕ) (u : Plain
     → slice_get w.units place ≡ Some u → HandAtUnit w k hand place
 holds w k hand place u s at = record { out = s.0; seat = s.1; unit = u; there = at }
 
-abbrev marking : (w : PlainWorld) (t : Ticket) (place : ℕ) (kind : Kind) (u : PlainUnit) → IsLeft w t place kind
+abbrev marking : (w : PlainWorld) (t : Ticket) (place : ℕ) (kind : Kind) (u : PlainUnit) → VisitsNext w t place kind
     → slice_get w.units place ≡ Some u → IsMarking w t place kind
 marking w t place kind u s at =
     record {

@@ -165,7 +165,7 @@ bytes_after d m = all_written m (action_of d).writes
 -- What stands outside of the lent part
 
 -- a function with this unit left to mark first
-pub record IsLeft (w : PlainWorld) (t : Ticket) (place : ℕ) (kind : Kind) : Type 0 where
+pub record VisitsNext (w : PlainWorld) (t : Ticket) (place : ℕ) (kind : Kind) : Type 0 where
   pub opened : Opened
   pub there : w.function ≡ Some opened
   pub of : opened.chain.ticket ≡ t
@@ -215,8 +215,8 @@ StandsFor Transition.Wake w = Awakens w
 StandsFor (Transition.Resume k x) w = Resumes w k x
 StandsFor (Transition.Answer k x o xs) w = HasHand w k (Hand.Done x o)
 StandsFor (Transition.Leave k place t jobs) w = HasHand w k (Hand.Answered place t)
-StandsFor (Transition.Mark t p m jobs) w = IsLeft w t p.unit (Marking m) × HasSeat w 0
-StandsFor (Transition.Ask t place rule b) w = IsLeft w t place (Querying rule)
+StandsFor (Transition.Mark t p m jobs) w = VisitsNext w t p.unit (Marking m) × HasSeat w 0
+StandsFor (Transition.Ask t place rule b) w = VisitsNext w t place (Querying rule)
 StandsFor (Transition.MarkRefused t) w = MarksRefused w t
 StandsFor (Transition.Check t p) w = (later : List Place) × IsWaiting w t (p ∷ later)
 StandsFor (Transition.Respond c r xs) w = (g : IsDone w c) × (r ≡ response_of g.waiting.opened.function)

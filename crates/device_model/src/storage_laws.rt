@@ -10,7 +10,7 @@ ghost use Rattle.command_model.specs.Waiting.{is_flush};
 ghost use Rattle.unit_model.specs.Tasks.{Entry, task_of};
 ghost use Rattle.unit_model.specs.Steps.{alive};
 ghost use Rattle.unit_model.specs.Seen.{entered_at};
-ghost use Rattle.unit_model.specs.Flushing.{HasBeen, is_flushed};
+ghost use Rattle.unit_model.specs.Flushing.{HasBeen, is_in_flush};
 ghost use Rattle.unit_model.specs.Jobs.{PlainJob};
 ghost use Rattle.unit_model.specs.Unit.{PlainUnit, is_backed, dealing};
 ghost use Rattle.device_model.specs.World.{PlainWorld};
@@ -54,6 +54,6 @@ pub fn a_storage_changes_by_its_host()
 pub fn a_flush_ends_once_it_is_kept()
     ensures { (w : PlainWorld) (k : ℕ) (x : PlainJob) (r : PlainReply) (u : PlainUnit) (e : Entry) (l : Ledger) (left : Blocks) (b : ℕ) →
         Happens (Transition.Commit k x r) w → UnitIs w x.unit u → r.status ≡ good → task_of x.entry.ticket (alive u.steps) ≡ Some e →
-        is_flush e.command ≡ true → u.storage ≡ Some l → IsLeft l left → is_flushed e.command b ≡ true →
+        is_flush e.command ≡ true → u.storage ≡ Some l → IsLeft l left → is_in_flush e.command b ≡ true →
         HasBeen u.opening u.steps (entered_at e.ticket u.steps) b (left b) }
 {}

@@ -16,7 +16,7 @@ use Rattle.device_model.specs.Changing.{on_function, with_jobs}
 use Rattle.device_model.specs.Found.{handed_out}
 use Rattle.device_model.specs.Event.Mark.{IsMarking}
 use Rattle.device_model.specs.Event.Wake.{after_wake}
-use Rattle.device_model.specs.Phases.{IsLeft}
+use Rattle.device_model.specs.Phases.{VisitsNext}
 use Rattle.device_model.specs.Standing.{HaveRoom}
 use Rattle.device_model.specs.Turns.{Turns}
 use Rattle.device_model.proofs.Lists.{same, nothing}
@@ -67,8 +67,8 @@ module _ (w : PlainWorld) (kept : List KeptSeat) (are : w.seats ≡ map seat_of 
     (addressed : AreAddressed w) (there : w.function ≡ Some f) (p : ℕ) (later : List ℕ) (left : f.function.left ≡ p ∷ later) (u : PlainUnit)
     (u_at : slice_get w.units p ≡ Some u) (s : KeptSeat) (s_at : slice_get kept 0 ≡ Some s)
     (v : PlainUnit) (g : Opened) (out : Jobs) where
-  is_left : (kind : Kind) → f.function.kind ≡ kind → IsLeft w f.chain.ticket p kind
-  is_left kind is = record { opened = f; there = there; of = refl; does = is; later = later; left = left }
+  visits_next : (kind : Kind) → f.function.kind ≡ kind → VisitsNext w f.chain.ticket p kind
+  visits_next kind is = record { opened = f; there = there; of = refl; does = is; later = later; left = left }
 
   is_marking : (kind : Kind) → f.function.kind ≡ kind → IsMarking w f.chain.ticket p kind
   is_marking kind is =
@@ -103,7 +103,7 @@ module _ (w : PlainWorld) (kept : List KeptSeat) (are : w.seats ≡ map seat_of 
     Transition.Mark f.chain.ticket (mark_at p u) m (handed_out u (step_by m)),
     refl,
     joins (Transition.Mark f.chain.ticket (mark_at p u) m (handed_out u (step_by m))) w
-        (is_left (Marking m) is, (seat_of s, seat_there w.seats kept are 0 s s_at out)) (u, u_at, h.1.asks) tt,
+        (visits_next (Marking m) is, (seat_of s, seat_there w.seats kept are 0 s s_at out)) (u, u_at, h.1.asks) tt,
     ap after_wake (parts_are w _ _ _ _ _ _ (unit_change (stepped (step_by m)) w.units p u v u_at h.1.is)
         (more (handed_out u (step_by m)) h.3) (function_to (marking (mark_at p u)) h.2)),
   )
@@ -122,7 +122,7 @@ module _ (w : PlainWorld) (kept : List KeptSeat) (are : w.seats ≡ map seat_of 
   looks (Querying rule) is (inl h) = (
     Transition.Ask f.chain.ticket p rule (any_met rule (alive u.steps)),
     refl,
-    joins (Transition.Ask f.chain.ticket p rule (any_met rule (alive u.steps))) w (is_left (Querying rule) is)
+    joins (Transition.Ask f.chain.ticket p rule (any_met rule (alive u.steps))) w (visits_next (Querying rule) is)
         (u, u_at, h.1.asks) tt,
     parts_are w _ _ _ _ _ _ (unit_still w.units p u v u_at h.1.is) (still h.3)
         (function_to (asking (any_met rule (alive u.steps))) h.2),

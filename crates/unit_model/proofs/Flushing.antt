@@ -11,7 +11,7 @@ use Rattle.unit_model.specs.Tasks.{Entry, task_of}
 use Rattle.unit_model.specs.Steps.{Step, alive, as_of}
 use Rattle.unit_model.specs.Seen.{entered_at}
 use Rattle.unit_model.specs.Contents.{Opening, blocks_of}
-use Rattle.unit_model.specs.Flushing.{HasBeen, is_flushed, IsDurable}
+use Rattle.unit_model.specs.Flushing.{HasBeen, is_in_flush, IsDurable}
 use Rattle.unit_model.specs.Unit.{PlainUnit, MayCommit, Replies}
 
 same_entry : (o : Option Entry) (d e : Entry) → o ≡ Some d → o ≡ Some e → d ≡ e
@@ -26,7 +26,7 @@ replies_durably u e r l (inr (p, unread, lost)) ends flush at =
     absurd (omega (arith, never))
 
 pub durable : (u : PlainUnit) (t : Ticket) (e : Entry) (r : PlainReply) (l : Ledger) (left : Blocks) (b : ℕ) → MayCommit u t r
-    → r.status ≡ good → task_of t (alive u.steps) ≡ Some e → is_flush e.command ≡ true → u.storage ≡ Some l → IsLeft l left → is_flushed e.command b ≡ true
+    → r.status ≡ good → task_of t (alive u.steps) ≡ Some e → is_flush e.command ≡ true → u.storage ≡ Some l → IsLeft l left → is_in_flush e.command b ≡ true
     → HasBeen u.opening u.steps (entered_at e.ticket u.steps) b (left b)
 durable u t e r l left b (d, ready, replies) ends there flush at leaves named =
     let same : d ≡ e = same_entry (task_of t (alive u.steps)) d e ready.is_there there in

@@ -11,9 +11,9 @@ use Rattle.unit_model.specs.Contents.{Opening, blocks_of}
 
 -- block b is one that a flush names: one of the count blocks from lba on, or any from there on where count is 0 (SBC-3 §5.26,
 -- §5.27)
-abbrev pub is_flushed : Command → ℕ → Bool
-is_flushed (SynchronizeCache lba count) b = if count == 0 then nat_le lba b else is_within lba count b
-is_flushed _ b = false
+abbrev pub is_in_flush : Command → ℕ → Bool
+is_in_flush (SynchronizeCache lba count) b = if count == 0 then nat_le lba b else is_within lba count b
+is_in_flush _ b = false
 
 -- own: block b of a unit had these bytes once so many steps stood, or later
 pub record HasBeen (o : Opening) (steps : List Step) (since b : ℕ) (bytes : List ℕ) : Type 0 where
@@ -26,4 +26,4 @@ pub record HasBeen (o : Opening) (steps : List Step) (since b : ℕ) (bytes : Li
 -- or later
 abbrev pub IsDurable : Opening → List Step → Ledger → Entry → Type 0
 IsDurable o steps l e =
-    (left : Blocks) → IsLeft l left → (b : ℕ) → is_flushed e.command b ≡ true → HasBeen o steps (entered_at e.ticket steps) b (left b)
+    (left : Blocks) → IsLeft l left → (b : ℕ) → is_in_flush e.command b ≡ true → HasBeen o steps (entered_at e.ticket steps) b (left b)
