@@ -16,7 +16,7 @@ use Rattle.device_model.specs.Changing.{on_function, with_jobs}
 use Rattle.device_model.specs.Found.{handed_out}
 use Rattle.device_model.specs.Event.Mark.{IsMarking}
 use Rattle.device_model.specs.Event.Wake.{after_wake}
-use Rattle.device_model.specs.Phases.{VisitsNext}
+use Rattle.device_model.specs.Phases.{VisitsNext as IsToVisit}
 use Rattle.device_model.specs.Standing.{HaveRoom}
 use Rattle.device_model.specs.Turns.{Turns}
 use Rattle.device_model.proofs.Lists.{same, nothing}
@@ -67,7 +67,7 @@ module _ (w : PlainWorld) (kept : List KeptSeat) (are : w.seats ≡ map seat_of 
     (addressed : AreAddressed w) (there : w.function ≡ Some f) (p : ℕ) (later : List ℕ) (left : f.function.left ≡ p ∷ later) (u : PlainUnit)
     (u_at : slice_get w.units p ≡ Some u) (s : KeptSeat) (s_at : slice_get kept 0 ≡ Some s)
     (v : PlainUnit) (g : Opened) (out : Jobs) where
-  visits_next : (kind : Kind) → f.function.kind ≡ kind → VisitsNext w f.chain.ticket p kind
+  visits_next : (kind : Kind) → f.function.kind ≡ kind → IsToVisit w f.chain.ticket p kind
   visits_next kind is = record { opened = f; there = there; of = refl; does = is; later = later; left = left }
 
   is_marking : (kind : Kind) → f.function.kind ≡ kind → IsMarking w f.chain.ticket p kind
