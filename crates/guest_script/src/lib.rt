@@ -17,6 +17,7 @@ mod racing_bus;
 mod service;
 mod session;
 mod steps;
+mod stored_machine;
 mod trace;
 
 pub use script_semantics::check;

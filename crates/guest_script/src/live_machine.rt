@@ -12,8 +12,8 @@ use guest_driver::GuestMemory;
 use guest_mem::{GuestMem, MemFault};
 use live_mem::LiveMem;
 use ring_core::QueueLog;
-use script_semantics::{Device, stop_of};
-use script_syntax::{LineFault, Race, Stop};
+use script_semantics::{Device, Hosted, stop_of};
+use script_syntax::{HostLine, LineFault, Race, Stop};
 use scsi_codec::Address;
 use std::alloc::Global;
 use std::cell::RefCell;
@@ -73,10 +73,18 @@ impl Device for LiveMachine {
     fn notices(&self, queue: u16) -> Option<u64> {
         self.world.notices(queue)
     }
+
+    fn hosted(&self, _address: Address) -> Option<Hosted<'_>> {
+        None
+    }
 }
 
 impl Machine for LiveMachine {
-    fn open(alloc: Global, config: &Config) -> Result<LiveMachine, Stop> {
+    fn open(
+        alloc: Global,
+        config: &Config,
+        _caches: &[Option<usize>],
+    ) -> Result<LiveMachine, Stop> {
         if !config.is_valid() {
             return Err(Stop::Fault(LineFault::BadConfig));
         }
@@ -128,6 +136,14 @@ impl Machine for LiveMachine {
         }
     }
 
+    fn note_wanted(&mut self) -> Result<(), NoMemory> {
+        Ok(())
+    }
+
+    fn host(&mut self, _place: u16, _line: HostLine) -> Result<(), NoMemory> {
+        Ok(())
+    }
+
     fn step(&mut self, event: Event) -> Result<bool, NoMemory> {
         self.world.step(event)
     }
@@ -150,6 +166,10 @@ impl Machine for LiveMachine {
 
     fn log(&self, queue: u16) -> Option<&QueueLog> {
         self.world.log(queue)
+    }
+
+    fn waiting(&self) -> usize {
+        self.world.waiting()
     }
 
     fn is_broken(&self, queue: u16) -> bool {

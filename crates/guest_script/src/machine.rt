@@ -5,14 +5,15 @@ use foundation::NoMemory;
 use guest_driver::GuestMemory;
 use ring_core::QueueLog;
 use script_semantics::Device;
-use script_syntax::{Race, Stop};
+use script_syntax::{HostLine, Race, Stop};
 use std::alloc::Global;
 use world::{Event, Notify, Served};
 
 /// A device of one thread with its guest's memory, which the guest's driver writes and reads between two lines.
 pub(crate) trait Machine: GuestMemory + Device + Drop {
-    /// Opens the device of a configuration. `BadConfig` where it isn't taken.
-    fn open(alloc: Global, config: &Config) -> Result<Self, Stop>;
+    /// Opens the device of a configuration. A unit has its disk on a storage of its host where `caches` says at its place how
+    /// many pages are in memory at most. `BadConfig` where it isn't taken.
+    fn open(alloc: Global, config: &Config, caches: &[Option<usize>]) -> Result<Self, Stop>;
 
     /// Takes down a change of memory that the next line of the device brings. `OutOfPlace` where memory doesn't change
     /// between two reads.
@@ -24,6 +25,12 @@ pub(crate) trait Machine: GuestMemory + Device + Drop {
 
     /// Ends the line.
     fn end(&mut self);
+
+    /// Takes down which pages the host is asked for since it was looked last.
+    fn note_wanted(&mut self) -> Result<(), NoMemory>;
+
+    /// Does what a line of the host says with the disk of the unit at a place.
+    fn host(&mut self, place: u16, line: HostLine) -> Result<(), NoMemory>;
 
     /// Takes an event; false where it changes nothing.
     fn step(&mut self, event: Event) -> Result<bool, NoMemory>;
@@ -43,6 +50,9 @@ pub(crate) trait Machine: GuestMemory + Device + Drop {
 
     /// Returns the log of a queue; `None` where there is no such queue.
     fn log(&self, queue: u16) -> Option<&QueueLog>;
+
+    /// Returns how many requests wait for pages of their disks, or are to be tried again.
+    fn waiting(&self) -> usize;
 
     /// Returns true if a fault broke the queue.
     fn is_broken(&self, queue: u16) -> bool;

@@ -9,8 +9,8 @@ use foundation::NoMemory;
 use guest_driver::GuestMemory;
 use guest_mem::{GuestMem, MemFault};
 use ring_core::QueueLog;
-use script_semantics::{Device, stop_of};
-use script_syntax::{LineFault, Race, Stop};
+use script_semantics::{Device, Hosted, stop_of};
+use script_syntax::{HostLine, LineFault, Race, Stop};
 use scsi_codec::Address;
 use std::alloc::Global;
 use unit_history::UnitState;
@@ -69,10 +69,14 @@ impl Device for OwnMachine {
     fn notices(&self, queue: u16) -> Option<u64> {
         self.world.notices(queue)
     }
+
+    fn hosted(&self, _address: Address) -> Option<Hosted<'_>> {
+        None
+    }
 }
 
 impl Machine for OwnMachine {
-    fn open(alloc: Global, config: &Config) -> Result<OwnMachine, Stop> {
+    fn open(alloc: Global, config: &Config, _caches: &[Option<usize>]) -> Result<OwnMachine, Stop> {
         match World::new(alloc, config) {
             Ok(world) => Ok(OwnMachine { world }),
             Err(fault) => Err(stop_of(fault)),
@@ -86,6 +90,14 @@ impl Machine for OwnMachine {
     fn begin(&mut self) {}
 
     fn end(&mut self) {}
+
+    fn note_wanted(&mut self) -> Result<(), NoMemory> {
+        Ok(())
+    }
+
+    fn host(&mut self, _place: u16, _line: HostLine) -> Result<(), NoMemory> {
+        Ok(())
+    }
 
     fn step(&mut self, event: Event) -> Result<bool, NoMemory> {
         Ok(self.world.step(event)?)
@@ -109,6 +121,10 @@ impl Machine for OwnMachine {
 
     fn log(&self, queue: u16) -> Option<&QueueLog> {
         self.world.log(queue)
+    }
+
+    fn waiting(&self) -> usize {
+        self.world.waiting()
     }
 
     fn is_broken(&self, queue: u16) -> bool {

@@ -218,6 +218,7 @@ impl<C: Ledger + Weighing, D: Ledger> Service<C, D> {
             | Command::Ask(_, _)
             | Command::Settle
             | Command::Step(_)
+            | Command::Host(_)
             | Command::Print(_)
             | Command::Close
             | Command::Abandon => Err(Stop::Fault(LineFault::OutOfPlace)),

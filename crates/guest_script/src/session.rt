@@ -5,13 +5,14 @@ use crate::live_machine::LiveMachine;
 use crate::machine::Machine;
 use crate::own_machine::OwnMachine;
 use crate::steps::{event_of, order};
+use crate::stored_machine::StoredMachine;
 use crate::trace::{Trace, print_ask};
 use foundation::NoMemory;
 use guest_driver::Driver;
 use script_semantics::{
     Known, Script, Wanted, command_of, line_number, print, read_whole, run_guest_line,
 };
-use script_syntax::{Command, LineFault, ScriptFault, Step, Stop};
+use script_syntax::{Command, HostLine, LineFault, ScriptFault, Step, Stop};
 use scsi_codec::Address;
 use std::alloc::{AllocError, Global};
 use std::io::{Read, Write};
@@ -43,6 +44,8 @@ pub fn play<S: Read, W: Write>(
     let (script, wanted) = Script::read(alloc, bytes.as_slice())?;
     if wanted.known.is_live {
         play_on::<LiveMachine, W>(alloc, &script, wanted, out, options)
+    } else if wanted.known.caches.iter().any(|cache| cache.is_some()) {
+        play_on::<StoredMachine, W>(alloc, &script, wanted, out, options)
     } else {
         play_on::<OwnMachine, W>(alloc, &script, wanted, out, options)
     }
@@ -109,7 +112,7 @@ impl<M: Machine> Session<M> {
             features,
             asks,
         } = wanted;
-        let mut machine = M::open(alloc, &config)?;
+        let mut machine = M::open(alloc, &config, known.caches.as_slice())?;
         let driver = Driver::new(alloc, features, known.queues, rings)?;
         if !rings.are_fresh() {
             driver.begin(&mut machine)?;
@@ -155,7 +158,8 @@ impl<M: Machine> Session<M> {
                 self.machine.begin();
                 let done = self.run_device(&command, out);
                 self.machine.end();
-                done
+                done?;
+                Ok(self.machine.note_wanted()?)
             }
         }
     }
@@ -166,6 +170,7 @@ impl<M: Machine> Session<M> {
             Command::Hard(unit) => self.hard(*unit, out),
             Command::Resize(unit, blocks) => self.resize(*unit, *blocks, out),
             Command::Ask(queue, notify) => self.ask(*queue, *notify, out),
+            Command::Host(line) => self.host(*line),
             Command::Settle if self.tracing.is_some() => self.settle_by_steps(out),
             Command::Settle => self.settle(),
             Command::Step(step) => {
@@ -298,6 +303,14 @@ impl<M: Machine> Session<M> {
     fn ask<W: Write>(&mut self, queue: u16, notify: Notify, out: &mut W) -> Result<(), Stop> {
         if self.machine.ask(queue, notify) && self.tracing.is_some() {
             return print_ask(out, queue, notify);
+        }
+        Ok(())
+    }
+
+    /// Does what a line of the host says; where the unit isn't there nothing happens.
+    fn host(&mut self, line: HostLine) -> Result<(), Stop> {
+        if let Some(place) = self.known.place(line.unit()) {
+            self.machine.host(place, line)?;
         }
         Ok(())
     }

@@ -20,6 +20,8 @@ pub(crate) fn event_of(step: Step) -> Event {
         Step::Check => Event::Check,
         Step::AnswerTmf => Event::AnswerTmf,
         Step::Raise => Event::Raise,
+        Step::Wake => Event::Wake,
+        Step::Resume(seat) => Event::Resume(seat),
     }
 }
 
@@ -52,6 +54,7 @@ fn push_seat(steps: &mut Vec<Step>, seat: u16) -> Result<(), AllocError> {
         Step::Answer(seat),
         Step::Commit(seat),
         Step::Put(seat),
+        Step::Resume(seat),
         Step::Take(seat),
     ] {
         steps.push(step)?;

@@ -20,6 +20,8 @@ pub(crate) struct Trace {
     hands: Vec<Option<Ticket>>,
     /// The number of event buffers that were used.
     buffers: u64,
+    /// The number of requests that wait for pages, or are to be tried again.
+    waiting: usize,
 }
 
 /// The subject of a unit's step.
@@ -40,6 +42,7 @@ impl Trace {
             steps: vec![in alloc; 0; units]?,
             hands: vec![in alloc; None; seats as usize]?,
             buffers: 0,
+            waiting: 0,
         })
     }
 
@@ -93,6 +96,7 @@ impl Trace {
 
     /// Returns what an event was about that just changed something.
     fn told<M: Machine>(&mut self, machine: &M, known: &Known, event: &Event) -> Told {
+        let waits = self.waits_now(machine);
         let (unit, step) = match self.grown(machine, known) {
             Some((unit, step)) => (Some(unit), Some(step)),
             None => (None, None),
@@ -106,6 +110,7 @@ impl Trace {
             Some(StepKind::Abort(_)) => (newest(machine, CONTROL_QUEUE), "abort"),
             Some(StepKind::Reset) => (self.of_event(machine, event), "reset"),
             Some(StepKind::Resize) => (None, ""),
+            None if waits => (None, "waits"),
             None if is_broken(machine, event) => (None, "broken"),
             None => (self.of_event(machine, event), ""),
         };
@@ -132,6 +137,13 @@ impl Trace {
             }
         }
         None
+    }
+
+    /// Returns true if one more request waits for pages than at the last look.
+    fn waits_now<M: Machine>(&mut self, machine: &M) -> bool {
+        let before = self.waiting;
+        self.waiting = machine.waiting();
+        self.waiting > before
     }
 
     /// Makes the chain that an event is about which took no step of a unit, where that can be seen.

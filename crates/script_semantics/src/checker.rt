@@ -7,6 +7,7 @@ use crate::script::{Script, command_of, line_number, read_whole};
 use crate::wrong::Wrong;
 use config::Config;
 use script_syntax::{Command, GuestLine, LineFault, PrintLine, ScriptFault, Stop, lines_of};
+use scsi_codec::Address;
 use std::alloc::Global;
 use std::collections::BTreeSet;
 use std::io::Read;
@@ -112,14 +113,23 @@ impl Checker {
         match command {
             Command::Guest(_) => 2,
             Command::Print(PrintLine::Blocks(unit, first, _)) => {
-                let place = self.known.place(*unit);
-                match place.and_then(|place| self.known.units.get(place as usize)) {
-                    None => 1,
-                    Some(unit) if *first > unit.blocks => 2,
-                    Some(_) => 3,
-                }
+                self.absent_blocks(*unit, *first, false)
+            }
+            Command::Print(PrintLine::Stored(unit, first, _)) => {
+                self.absent_blocks(*unit, *first, true)
             }
             _ => 1,
+        }
+    }
+
+    /// Returns the word of a line of blocks from one on that are of a storage, or aren't.
+    fn absent_blocks(&self, unit: Address, first: u64, is_stored: bool) -> usize {
+        let place = self.known.place(unit);
+        match place.and_then(|place| self.known.units.get(place as usize)) {
+            None => 1,
+            Some(_) if self.known.is_backed(unit) != is_stored => 1,
+            Some(unit) if first > unit.blocks => 2,
+            Some(_) => 3,
         }
     }
 
@@ -131,7 +141,7 @@ impl Checker {
             (Kind::Play, _) => true,
             (Kind::Serve, Command::Print(_)) => self.is_closed,
             (Kind::Serve, Command::Settle | Command::Step(_) | Command::Ask(_, _)) => false,
-            (Kind::Serve, Command::Race(_)) => false,
+            (Kind::Serve, Command::Race(_) | Command::Host(_)) => false,
             (Kind::Serve, _) => !self.is_closed,
         }
     }

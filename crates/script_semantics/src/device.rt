@@ -2,6 +2,7 @@
 
 use close_audit::Report;
 use guest_mem::GuestMem;
+use host_storage::Storage;
 use scsi_codec::Address;
 use unit_history::UnitState;
 
@@ -19,6 +20,20 @@ pub trait Device {
 
     /// Returns how many notices a queue's driver wanted; `None` where there is no such queue.
     fn notices(&self, queue: u16) -> Option<u64>;
+
+    /// Returns what the host has of a unit's disk; `None` where the disk isn't on a storage of its.
+    fn hosted(&self, address: Address) -> Option<Hosted<'_>>;
+}
+
+/// What a host has of a disk that is on a storage of its.
+#[derive(Clone, Copy)]
+pub struct Hosted<'a> {
+    /// The pages that it was asked for, the oldest first.
+    pub wanted: &'a [u64],
+    /// The pages that it is writing, the oldest first.
+    pub given: &'a [u64],
+    /// The storage; `None` where it is gone.
+    pub storage: Option<&'a Storage>,
 }
 
 impl Device for Report {
@@ -36,5 +51,9 @@ impl Device for Report {
 
     fn notices(&self, queue: u16) -> Option<u64> {
         Report::notices(self, queue)
+    }
+
+    fn hosted(&self, _address: Address) -> Option<Hosted<'_>> {
+        None
     }
 }

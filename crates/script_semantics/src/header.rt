@@ -35,6 +35,7 @@ pub(crate) struct Header {
     features: Option<Features>,
     asks: Option<()>,
     units: Vec<UnitSpec>,
+    caches: Vec<Option<usize>>,
 }
 
 impl Header {
@@ -50,6 +51,7 @@ impl Header {
             features: None,
             asks: None,
             units: Vec::new(alloc),
+            caches: Vec::new(alloc),
         }
     }
 
@@ -84,12 +86,30 @@ impl Header {
             HeaderLine::Handoff(handoff) => set_once(&mut self.handoff, handoff)?,
             HeaderLine::Features(features) => set_once(&mut self.features, features)?,
             HeaderLine::Asks => set_once(&mut self.asks, ())?,
-            HeaderLine::Unit(disk) => self.units.push(unit_of(disk))?,
+            HeaderLine::Unit(disk) => self.keep_unit(disk)?,
         }
         Ok(())
     }
 
-    /// Returns the device that the header asks for. `BadConfig` where a line lacks, or the rings can't begin where one says.
+    /// Keeps what a disk's line says.
+    fn keep_unit(&mut self, disk: Disk) -> Result<(), Stop> {
+        self.units.push(unit_of(disk))?;
+        self.caches.push(disk.pages.map(|pages| pages as usize))?;
+        Ok(())
+    }
+
+    /// Returns true if no disk is on a storage, but where memory isn't live and its unit tells of a cache.
+    fn may_be_stored(&self, is_live: bool) -> bool {
+        for (unit, cache) in self.units.iter().zip(self.caches.iter()) {
+            if cache.is_some() && (is_live || !unit.identity.write_cache) {
+                return false;
+            }
+        }
+        true
+    }
+
+    /// Returns the device that the header asks for. `BadConfig` where a line lacks, the rings can't begin where one says,
+    /// or a disk is on a storage while memory is live or its unit tells of no cache.
     pub(crate) fn wanted(self, alloc: Global) -> Result<Wanted, Stop> {
         let (Some(memory), Some(form), Some(queues)) = (self.memory, self.form, self.queues) else {
             return Err(Stop::Fault(LineFault::BadConfig));
@@ -100,6 +120,9 @@ impl Header {
         let Some(size) = NonZeroU16::new(queues.size) else {
             return Err(Stop::Fault(LineFault::BadConfig));
         };
+        if !self.may_be_stored(memory.is_live) {
+            return Err(Stop::Fault(LineFault::BadConfig));
+        }
         let features = self.features.unwrap_or(Features::NONE);
         let rings = rings_of(form, size, self.start)?;
         let known = Known {
@@ -107,6 +130,7 @@ impl Header {
             is_live: memory.is_live,
             queues: queues.count,
             units: self.units.iter().copied().collect(alloc)?,
+            caches: self.caches,
         };
         let config = Config {
             pages: memory.pages,
@@ -143,9 +167,10 @@ pub struct Wanted {
 
 impl Wanted {
     /// Returns true if threads may serve the device: its memory doesn't change between two reads of one step, its rings
-    /// begin where memory of zeros has no chain, and it asks nobody for notifications.
+    /// begin where memory of zeros has no chain, it asks nobody for notifications, and no disk is on a storage.
     pub fn suits_threads(&self) -> bool {
-        !self.known.is_live && self.rings.are_fresh() && !self.asks
+        let is_backed = self.known.caches.iter().any(|cache| cache.is_some());
+        !self.known.is_live && self.rings.are_fresh() && !self.asks && !is_backed
     }
 }
 

@@ -43,9 +43,13 @@ impl Kind {
             "answer" | "leave" | "mark" | "check" | "answertmf" | "raise" | "ask" | "race" => {
                 Some(Kind::Play)
             }
+            "wake" | "resume" | "load" | "refuse" | "lose" | "give" | "keep" | "fail" => {
+                Some(Kind::Play)
+            }
             "show" | "order" | "blocks" | "history" | "events" | "status" | "notices" => {
                 Some(Kind::Play)
             }
+            "wanted" | "given" | "stored" => Some(Kind::Play),
             _ => None,
         }
     }

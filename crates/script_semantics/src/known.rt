@@ -15,12 +15,14 @@ pub struct Known {
     pub queues: u16,
     /// The units, in the order of the header.
     pub units: Vec<UnitSpec>,
+    /// The most pages of each unit's disk that are in memory, where a storage has the others.
+    pub caches: Vec<Option<usize>>,
 }
 
 impl Known {
-    /// Refuses a line by `BadValue` where it sends to what is no queue of requests, races for bytes outside memory, or
-    /// prints of a queue, a unit or blocks that aren't there. This is looked at before the line's place.
-    /// Called for each line behind the header.
+    /// Refuses a line by `BadValue` where it sends to what is no queue of requests, races for bytes outside memory,
+    /// prints of a queue, a unit or blocks that aren't there, or is about the storage of a disk that has none. This is
+    /// looked at before the line's place. Called for each line behind the header.
     pub fn check(&self, command: &Command<'_>) -> Result<(), LineFault> {
         let is_known = match command {
             Command::Guest(GuestLine::Send(send)) => {
@@ -28,6 +30,7 @@ impl Known {
             }
             Command::Race(race) => self.lies_inside(race),
             Command::Print(line) => self.may_print(*line),
+            Command::Host(line) => self.is_backed(line.unit()),
             _ => true,
         };
         if is_known {
@@ -47,8 +50,25 @@ impl Known {
         match line {
             PrintLine::Order(queue) | PrintLine::Notices(queue) => queue < self.queues,
             PrintLine::History(unit) => self.place(unit).is_some(),
-            PrintLine::Blocks(unit, first, count) => self.has_blocks(unit, first, count),
+            PrintLine::Blocks(unit, first, count) => {
+                !self.is_backed(unit) && self.has_blocks(unit, first, count)
+            }
+            PrintLine::Stored(unit, first, count) => {
+                self.is_backed(unit) && self.has_blocks(unit, first, count)
+            }
+            PrintLine::Wanted(unit) | PrintLine::Given(unit) => self.is_backed(unit),
             PrintLine::Show(_) | PrintLine::Events | PrintLine::Status => true,
+        }
+    }
+
+    /// Returns true if a unit's disk is on a storage.
+    pub(crate) fn is_backed(&self, unit: Address) -> bool {
+        let Some(place) = self.place(unit) else {
+            return false;
+        };
+        match self.caches.get(place as usize) {
+            Some(cache) => cache.is_some(),
+            None => false,
         }
     }
 

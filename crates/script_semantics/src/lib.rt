@@ -19,7 +19,7 @@ mod show;
 mod wrong;
 
 pub use checker::check;
-pub use device::Device;
+pub use device::{Device, Hosted};
 pub use guest::run_guest_line;
 pub use header::{Wanted, stop_of};
 pub use known::Known;

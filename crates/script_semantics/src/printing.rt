@@ -1,6 +1,6 @@
 //! Prints what a script's lines ask for.
 
-use crate::device::Device;
+use crate::device::{Device, Hosted};
 use crate::runs::{Runs, written};
 use crate::show::show;
 use block_store::BLOCK_BYTES;
@@ -43,6 +43,18 @@ pub fn print<D: Device, W: Write>(
             written(writeln!(out, "status {status}"))
         }
         PrintLine::Notices(queue) => notices(out, queue, device.notices(queue)),
+        PrintLine::Wanted(address) => {
+            let hosted = hosted_of(device, address)?;
+            pages(out, "wanted", address, hosted.wanted)
+        }
+        PrintLine::Given(address) => {
+            let hosted = hosted_of(device, address)?;
+            pages(out, "given", address, hosted.given)
+        }
+        PrintLine::Stored(address, first, count) => {
+            let hosted = hosted_of(device, address)?;
+            stored(alloc, out, hosted, (address, first, count))
+        }
     }
 }
 
@@ -52,6 +64,52 @@ fn unit_of<D: Device>(device: &D, address: Address) -> Result<&UnitState, LineFa
         Some(unit) => Ok(unit),
         None => Err(LineFault::BadValue),
     }
+}
+
+/// Returns what the host has of a unit's disk. `BadValue` where the disk isn't on a storage of its.
+fn hosted_of<D: Device>(device: &D, address: Address) -> Result<Hosted<'_>, LineFault> {
+    match device.hosted(address) {
+        Some(hosted) => Ok(hosted),
+        None => Err(LineFault::BadValue),
+    }
+}
+
+/// Prints pages of a unit's disk.
+fn pages<W: Write>(out: &mut W, word: &str, address: Address, pages: &[u64]) -> Result<(), Stop> {
+    let Address { target, lun } = address;
+    written(write!(out, "{word} {target}:{lun}:"))?;
+    for page in pages {
+        written(write!(out, " {page}"))?;
+    }
+    written(writeln!(out))
+}
+
+/// Prints what a storage keeps of blocks. `BadValue` where one of them can't lie there, `NoMemory` where it is gone.
+fn stored<W: Write>(
+    alloc: Global,
+    out: &mut W,
+    hosted: Hosted<'_>,
+    (address, first, count): (Address, u64, u64),
+) -> Result<(), Stop> {
+    let Address { target, lun } = address;
+    let Some(storage) = hosted.storage else {
+        return Err(Stop::NoMemory);
+    };
+    let mut bytes = Vec::with_capacity(alloc, BYTES_AT_ONCE)?;
+    written(write!(out, "stored {target}:{lun} {first} {count}: "))?;
+    let mut runs = Runs::NONE;
+    let (mut at, mut left) = (first, count);
+    while left > 0 {
+        let now = left.min(BLOCKS_AT_ONCE);
+        bytes.clear();
+        if !storage.read_blocks(at, now as u32, &mut bytes)? {
+            return Err(Stop::Fault(LineFault::BadValue));
+        }
+        runs.add(out, bytes.as_slice())?;
+        at = at.saturating_add(now);
+        left -= now;
+    }
+    runs.end(out)
 }
 
 /// Prints how many notices a queue gave. `BadValue` where there is no such queue.

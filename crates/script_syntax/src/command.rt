@@ -3,6 +3,7 @@
 use crate::fault::{LineFault, Stop};
 use crate::guest_line::{GuestLine, Race};
 use crate::header::{HeaderLine, only};
+use crate::host_line::HostLine;
 use crate::print_line::PrintLine;
 use crate::step::Step;
 use crate::values::{capacity, name, number, unit_pair};
@@ -27,6 +28,8 @@ pub enum Command<'a> {
     Settle,
     /// The device takes one step, if it applies.
     Step(Step),
+    /// The host does something with a page of a disk.
+    Host(HostLine),
     /// The guest waits for the answer of a request or a function.
     Wait(&'a str),
     /// The device is closed.
@@ -50,6 +53,9 @@ impl<'a> Command<'a> {
         }
         if let Some(step) = Step::read(keyword, values)? {
             return Ok(Command::Step(step));
+        }
+        if let Some(line) = HostLine::read(keyword, values)? {
+            return Ok(Command::Host(line));
         }
         match keyword {
             "race" => Ok(Command::Race(Race::read(alloc, values)?)),

@@ -54,6 +54,9 @@ pub struct Disk {
     pub profile: Profile,
     /// Names it to a host.
     pub identity: Identity,
+    /// The most of its pages, of 8 blocks, that are in memory, where a storage has the others; `None` where all of it is in
+    /// memory.
+    pub pages: Option<u32>,
 }
 
 /// The features that a header asks for, beside those that each device of its form has.
@@ -177,7 +180,7 @@ fn read_disk(values: &[&str]) -> Result<Disk, LineFault> {
     if profile == Profile::Narrow && !names.is_empty() {
         return Err(LineFault::BadValue);
     }
-    let identity = read_names(names)?;
+    let names = read_names(names)?;
     let unit = unit(target, lun)?;
     let blocks = number::<u64>(blocks)?;
     Ok(Disk {
@@ -185,7 +188,8 @@ fn read_disk(values: &[&str]) -> Result<Disk, LineFault> {
         blocks,
         calm,
         profile,
-        identity,
+        identity: names.identity,
+        pages: names.pages,
     })
 }
 

@@ -1,6 +1,6 @@
 //! The words by which a header names a disk.
 
-ghost use Rattle.std.specs.Prelude.{◌≡◌, ◌+◌, ◌-◌, ◌≤◌, ◌++◌, ◌⊎◌, [], false, true, Ok, replicate, length, codes, IfOk, IfErr};
+ghost use Rattle.std.specs.Prelude.{◌≡◌, ◌+◌, ◌-◌, ◌≤◌, ◌++◌, ◌≢◌, ◌⊎◌, [], false, true, Ok, None, is_some, replicate, length, codes, IfOk, IfErr};
 ghost use Rattle.command_model.specs.Identity.{plain_identity};
 
 use crate::fault::LineFault;
@@ -9,13 +9,13 @@ use command_model::{Identity, SERIAL_BYTES};
 use hex::FromHex;
 use sense::SenseFormat;
 
-/// The words that name a disk, each with a value behind it.
-const WORDS: [&str; 10] = [
+/// The words that name a disk, or say where it is, each with a value behind it.
+const WORDS: [&str; 11] = [
     "vendor", "product", "revision", "serial", "naa", "exponent", "rotation", "sense", "cache",
-    "access",
+    "access", "pages",
 ];
 
-/// Returns true if a word names a disk by the value behind it.
+/// Returns true if a word names a disk, or says where it is, by the value behind it.
 pub(crate) fn is_naming(word: &str) -> bool {
     WORDS.iter().any(|known| *known == word)
 }
@@ -177,22 +177,56 @@ pub(crate) fn named(identity: Identity, word: &str, value: &str) -> Result<Ident
     }
 }
 
-/// Returns what a disk says of itself by words, each with its value behind it. `BadValue` where a value lacks.
-pub(crate) fn read_names(words: &[&str]) -> Result<Identity, LineFault>
-    ensures none { words.now ≡ [] → result ≡ Ok plain_identity }
+/// What a disk says of itself, and where it is.
+#[derive(Clone, Copy)]
+pub(crate) struct Names {
+    pub(crate) identity: Identity,
+    /// The most of its pages that are in memory, where a storage has the others; `None` where it is in memory.
+    pub(crate) pages: Option<u32>,
+}
+
+impl Names {
+    /// A disk in memory that nothing names.
+    const PLAIN: Names = Names {
+        identity: Identity::PLAIN,
+        pages: None,
+    };
+
+    /// Adds a word with its value. `BadValue` as of [`named`].
+    fn with(self, word: &str, value: &str) -> Result<Names, LineFault>
+        ensures pages { word.now ≡ codes "pages" → IfOk result (λ names. names.identity ≡ self.identity) }
+        ensures number { word.now ≡ codes "pages" → IfOk result (λ names. is_some names.pages ≡ true) }
+        ensures named { word.now ≢ codes "pages" → IfOk result (λ names. names.pages ≡ self.pages) }
+        ensures fault { IfErr result (λ fault. fault ≡ LineFault.BadValue) }
+    {
+        if word == "pages" {
+            let pages = number::<u32>(value)?;
+            return Ok(Names {
+                pages: Some(pages),
+                ..self
+            });
+        }
+        let identity = named(self.identity, word, value)?;
+        Ok(Names { identity, ..self })
+    }
+}
+
+/// Returns what words say of a disk, each with its value behind it. `BadValue` where a value lacks.
+pub(crate) fn read_names(words: &[&str]) -> Result<Names, LineFault>
+    ensures none { words.now ≡ [] → result ≡ Ok (record { identity = plain_identity; pages = None }) }
     ensures fault { IfErr result (λ fault. fault ≡ LineFault.BadValue) }
 {
     if words.is_empty() {
-        return Ok(Identity::PLAIN);
+        return Ok(Names::PLAIN);
     }
-    let mut identity = Identity::PLAIN;
+    let mut names = Names::PLAIN;
     let mut rest = words;
     while let [word, value, others @ ..] = rest {
-        identity = named(identity, word, value)?;
+        names = names.with(word, value)?;
         rest = others;
     }
     if rest.is_empty() {
-        Ok(identity)
+        Ok(names)
     } else {
         Err(LineFault::BadValue)
     }

@@ -203,6 +203,7 @@ fn naming_place(before: &str, index: usize) -> Place {
         "serial" => Place::Serial,
         "naa" => Place::Naa,
         "exponent" => Place::Number8,
+        "pages" => Place::Number32,
         "sense" => Place::SenseFormat,
         "cache" => Place::WriteCache,
         "access" => Place::Access,
@@ -240,16 +241,20 @@ fn data_place(has_out: bool, index: usize) -> Place {
 fn other_place(keyword: &str, index: usize) -> Place {
     match (keyword, index) {
         ("hard" | "resize" | "history" | "blocks", 0) => Place::Unit,
+        ("load" | "refuse" | "lose" | "give" | "keep" | "fail", 0) => Place::Unit,
+        ("wanted" | "given" | "stored", 0) => Place::Unit,
+        ("load" | "refuse" | "lose" | "keep" | "fail", 1) => Place::Number64,
         ("poke" | "race", 0) => Place::Number64,
         ("poke" | "race", 1) => Place::Bytes,
         ("race", 2) => Place::Before,
         ("race", 3) => Place::Ordinal,
         ("resize", 1) => Place::Capacity,
-        ("blocks", 1 | 2) => Place::Number64,
+        ("blocks" | "stored", 1 | 2) => Place::Number64,
         ("wait" | "show", 0) => Place::Name,
         ("order" | "notices" | "fetch" | "enter" | "direct" | "ask", 0) => Place::Number16,
         ("ask", 1) => Place::Notify,
         ("put" | "take" | "prepare" | "commit" | "answer" | "leave", 0) => Place::Number16,
+        ("resume", 0) => Place::Number16,
         _ => Place::End,
     }
 }

@@ -22,6 +22,12 @@ pub enum PrintLine<'a> {
     Status,
     /// The number of notices that a queue gave.
     Notices(u16),
+    /// The pages of a unit's disk that the host was asked for.
+    Wanted(Address),
+    /// The pages that it is writing.
+    Given(Address),
+    /// The bytes that its storage keeps of so many blocks, from one on.
+    Stored(Address, u64, u64),
 }
 
 impl<'a> PrintLine<'a> {
@@ -31,11 +37,20 @@ impl<'a> PrintLine<'a> {
         let line = match keyword {
             "show" => PrintLine::Show(name(only(values)?)?),
             "order" => PrintLine::Order(number(only(values)?)?),
-            "blocks" => blocks(values)?,
+            "blocks" => {
+                let (unit, first, count) = blocks(values)?;
+                PrintLine::Blocks(unit, first, count)
+            }
             "history" => PrintLine::History(unit_pair(only(values)?)?),
             "events" => alone(values, PrintLine::Events)?,
             "status" => alone(values, PrintLine::Status)?,
             "notices" => PrintLine::Notices(number(only(values)?)?),
+            "wanted" => PrintLine::Wanted(unit_pair(only(values)?)?),
+            "given" => PrintLine::Given(unit_pair(only(values)?)?),
+            "stored" => {
+                let (unit, first, count) = blocks(values)?;
+                PrintLine::Stored(unit, first, count)
+            }
             _ => return Ok(None),
         };
         Ok(Some(line))
@@ -51,10 +66,10 @@ fn alone<'a>(values: &[&str], line: PrintLine<'a>) -> Result<PrintLine<'a>, Line
     }
 }
 
-/// Reads the values of `blocks`.
-fn blocks<'a>(values: &[&str]) -> Result<PrintLine<'a>, LineFault> {
+/// Reads a unit, and so many blocks from one on.
+fn blocks(values: &[&str]) -> Result<(Address, u64, u64), LineFault> {
     let [unit, first, count] = values else {
         return Err(LineFault::BadValue);
     };
-    Ok(PrintLine::Blocks(unit_pair(unit)?, number(first)?, number(count)?))
+    Ok((unit_pair(unit)?, number(first)?, number(count)?))
 }

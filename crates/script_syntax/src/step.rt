@@ -33,6 +33,10 @@ pub enum Step {
     AnswerTmf,
     /// The oldest event that waits goes to the guest, or is missed.
     Raise,
+    /// The jobs that wait for pages are to be tried again.
+    Wake,
+    /// A seat takes one of these in hand.
+    Resume(u16),
 }
 
 /// Returns the number of a queue or a seat.
@@ -67,6 +71,8 @@ impl Step {
             "check" => alone(values, Step::Check)?,
             "answertmf" => alone(values, Step::AnswerTmf)?,
             "raise" => alone(values, Step::Raise)?,
+            "wake" => alone(values, Step::Wake)?,
+            "resume" => Step::Resume(place(values)?),
             _ => return Ok(None),
         };
         Ok(Some(step))

@@ -1,0 +1,268 @@
+//! A device that has its guest's memory to itself, and disks on storages of its host.
+
+ghost use Rattle.std.specs.Prelude.{◌≡◌, length};
+ghost use Rattle.guest_mem.specs.Memory.{bytes_at, with_bytes, LiesIn};
+ghost use Rattle.stored_world.specs.Inner.Device.{world_of};
+
+use crate::machine::Machine;
+use crate::own_machine::EACH_QUEUE;
+use config::Config;
+use foundation::NoMemory;
+use guest_driver::GuestMemory;
+use guest_mem::{GuestMem, MemFault};
+use ring_core::QueueLog;
+use script_semantics::{Device, Hosted, stop_of};
+use script_syntax::{HostLine, LineFault, Race, Stop};
+use scsi_codec::Address;
+use std::alloc::{AllocError, Global};
+use stored_world::StoredWorld;
+use unit_history::UnitState;
+use world::{Event, Notify, Served};
+
+/// A device that has its guest's memory to itself, and disks on storages of its host.
+#[derive(Drop)]
+pub(crate) struct StoredMachine {
+    device: StoredWorld,
+    /// What the host has to do for each unit.
+    tasks: Vec<HostTasks>,
+}
+
+/// The pages of a disk that a host has to do with.
+#[derive(Drop)]
+struct HostTasks {
+    /// Those that it was asked for, the oldest first.
+    wanted: Vec<u64>,
+    /// Those that it is writing, the oldest first.
+    given: Vec<u64>,
+}
+
+/// Takes a page out of a list. Returns true if it was there.
+fn take(pages: &mut Vec<u64>, page: u64) -> bool {
+    match pages.iter().position(|other| *other == page) {
+        Some(place) => {
+            let _page = pages.remove(place);
+            true
+        }
+        None => false,
+    }
+}
+
+/// Adds a page to a list.
+fn add(pages: &mut Vec<u64>, page: u64) -> Result<(), NoMemory> {
+    match pages.push(page) {
+        Ok(()) => Ok(()),
+        Err(_) => Err(NoMemory),
+    }
+}
+
+/// Makes what a host has to do for so many units: nothing. It fails where memory runs out.
+fn no_tasks(alloc: Global, units: usize) -> Result<Vec<HostTasks>, AllocError> {
+    let mut tasks = Vec::new(alloc);
+    for _ in 0..units {
+        tasks.push(HostTasks {
+            wanted: Vec::new(alloc),
+            given: Vec::new(alloc),
+        })?;
+    }
+    Ok(tasks)
+}
+
+impl GuestMemory for StoredMachine {
+    ghost extent = { λ m. length (world_of m.device).memory };
+
+    ghost finds = { λ m at bytes. LiesIn (length (world_of m.device).memory) at (length bytes)
+        × (bytes ≡ bytes_at (world_of m.device).memory at (length bytes)) };
+
+    ghost refuses = { λ m at n. ¬ LiesIn (length (world_of m.device).memory) at n };
+
+    ghost takes = { λ m at bytes n. LiesIn (length (world_of m.device).memory) at (length bytes)
+        × (world_of n.device ≡ record (world_of m.device) { memory = with_bytes (world_of m.device).memory at bytes }) };
+
+    fn size(&self) -> u64 {
+        self.device.world().memory().size()
+    }
+
+    fn read(&self, at: u64, into: &mut [u8]) -> Result<(), MemFault> {
+        self.device.world().memory().read(at, into)
+    }
+
+    fn write(&mut self, at: u64, bytes: &[u8]) -> Result<(), MemFault> {
+        let size = self.device.world().memory().size();
+        if at > size || bytes.len() as u64 > size - at {
+            return Err(MemFault::Outside);
+        }
+        let _written = self.device.poke(at, bytes);
+        Ok(())
+    }
+}
+
+impl Device for StoredMachine {
+    fn memory(&self) -> &GuestMem {
+        self.device.world().memory()
+    }
+
+    fn unit(&self, address: Address) -> Option<&UnitState> {
+        self.device.world().unit(address.target, address.lun)
+    }
+
+    fn status(&self) -> u8 {
+        self.device.world().status()
+    }
+
+    fn notices(&self, queue: u16) -> Option<u64> {
+        self.device.world().notices(queue)
+    }
+
+    fn hosted(&self, address: Address) -> Option<Hosted<'_>> {
+        let place = self.device.world().place(address.target, address.lun)?;
+        let tasks = self.tasks.get(place as usize)?;
+        Some(Hosted {
+            wanted: tasks.wanted.as_slice(),
+            given: tasks.given.as_slice(),
+            storage: self.device.storage(place),
+        })
+    }
+}
+
+impl StoredMachine {
+    /// Notes a page that the host was asked for, if one is left; false where none is.
+    fn note_next(&mut self, place: usize) -> Result<bool, NoMemory> {
+        let Some(page) = self.device.next_wanted(place as u16) else {
+            return Ok(false);
+        };
+        match self.tasks.get_mut(place) {
+            Some(tasks) => add(&mut tasks.wanted, page)?,
+            None => return Ok(false),
+        }
+        Ok(true)
+    }
+
+    /// Takes a page out of those that the host was asked for. Returns true if it was there.
+    fn take_wanted(&mut self, place: u16, page: u64) -> bool {
+        match self.tasks.get_mut(place as usize) {
+            Some(tasks) => take(&mut tasks.wanted, page),
+            None => false,
+        }
+    }
+
+    /// Takes a page out of those that it is writing. Returns true if it was there.
+    fn take_given(&mut self, place: u16, page: u64) -> bool {
+        match self.tasks.get_mut(place as usize) {
+            Some(tasks) => take(&mut tasks.given, page),
+            None => false,
+        }
+    }
+
+    /// Takes the next page that is to be written, if one is left.
+    fn give(&mut self, place: u16) -> Result<(), NoMemory> {
+        let Some(page) = self.device.give(place)? else {
+            return Ok(());
+        };
+        match self.tasks.get_mut(place as usize) {
+            Some(tasks) => add(&mut tasks.given, page),
+            None => Ok(()),
+        }
+    }
+
+    /// Reads a page that the host was asked for, and hands it in.
+    fn load(&mut self, place: u16, page: u64) -> Result<(), NoMemory> {
+        if self.take_wanted(place, page) {
+            let _loaded = self.device.load(place, page)?;
+        }
+        Ok(())
+    }
+
+    /// Ends the write of a page, which is kept, or failed.
+    fn written(&mut self, place: u16, page: u64, kept: bool) -> Result<(), NoMemory> {
+        if self.take_given(place, page) {
+            let _kept = self.device.written(place, page, kept)?;
+        }
+        Ok(())
+    }
+}
+
+impl Machine for StoredMachine {
+    fn open(
+        alloc: Global,
+        config: &Config,
+        caches: &[Option<usize>],
+    ) -> Result<StoredMachine, Stop> {
+        let tasks = no_tasks(alloc, caches.len())?;
+        match StoredWorld::new(alloc, config, caches) {
+            Ok(device) => Ok(StoredMachine { device, tasks }),
+            Err(fault) => Err(stop_of(fault)),
+        }
+    }
+
+    fn race(&mut self, _alloc: Global, _race: &Race) -> Result<(), Stop> {
+        Err(Stop::Fault(LineFault::OutOfPlace))
+    }
+
+    fn begin(&mut self) {}
+
+    fn end(&mut self) {}
+
+    fn note_wanted(&mut self) -> Result<(), NoMemory> {
+        for place in 0..self.tasks.len() {
+            for _ in 0..u64::MAX {
+                if !self.note_next(place)? {
+                    break;
+                }
+            }
+        }
+        Ok(())
+    }
+
+    fn host(&mut self, place: u16, line: HostLine) -> Result<(), NoMemory> {
+        match line {
+            HostLine::Load(_, page) => self.load(place, page),
+            HostLine::Refuse(_, page) => {
+                if self.take_wanted(place, page) {
+                    let _waited = self.device.load_failed(place, page);
+                }
+                Ok(())
+            }
+            HostLine::Lose(_, page) => {
+                if self.take_wanted(place, page) {
+                    let _waited = self.device.lost(place, page);
+                }
+                Ok(())
+            }
+            HostLine::Give(_) => self.give(place),
+            HostLine::Keep(_, page) => self.written(place, page, true),
+            HostLine::Fail(_, page) => self.written(place, page, false),
+        }
+    }
+
+    fn step(&mut self, event: Event) -> Result<bool, NoMemory> {
+        Ok(self.device.step(event)?)
+    }
+
+    fn serve(&mut self, most: u64) -> Result<Served, NoMemory> {
+        Ok(self.device.serve(EACH_QUEUE, most)?)
+    }
+
+    fn settle(&mut self) -> Result<u64, NoMemory> {
+        Ok(self.device.settle()?)
+    }
+
+    fn serve_and_ask(&mut self, most: u64) -> Result<Served, NoMemory> {
+        Ok(self.device.serve_and_ask(EACH_QUEUE, most)?)
+    }
+
+    fn ask(&mut self, queue: u16, notify: Notify) -> bool {
+        self.device.ask(queue, notify)
+    }
+
+    fn log(&self, queue: u16) -> Option<&QueueLog> {
+        self.device.world().log(queue)
+    }
+
+    fn waiting(&self) -> usize {
+        self.device.world().waiting()
+    }
+
+    fn is_broken(&self, queue: u16) -> bool {
+        self.device.world().broken(queue).is_some()
+    }
+}

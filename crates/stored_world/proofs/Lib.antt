@@ -1,0 +1,4 @@
+pub mod Keeping
+pub mod Hosting
+pub mod Fresh
+pub mod Asked

@@ -1,0 +1,86 @@
+//! A device opens over disks of zeros, some of which are on storages.
+
+ghost use Rattle.std.specs.Prelude.{◌<◌, ◌^◌, IfOk, OnOk};
+ghost use Rattle.stored_world.specs.Inner.Opening.{AreFresh};
+
+use crate::hosted::HostedDisk;
+use crate::stored::StoredWorld;
+use backed_store::{BackedDisk, Disk};
+use block_store::PagedStore;
+use config::{Config, StartFault};
+use foundation::Record;
+use host_storage::Storage;
+use std::alloc::{AllocError, Global};
+use world::World;
+
+/// The blocks that each disk has less than.
+const MOST: u64 = 1 << 60;
+
+/// Adds a disk of so many blocks of zeros, less than 2^60 on a storage: in memory, or on a storage, and at most so many of its
+/// pages in memory. It fails where memory runs out.
+fn add_disk(
+    alloc: Global,
+    blocks: u64,
+    cache: Option<usize>,
+    disks: &mut Vec<Disk>,
+    hosted: &mut Vec<Option<HostedDisk>>,
+) -> Result<(), AllocError>
+    requires fresh { AreFresh disks.old.items hosted.old.items }
+    requires few { blocks < 2 ^ 60 }
+    ensures fresh { OnOk result (AreFresh disks.new.items hosted.new.items) }
+{
+    match cache {
+        None => {
+            disks.push(Disk::Whole(PagedStore::new(alloc, blocks)))?;
+            hosted.push(None)?;
+        }
+        Some(budget) => {
+            let disk = BackedDisk::new(alloc, blocks, budget, Record::new());
+            disks.push(Disk::Backed(disk))?;
+            hosted.push(Some(HostedDisk {
+                storage: Storage::new(alloc),
+                capacity: blocks,
+            }))?;
+        }
+    }
+    Ok(())
+}
+
+impl StoredWorld {
+    ghost use Rattle.device_model.specs.World as plain;
+    ghost use Rattle.stored_world.specs.Inner.Device.{world_of};
+
+    /// Opens the device of a configuration over disks of zeros. The unit at a place has its disk on a storage where `caches`
+    /// says so at that place, with at most so many of its pages of 8 blocks in memory; else all of it is in memory.
+    /// `BadConfig` where the configuration isn't valid, there aren't as many caches as units, a unit with a cache doesn't tell of
+    /// it, or one has 2^60 blocks or more; `NoMemory` where memory was refused.
+    pub fn new(
+        alloc: Global,
+        config: &Config,
+        caches: &[Option<usize>],
+    ) -> Result<StoredWorld, StartFault>
+        ensures opens { IfOk result (λ s. plain.Opens (world_of s)) }
+    {
+        if config.units.len() != caches.len() {
+            return Err(StartFault::BadConfig);
+        }
+        let mut disks = Vec::new(alloc);
+        let mut hosted = Vec::new(alloc);
+        for place in 0..caches.len() {
+            let blocks = config.units[place].blocks;
+            if blocks >= MOST {
+                return Err(StartFault::BadConfig);
+            }
+            match add_disk(alloc, blocks, caches[place], &mut disks, &mut hosted) {
+                Ok(()) => {}
+                Err(_) => return Err(StartFault::NoMemory),
+            }
+        }
+        let world = World::new_with(alloc, config, &mut disks)?;
+        Ok(StoredWorld {
+            alloc,
+            world,
+            disks: hosted,
+        })
+    }
+}
