@@ -126,11 +126,11 @@ impl Device for StoredMachine {
 
 impl StoredMachine {
     /// Notes a page that the host was asked for, if one is left; false where none is.
-    fn note_next(&mut self, place: usize) -> Result<bool, NoMemory> {
-        let Some(page) = self.device.next_wanted(place as u16) else {
+    fn note_next(&mut self, place: u16) -> Result<bool, NoMemory> {
+        let Some(page) = self.device.next_wanted(place) else {
             return Ok(false);
         };
-        match self.tasks.get_mut(place) {
+        match self.tasks.get_mut(place as usize) {
             Some(tasks) => add(&mut tasks.wanted, page)?,
             None => return Ok(false),
         }
@@ -204,6 +204,9 @@ impl Machine for StoredMachine {
 
     fn note_wanted(&mut self) -> Result<(), NoMemory> {
         for place in 0..self.tasks.len() {
+            let Ok(place) = u16::try_from(place) else {
+                return Ok(());
+            };
             for _ in 0..u64::MAX {
                 if !self.note_next(place)? {
                     break;
