@@ -53,7 +53,7 @@ static bool lock(const struct disk *disk, char *why, size_t room) {
   return true;
 }
 
-// Locks an image as the daemon begins. What the system reads and writes for a daemon that was killed keeps a file locked a moment longer, so
+// Locks an image as its disk comes. What the system reads and writes for a daemon that was killed keeps a file locked a moment longer, so
 // that of a backed disk is tried for a second.
 static bool lock_first(const struct disk *disk, char *why, size_t room) {
   enum { TRIES = 20, PAUSE = 50 };
@@ -171,8 +171,10 @@ bool image_take(const struct disks *disks, struct disk *disk, char *why, size_t 
   bool suits = (flags & O_ACCMODE) == wanted || (flags & O_ACCMODE) == O_RDWR;
   if (!suits) return refuse(disk, "its descriptor isn't for writing. With read-only=on it is for reading alone", why, room);
   // What is written goes to the end of the file by the one, and has to be aligned by the other.
-  if (flags & (O_APPEND | O_DIRECT)) return refuse(disk, "its descriptor has O_APPEND or O_DIRECT", why, room);
-  if (!measure(disk, why, room) || (!is_loose(disks) && !lock(disk, why, room)) || !fits(disk, why, room)) return false;
+  if (flags & O_APPEND) return refuse(disk, "its descriptor has O_APPEND", why, room);
+  if (flags & O_DIRECT && !disk->is_direct) return refuse(disk, "its descriptor has O_DIRECT, and its disk no direct=on", why, room);
+  if (!measure(disk, why, room) || (!is_loose(disks) && !lock_first(disk, why, room))) return false;
+  if (!fits(disk, why, room) || !make_direct(disk, why, room)) return false;
   return disk->length == disk->blocks * DEVICE_BLOCK || grow(disks, disk, why, room);
 }
 

@@ -22,7 +22,8 @@
 #include "signals.h"
 
 // PATIENCE: how long a front end may take for the rest of a message, in milliseconds, and for its first one where another wants its place.
-enum { EVENT_SIGNAL = 2000, EVENT_LISTENER = 2001, EVENT_CONTROL = 2002, EVENT_CLIENT = 2003, EVENTS = 32, REFUSED = 1, WRONG_WORDS = 2, WHY = 500, PATIENCE = 5000 };
+// WAITING: after how many an operator's request that waits is looked at once more.
+enum { EVENT_SIGNAL = 2000, EVENT_LISTENER = 2001, EVENT_CONTROL = 2002, EVENT_CLIENT = 2003, EVENTS = 32, REFUSED = 1, WRONG_WORDS = 2, WHY = 500, PATIENCE = 5000, WAITING = 50 };
 
 #ifdef DAEMON_JEMALLOC
 // What jemalloc reads as it begins: disks in memory are to stand on huge pages. MALLOC_CONF of the environment has the last word.
@@ -191,6 +192,8 @@ static bool serve(struct daemon *daemon) {
     }
     int rest = write_rest(daemon);
     if (rest >= 0 && (wait < 0 || rest < wait)) wait = rest;
+    // What the operator's request waits for may have come by that, with no event.
+    if (daemon->control.waits && (wait < 0 || wait > WAITING)) wait = WAITING;
     int count = epoll_wait(daemon->epoll, events, EVENTS, daemon->connected && daemon->session.more ? 0 : wait);
     if (count < 0 && errno != EINTR) return log_say(LOG_ERROR, NULL, "no event can be waited for: %s", strerror(errno)), false;
     if (!take_events(daemon, events, count)) return true;
@@ -219,7 +222,7 @@ static bool open_all(struct daemon *daemon, char *why, size_t room) {
   if (options->control && !listener_can_bind(options->control, why, room)) return false;
   if (!images_open(&daemon->disks, why, room) || !names_read(&daemon->disks, why, room)) return false;
   bool stands = images_make(&daemon->disks, owner.user, owner.group, why, room) &&
-                paging_open(&daemon->disks, why, room) && (daemon->disks.moves || blocks_load(&daemon->disks, why, room)) &&
+                paging_open(&daemon->disks, options->control, why, room) && (daemon->disks.moves || blocks_load(&daemon->disks, why, room)) &&
                 (!has_path || listener_bind(&daemon->listener, options->path, options->mode, owner.user, owner.group, why, room)) &&
                 (!options->control || listener_bind(&daemon->operators, options->control, 0600, owner.user, owner.group, why, room)) &&
                 watch_all(daemon, why, room) && (names_keep(&daemon->disks, owner.user, owner.group), true) &&

@@ -5,6 +5,7 @@ where something isn't so.
 """
 
 import contextlib
+import ctypes.util
 import errno
 import fcntl
 import json
@@ -1246,7 +1247,7 @@ def test_cached_device(room):
 
 
 def test_cached_control(room):
-    """A disk with a cache gets another size while a guest writes it, and tells of its pages. It has to be there from the start."""
+    """A disk with a cache gets another size while a guest writes it, and tells of its pages."""
     if not room.client or not has_ring(room):
         return "no libjansson-dev or no liburing-dev"
     path, image = room.folder / "control", room.folder / "image"
@@ -1284,6 +1285,186 @@ def test_cached_control(room):
         with FrontEnd(connected(room.socket)) as front:
             number = run_cached(front, [("read", 9, 0)])[0]
             assert front.data(number, 4096) == stamped(9, 3)
+    return None
+
+
+def counts_open(run, control):
+    """Returns what says whether a daemon has as many files open, while it serves a client of its control socket, as it has now."""
+    def count():
+        with Asking(control) as asking:
+            assert "version" in asking.ask("stats")
+            return len(os.listdir(f"/proc/{run.pid}/fd"))
+
+    before = count()
+    return lambda: count() == before
+
+
+def test_control_attaches_cached(room):
+    """A disk with a cache comes by the words that the command line takes, within the daemon's limits, and is read and written as others."""
+    if not room.client or not has_ring(room):
+        return "no libjansson-dev or no liburing-dev"
+    path, asks = room.folder / "control", asking_by_client(room)
+    with room.runs("--disk", "0:0=1M", "--control", path, "--log", room.folder / "log") as run:
+        is_same_open = counts_open(run, path)
+        for version, more in enumerate(("", ",direct=on", ",detect-zeroes=unmap,rerror=stop,serial=one"), 1):
+            image = room.folder / f"image{version}"
+            asks("attach", f"0:1=256M,file={image},grow{CACHED}{more}")
+            with FrontEnd(connected(room.socket)) as front, image.open("rb") as file:
+                assert is_locked(file, 100 + WRITES)
+                room.ends("--socket", room.folder / "other", "--disk", f"0:0=file={image}{CACHED}", status=1, says="in use")
+                for first in range(0, 9000, 15):
+                    for page in range(first, first + 15):
+                        front.write(8 * page, stamped(page, version), 1)
+                    wait_for(lambda: front.answered() == front.count & 0xFFFF, "WRITEs", pause=0.0005)  # noqa: B023
+                front.write(8 * 3, bytes(4096), 1)
+                front.flush(1)
+                front.read(8 * 5, 4096, 1)
+                wait_for(lambda: front.answered() == front.count, "the SYNCHRONIZE CACHE")  # noqa: B023
+                assert not front.status(front.count - 2) and front.data(front.count - 1, 4096) == stamped(5, version)
+                assert all(has(image, 4096 * page, stamped(page, version) if page != 3 else bytes(4096)) for page in (0, 3, 5, 4000, 8999))
+                # What isn't flushed is on the file once the disk is gone, also where it goes at once.
+                front.write(8 * 60000, stamped(60000, version), 1)
+                wait_for(lambda: front.answered() == front.count, "a WRITE")  # noqa: B023
+            wait_for(lambda: not asks("stats")["return"]["front-end"], "the end of the session")
+            asks("detach", "0:1")
+            assert has(image, 4096 * 60000, stamped(60000, version)) and is_same_open()
+        # One that is read only, of which the file can't be written.
+        image.chmod(0o400)
+        asks("attach", f"0:1=file={image}{CACHED},read-only=on")
+        with FrontEnd(connected(room.socket)) as front:
+            front.read(8 * 8999, 4096, 1)
+            front.write(0, bytes(4096), 1)
+            wait_for(lambda: front.answered() == 2, "both")
+            # SPC-4 4.5.3 and table F.1: DATA PROTECT, WRITE PROTECTED.
+            assert front.data(0, 4096) == stamped(8999, 3) and front.status(1) == 2 and front.sense(1)[2] == 7
+    assert has(image, 0, stamped(0, 3))
+    # What a guest flushed stays where the daemon is killed.
+    image = room.folder / "killed"
+    with room.runs("--disk", "0:0=1M", "--control", path, "--quiet", ends=-signal.SIGKILL, by=signal.SIGKILL):
+        asks("attach", f"0:1=64M,file={image},grow{CACHED}")
+        with FrontEnd(connected(room.socket)) as front:
+            front.write(8 * 7, stamped(7, 7), 1)
+            front.flush(1)
+            wait_for(lambda: front.answered() == 2 and not front.status(1), "the SYNCHRONIZE CACHE")
+    assert has(image, 4096 * 7, stamped(7, 7))
+    with room.runs("--disk", "0:0=1M", "--control", path):
+        asks("attach", f"0:1=file={image}{CACHED}")
+    return None
+
+
+def test_control_refuses_cached(room):
+    """A disk with a cache that can't come is refused by name, and nothing is left of it."""
+    if not room.client or not has_ring(room):
+        return "no libjansson-dev or no liburing-dev"
+    path, asks = room.folder / "control", asking_by_client(room)
+    image, odd = room.file("image", 64 * MIB), room.file("odd", 1050112)
+    with room.runs("--disk", "0:0=1M", "--control", path) as run:
+        is_same_open = counts_open(run, path)
+        refused_words = {f"file={image},write-cache=on,cache-size=32M": "cache-size= is 33M at least", f"file={image},write-cache=on,snapshot": "takes no snapshot",
+                         f"file={image},direct=on": "direct=on wants write-cache=on", f"file={image},write-cache=on,profile=narrow": "wants profile=wide",
+                         f"65M,file={image}{CACHED}": "shorter than the disk", f"63M,file={image}{CACHED}": "longer than the disk",
+                         f"file={odd}{CACHED},direct=on": "direct=on: the disk has no multiple of 4096 bytes"}
+        if "with NBD" in room.ends("--version", status=0):
+            refused_words["nbd=nbd://localhost/"] = "nbd=: the daemon has to begin with such a disk"
+        for words, says in refused_words.items():
+            error = asks("attach", f"0:1={words}", status=1)["error"]
+            assert error["name"] == "BadDisk" and says in error["text"], (words, error)
+        for flags, more, is_taken in ((os.O_RDWR | os.O_APPEND, "", False), (os.O_RDWR | os.O_DIRECT, "", False), (os.O_RDONLY, "", False),
+                                      (os.O_RDWR | os.O_DIRECT, ",direct=on", True), (os.O_RDONLY, ",read-only=on", True)):
+            descriptor = os.open(image, flags)
+            with Asking(path) as asking:
+                said = asking.ask("attach", disk=f"0:1=file={image}{CACHED}{more}", files=[descriptor])
+                assert said == ({} if is_taken else "BadDisk"), (flags, more, said)
+                assert not is_taken or asking.ask("detach", disk="0:1") == {}
+            os.close(descriptor)
+        # A file that another daemon has is tried for a second.
+        with room.runs("--disk", f"0:0=file={image}{CACHED}", path=room.folder / "other"):
+            assert "in use" in asks("attach", f"0:1=file={image}{CACHED}", status=1)["error"]["text"]
+        asks("attach", f"0:1=file={image}{CACHED}")
+        assert asks("attach", f"0:2=file={image}{CACHED}", status=1)["error"]["name"] == "BadDisk"
+        with connected(room.socket) as front:
+            assert is_served(front) and asks("attach", f"0:2=1M,file={odd}{CACHED}", status=1)["error"]["name"] == "InUse"
+            assert asks("detach", "0:1", status=1)["error"]["name"] == "InUse"
+        wait_for(lambda: not asks("stats")["return"]["front-end"], "the end of the session")
+        asks("detach", "0:1")
+        assert is_same_open()
+    assert image.read_bytes() == b"\x5a" * 64 * MIB
+
+
+def refuse_rings():
+    """Has the system refuse io_uring to this process, by libseccomp."""
+    library = ctypes.CDLL(ctypes.util.find_library("seccomp"))
+    library.seccomp_init.restype = ctypes.c_void_p
+    allows, fails, io_uring_setup = 0x7FFF0000, 0x00050000, 425
+    rules = ctypes.c_void_p(library.seccomp_init(ctypes.c_uint32(allows)))
+    assert not library.seccomp_rule_add(rules, ctypes.c_uint32(fails | errno.EPERM), io_uring_setup, 0) and not library.seccomp_load(rules)
+
+
+def test_control_without_rings(room):
+    """Where the system refuses io_uring a daemon with a control socket serves all the same, and a disk with a cache can't come."""
+    if not room.client or not has_ring(room) or not ctypes.util.find_library("seccomp"):
+        return "no libjansson-dev, no liburing-dev or no libseccomp"
+    path, asks, image = room.folder / "control", asking_by_client(room), room.file("image", 64 * MIB)
+    room.refuses("--disk", f"0:0=file={image}{CACHED}", says="write-cache=on: no io_uring: Operation not permitted", preexec_fn=refuse_rings)
+    with room.runs("--disk", "0:0=1M", "--control", path, preexec_fn=refuse_rings):
+        error = asks("attach", f"0:1=65M,grow,file={image}{CACHED}", status=1)["error"]
+        assert error["name"] == "BadDisk" and "began without io_uring" in error["text"] and image.stat().st_size == 64 * MIB
+        asks("attach", f"0:1=file={image}")
+        assert serves(room.socket)
+    return None
+
+
+def test_control_detaches_cached(room):
+    """A disk with a cache goes once its file has all. Where that can't be written it stays, and others go."""
+    if not room.client or not has_ring(room):
+        return "no libjansson-dev or no liburing-dev"
+    path, log, image, other = room.folder / "control", room.folder / "log", room.folder / "image", room.folder / "other"
+    disks = [word for lun, it in enumerate((image, other)) for word in ("--disk", f"0:{lun + 1}=64M,file={it}{CACHED}")]
+    with room.runs("--disk", "0:0=1M", *disks, "--control", path, "--log", log) as run, Asking(path) as asking:
+        limit_files(run, 32 * MIB)
+        with FrontEnd(connected(room.socket)) as front:
+            front.write(8 * 10000, stamped(10000, 1), 1)
+            front.write(8 * 100, stamped(100, 1), 2)
+            wait_for(lambda: front.answered() == 2, "two WRITEs")
+        wait_for(lambda: not asking.ask("stats")["front-end"], "the end of the session")
+        began = time.monotonic()
+        assert asking.ask("detach", disk="0:2") == {} and has(other, 4096 * 100, stamped(100, 1)) and time.monotonic() - began < 4
+        assert asking.ask("detach", disk="0:1") == "Busy" and time.monotonic() - began > 4 and not has(image, 4096 * 10000, stamped(10000, 1))
+        # A request that waits goes on once its file can be written, and takes no processor before.
+        before = taken(run)
+        asking.connection.sendall(b'{"execute":"detach","arguments":{"disk":"0:1"}}\n')
+        time.sleep(0.5)
+        assert taken(run) - before < 100_000_000
+        limit_files(run, resource.RLIM_INFINITY)
+        assert asking.lines.readline() == '{"return":{}}\n' and has(image, 4096 * 10000, stamped(10000, 1))
+        with image.open("rb") as file:
+            assert not is_locked(file, 100 + WRITES)
+        assert asking.ask("detach", disk="0:0") == "BadDisk"
+    return None
+
+
+def test_control_migratable_cached(room):
+    """With --migratable a disk with a cache that comes is locked while a queue runs, and two daemons find what the other one left."""
+    if not room.client or not has_ring(room):
+        return "no libjansson-dev or no liburing-dev"
+    first, image, others = room.file("first.img"), room.file("image", 64 * MIB), room.folder / "others"
+    paths = (room.folder / "control", room.folder / "controls")
+    words = ["--disk", f"0:0=1M,file={first}", "--migratable", "--control"]
+    with room.runs(*words, paths[0]), room.runs(*words, paths[1], path=others), image.open("rb") as file:
+        for path in paths:
+            asking_by_client(room, path)("attach", f"0:1=file={image}{CACHED}")
+        assert not is_locked(file, 100 + WRITES)
+        with FrontEnd(connected(room.socket)) as one, FrontEnd(connected(others)) as two:
+            for turn, front in enumerate((one, two, one, two), 1):
+                if front.count:
+                    front.start(front.count)
+                front.read(8 * 5, 4096, 1)
+                wait_for(lambda: front.answered() == front.count, "the READ")  # noqa: B023
+                assert front.data(front.count - 1, 4096) == (stamped(5, turn - 1) if turn > 1 else b"\x5a" * 4096)
+                front.write(8 * 5, stamped(5, turn), 1)
+                wait_for(lambda: front.answered() == front.count, "the WRITE")  # noqa: B023
+                assert is_locked(file, 100 + WRITES) and front.stop() == front.count and not is_locked(file, 100 + WRITES)
+    assert has(image, 4096 * 5, stamped(5, 4))
     return None
 
 
@@ -1849,6 +2030,16 @@ def test_hardened(room):
 
 
 # The control socket, and guests that move.
+
+
+def asking_by_client(room, path=None):
+    """What asks a control socket by vscsi-ctl, and gives its answer, if there is one."""
+    def asks(*words, status=0):
+        run = subprocess.run([room.client, path or room.folder / "control", *words], capture_output=True, text=True)
+        assert run.returncode == status, (words, run.stdout, run.stderr)
+        return json.loads(run.stdout) if run.stdout else None
+
+    return asks
 
 
 class Asking:
