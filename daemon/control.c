@@ -129,7 +129,7 @@ static json_t *resize(const struct controlled *controlled, json_t *arguments) {
   if (disk->is_protected) return error("BadSize", "with read-only=on a disk has the size of its file");
   if (controlled->disks->moves && !controlled->disks->held) return error("NoDevice", "another daemon may have the file");
   if (!backend && !is_kept) return error("NoDevice", "what isn't kept on a file has another size only while a guest uses it");
-  if (disk->server) return error("File", "an NBD server's disk stays as long as it is");
+  if (disk->server) return error("File", "a disk with nbd= or rbd= stays as long as it is");
   if (disk->is_direct && bytes % PAGE_BYTES) return error("BadSize", "with direct=on a size is a multiple of 4096 bytes");
   if (must_wait(controlled) || (backend ? disk->backlog.count > 0 : lacks(disk))) return error("Busy", "what the guest wrote isn't on the file yet");
   // No write of what the disk loses comes behind it, and no read of that is handed in.
@@ -181,7 +181,7 @@ static json_t *attach(const struct controlled *controlled, json_t *arguments, in
   bool taken = disks_are_whole(disks) || (snprintf(why, sizeof why, "its target has no LUN 0"), false);
   if (taken && disks->moves && (!disk->path || (disk->read_only && !disk->is_protected)))
     taken = (snprintf(why, sizeof why, "--migratable: each disk has to be kept on a file"), false);
-  if (taken && disk->uri) taken = (snprintf(why, sizeof why, "nbd=: the daemon has to begin with such a disk"), false);
+  if (taken && disk->uri) taken = (snprintf(why, sizeof why, "%s=: the daemon has to begin with such a disk", disk->is_rbd ? "rbd" : "nbd"), false);
   if (taken && !disk->path != (*file < 0)) taken = (snprintf(why, sizeof why, "a file, and only that, comes with its descriptor"), false);
   if (taken && disk->path) {
     disk->file = *file;

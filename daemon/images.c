@@ -12,8 +12,9 @@
 #include <unistd.h>
 
 #include "blocks.h"
+#include "cluster.h"
+#include "export.h"
 #include "folders.h"
-#include "server.h"
 #include "storage.h"
 
 // Where QEMU's locks are (block/file-posix.c): who uses a permission has a byte of the first run locked for reading, and who doesn't
@@ -120,9 +121,10 @@ static bool open_image(struct disk *disk, bool is_locked_now, char *why, size_t 
   return measure(disk, why, room) && (!is_locked_now || lock_first(disk, why, room)) && fits(disk, why, room) && make_direct(disk, why, room);
 }
 
-// Connects to the server of a disk, and tests that its export is as long as the disk.
+// Connects to the server of a disk, and tests that its export or its image is as long as the disk.
 static bool connect_disk(struct disk *disk, char *why, size_t room) {
-  disk->server = server_open(disk->uri, why, room);
+  const struct image_name image = {disk->uri, disk->rbd_conf, disk->rbd_user, disk->read_only};
+  disk->server = disk->is_rbd ? cluster_open(&image, why, room) : export_open(disk->uri, why, room);
   if (!disk->server) return false;
   disk->length = server_bytes(disk->server);
   if (!disk->blocks) disk->blocks = disk->length / DEVICE_BLOCK;
@@ -181,7 +183,7 @@ bool image_take(const struct disks *disks, struct disk *disk, char *why, size_t 
 bool image_resize(struct disk *disk, uint64_t blocks, char *why, size_t room) {
   struct stat stat;
   uint64_t bytes = blocks * DEVICE_BLOCK;
-  if (disk->server) return snprintf(why, room, "%s: an NBD server's disk stays as long as it is", disk->uri), false;
+  if (disk->server) return snprintf(why, room, "%s: a disk with nbd= or rbd= stays as long as it is", disk->uri), false;
   if (disk->file < 0 || disk->read_only) return true;
   if (disk->is_direct && bytes % PAGE_BYTES) return refuse(disk, "direct=on: no multiple of 4096 bytes", why, room);
   if (fstat(disk->file, &stat) || !measure(disk, why, room)) return refuse(disk, NULL, why, room);

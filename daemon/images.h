@@ -6,7 +6,7 @@
 
 #include "disks.h"
 
-// Opens and locks each image that is there, connects to each NBD server, and tests their lengths. Makes and changes nothing. An image that
+// Opens and locks each image that is there, connects to each server, and tests their lengths. Makes and changes nothing. An image that
 // isn't there is left to images_make. Returns false, and says why, where one can't be had: it is missing, denied, in use, or has another
 // length.
 //

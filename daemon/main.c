@@ -10,6 +10,7 @@
 #include <time.h>
 #include <unistd.h>
 
+#include "cluster.h"
 #include "control.h"
 #include "images.h"
 #include "listener.h"
@@ -216,7 +217,8 @@ static bool watch_all(struct daemon *daemon, char *why, size_t room) {
 static bool open_all(struct daemon *daemon, char *why, size_t room) {
   const struct options *options = &daemon->options;
   struct owner owner;
-  bool has_path = options->path, connects = disks_connect(&daemon->disks);
+  bool has_path = options->path;
+  const struct reach reach = {disks_connect(&daemon->disks), disks_have_images(&daemon->disks)};
   if (!sandbox_find(&owner, options->user, options->group, why, room)) return false;
   if (has_path ? !listener_can_bind(options->path, why, room) : !listener_take(&daemon->listener, options->fd, why, room)) return false;
   if (options->control && !listener_can_bind(options->control, why, room)) return false;
@@ -227,7 +229,7 @@ static bool open_all(struct daemon *daemon, char *why, size_t room) {
                 (!options->control || listener_bind(&daemon->operators, options->control, 0600, owner.user, owner.group, why, room)) &&
                 watch_all(daemon, why, room) && (names_keep(&daemon->disks, owner.user, owner.group), true) &&
                 sandbox_become(&owner, why, room) &&
-                (!options->limits || sandbox_limit(options->path, options->control, options->log, connects, why, room));
+                (!options->limits || sandbox_limit(options->path, options->control, options->log, reach, why, room));
   if (stands) return true;
   names_undo(&daemon->disks);
   images_undo(&daemon->disks);
@@ -244,7 +246,7 @@ static int run(struct daemon *daemon) {
   char why[WHY];
   daemon->signals = signals_begin();
   daemon->epoll = epoll_create1(EPOLL_CLOEXEC);
-  if (!sandbox_begin() || !watch(daemon->epoll, daemon->signals, EVENT_SIGNAL)) return refuse(strerror(errno));
+  if (!sandbox_begin(disks_have_images(&daemon->disks)) || !watch(daemon->epoll, daemon->signals, EVENT_SIGNAL)) return refuse(strerror(errno));
   if (!open_all(daemon, why, sizeof why)) {
     if (signals_end_waits()) return log_say(LOG_NOTE, NULL, "ended before it served"), 0;
     return refuse(why);
@@ -292,5 +294,7 @@ int main(int count, char **words) {
   if (daemon->epoll >= 0) close(daemon->epoll);
   disks_close(&daemon->disks);
   free(daemon);
+  // A thread that waits for a cluster calls libraries whose values an ordinary end would take away.
+  if (cluster_is_busy()) _exit(status);
   return status;
 }

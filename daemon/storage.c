@@ -256,8 +256,8 @@ void storage_wait(struct storage *storage, unsigned milliseconds) {
   struct pollfd asked[DEVICE_MOST_UNITS];
   unsigned count = 0;
   for (size_t i = 0; i < storage->server_count; i++) {
-    if (server_has_next(storage->servers[i])) milliseconds = 0;
     count += server_asks(storage->servers[i], &asked[count]);
+    if (server_has_next(storage->servers[i])) milliseconds = 0;
   }
   uring_wait(storage->uring, asked, count, milliseconds);
 }
