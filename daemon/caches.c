@@ -3,7 +3,8 @@
 #include <stdio.h>
 #include <string.h>
 
-#include "server.h"
+#include "cluster.h"
+#include "export.h"
 #include "storage.h"
 
 // Blocks of a page, and of the memory that a backed disk has where no word says how much.
@@ -48,16 +49,25 @@ size_t caches_pages(const struct disk *disk) {
   return (size_t)((disk->cache_blocks ? disk->cache_blocks : USUAL_BLOCKS) / PAGE_BLOCKS);
 }
 
+// Of a disk that a server has.
+static const char *server_fault_of(const struct disk *disk) {
+  bool is_rbd = disk->is_rbd;
+  if (disk->path) return is_rbd ? "rbd= stands in place of file=" : "nbd= stands in place of file=";
+  if (is_rbd && !cluster_is_built()) return "rbd=: this daemon loads no libraries, since it is linked statically";
+  if (!is_rbd && !export_is_built()) return "nbd=: this daemon is built without libnbd";
+  if (!disk->is_backed) return is_rbd ? "rbd= wants write-cache=on" : "nbd= wants write-cache=on";
+  return disk->is_direct ? "direct=on wants file=PATH" : NULL;
+}
+
 static const char *fault_of(const struct disk *disk) {
-  if (disk->uri && disk->path) return "nbd= stands in place of file=";
-  if (disk->uri && !server_is_built()) return "nbd=: this daemon is built without libnbd";
-  if (disk->uri && !disk->is_backed) return "nbd= wants write-cache=on";
-  if (disk->uri && disk->is_direct) return "direct=on wants file=PATH";
+  const char *fault = disk->uri ? server_fault_of(disk) : NULL;
+  if (fault) return fault;
+  if (!disk->is_rbd && (disk->rbd_conf || disk->rbd_user)) return "rbd-conf= and rbd-user= want rbd=IMAGE";
   if (!disk->is_backed && disk->cache_blocks) return "cache-size= wants write-cache=on";
   if (!disk->is_backed && disk->has_read_error) return "rerror= wants write-cache=on";
   if (!disk->is_backed) return disk->is_direct ? "direct=on wants write-cache=on" : NULL;
   if (!storage_is_built()) return "write-cache=on: this daemon is built without liburing";
-  if (!disk->path && !disk->uri) return "write-cache=on wants file=PATH or nbd=URI";
+  if (!disk->path && !disk->uri) return "write-cache=on wants file=PATH, nbd=URI or rbd=IMAGE";
   if (!disk->wide) return "write-cache=on wants profile=wide";
   if (disk->read_only && !disk->is_protected) return "write-cache=on takes no snapshot";
   return caches_pages(disk) < VSCSI_LEAST_PAGES ? "cache-size= is 33M at least" : NULL;

@@ -18,7 +18,7 @@
 #ifdef DAEMON_CONTROL
 #include <jansson.h>
 
-// PATIENCE: milliseconds that a request waits for the end of a round.
+// PATIENCE: milliseconds that a request waits for the end of a round, or for what a file lacks.
 enum { WHY = 300, PATIENCE = 5000 };
 
 bool control_is_built(void) { return true; }
@@ -56,7 +56,10 @@ static struct backend *live(const struct controlled *controlled) {
   return session && session->backend.device.live ? &session->backend : NULL;
 }
 
-// Returns whether a request has to wait, since answers do, or since files lack what a front end left.
+// Returns whether a disk's file lacks what a front end left.
+static bool lacks(const struct disk *disk) { return disk->backlog.count || paging_is_left(disk); }
+
+// Returns whether a resize has to wait, since answers do, or since files lack what a front end left.
 static bool must_wait(const struct controlled *controlled) {
   const struct backend *backend = live(controlled);
   return backend ? backend->keeps && backend_is_busy(backend) : paging_are_left(controlled->disks);
@@ -126,10 +129,9 @@ static json_t *resize(const struct controlled *controlled, json_t *arguments) {
   if (disk->is_protected) return error("BadSize", "with read-only=on a disk has the size of its file");
   if (controlled->disks->moves && !controlled->disks->held) return error("NoDevice", "another daemon may have the file");
   if (!backend && !is_kept) return error("NoDevice", "what isn't kept on a file has another size only while a guest uses it");
-  if (disk->server) return error("File", "an NBD server's disk stays as long as it is");
+  if (disk->server) return error("File", "a disk with nbd= or rbd= stays as long as it is");
   if (disk->is_direct && bytes % PAGE_BYTES) return error("BadSize", "with direct=on a size is a multiple of 4096 bytes");
-  bool lacks = disk->backlog.count || (!backend && paging_is_left(disk));
-  if (must_wait(controlled) || lacks) return error("Busy", "what the guest wrote isn't on the file yet");
+  if (must_wait(controlled) || (backend ? disk->backlog.count > 0 : lacks(disk))) return error("Busy", "what the guest wrote isn't on the file yet");
   // No write of what the disk loses comes behind it, and no read of that is handed in.
   if (backend && disk->is_backed) backend_settle(backend);
   if (backend) controlled->session->more = true;
@@ -156,7 +158,13 @@ static json_t *reset(const struct controlled *controlled, json_t *arguments) {
   return done();
 }
 
-static json_t *attach(const struct controlled *controlled, json_t *arguments, int *file) {
+// Returns the answer of a request that waited in vain, or NULL, by which it waits.
+static json_t *wait_or(bool is_late, const char *text) { return is_late ? error("Busy", text) : NULL; }
+
+static const char under_way[] = "pages of disks are under way";
+
+// Adds a disk. Returns NULL where that has to wait for what is under way, and it isn't late.
+static json_t *attach(const struct controlled *controlled, json_t *arguments, int *file, bool is_late) {
   char why[WHY];
   const char *words, *naa = NULL;
   struct disks *disks = controlled->disks;
@@ -165,6 +173,7 @@ static json_t *attach(const struct controlled *controlled, json_t *arguments, in
     return error("BadRequest", "its argument disk is T:L=SIZE[,..], and naa digits");
   if (controlled->session) return error("InUse", "a front end is there");
   // Those that are there get other places.
+  if (paging_is_under_way(disks)) return wait_or(is_late, under_way);
   if (!paging_end_rest(disks)) return error("NoMemory", "memory was refused");
   if (!disks_add(disks, words, why, sizeof why)) return error("BadDisk", why);
   disks_find(disks, words, &which);
@@ -172,28 +181,33 @@ static json_t *attach(const struct controlled *controlled, json_t *arguments, in
   bool taken = disks_are_whole(disks) || (snprintf(why, sizeof why, "its target has no LUN 0"), false);
   if (taken && disks->moves && (!disk->path || (disk->read_only && !disk->is_protected)))
     taken = (snprintf(why, sizeof why, "--migratable: each disk has to be kept on a file"), false);
-  if (taken && disk->is_backed) taken = (snprintf(why, sizeof why, "write-cache=on: the daemon has to begin with such a disk"), false);
+  if (taken && disk->uri) taken = (snprintf(why, sizeof why, "%s=: the daemon has to begin with such a disk", disk->is_rbd ? "rbd" : "nbd"), false);
   if (taken && !disk->path != (*file < 0)) taken = (snprintf(why, sizeof why, "a file, and only that, comes with its descriptor"), false);
   if (taken && disk->path) {
     disk->file = *file;
     *file = -1;
   }
-  taken = taken && (!naa || names_give(disks, disk, naa, why, sizeof why)) && (!disk->path || image_take(disks, disk, why, sizeof why));
+  taken = taken && (!naa || names_give(disks, disk, naa, why, sizeof why)) && (!disk->is_backed || paging_join(disks, disk, why, sizeof why)) &&
+          (!disk->path || image_take(disks, disk, why, sizeof why));
   if (taken && (disks->moves || blocks_load(disks, why, sizeof why))) return done();
   disks_remove(disks, which);
   return error("BadDisk", why);
 }
 
-static json_t *detach(const struct controlled *controlled, json_t *arguments) {
+// Takes a disk away. Returns NULL where that has to wait for what its file lacks, which is written meanwhile, or for what is under way, and it
+// isn't late.
+static json_t *detach(const struct controlled *controlled, json_t *arguments, bool is_late) {
   struct disks *disks = controlled->disks;
   size_t which;
   json_t *missing = no_disk(controlled, arguments, &which);
   if (missing) return missing;
   if (controlled->session) return error("InUse", "a front end is there");
-  if (!paging_end_rest(disks) || disks->disks[which].backlog.count || paging_is_left(&disks->disks[which]))
-    return error("Busy", "its file can't be written");
-  bool is_needed = !disks->disks[which].lun && which + 1 < disks->count && disks->disks[which + 1].target == disks->disks[which].target;
+  const struct disk *disk = &disks->disks[which];
+  bool is_needed = !disk->lun && which + 1 < disks->count && disk[1].target == disk->target;
   if (is_needed || disks->count == 1) return error("BadDisk", "each target has a LUN 0, and there is a disk");
+  if (lacks(disk)) return wait_or(is_late, "its file can't be written");
+  if (paging_is_under_way(disks)) return wait_or(is_late, under_way);
+  if (!paging_end_rest(disks) || lacks(disk)) return error("Busy", "its file can't be written");
   disks_remove(disks, which);
   return done();
 }
@@ -203,15 +217,16 @@ static json_t *answer(struct control *control, const struct controlled *controll
   json_error_t fault;
   const char *command;
   json_t *arguments = NULL, *came = NULL;
+  bool is_late = clock_now() - control->since >= PATIENCE;
   json_t *request = json_loadb(control->line, length, JSON_REJECT_DUPLICATES, &fault);
   if (!request || json_unpack_ex(request, &fault, JSON_STRICT, "{s:s,s?o}", "execute", &command, "arguments", &arguments))
     came = error("BadRequest", fault.text);
   else if (!strcmp(command, "stats")) came = stats(controlled, arguments);
   else if (!strcmp(command, "reset")) came = reset(controlled, arguments);
-  else if (!strcmp(command, "attach")) came = attach(controlled, arguments, &control->file);
-  else if (!strcmp(command, "detach")) came = detach(controlled, arguments);
+  else if (!strcmp(command, "attach")) control->waits = !(came = attach(controlled, arguments, &control->file, is_late)) && !is_late;
+  else if (!strcmp(command, "detach")) control->waits = !(came = detach(controlled, arguments, is_late)) && !is_late;
   else if (strcmp(command, "resize")) came = error("NoCommand", command);
-  else if (!(control->waits = must_wait(controlled) && clock_now() - control->since < PATIENCE)) came = resize(controlled, arguments);
+  else if (!(control->waits = must_wait(controlled) && !is_late)) came = resize(controlled, arguments);
   json_decref(request);
   return came;
 }

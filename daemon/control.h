@@ -11,7 +11,7 @@ struct control {
   char line[MOST_LINE];     // what came of the next request
   size_t have;
   int file;                 // that came with it, or below 0
-  bool waits;               // the request in `line` waits for the end of a round, and since when
+  bool waits;               // the request in `line` waits for the end of a round or for what a file lacks, and since when
   uint64_t since;
 };
 

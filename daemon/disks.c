@@ -8,6 +8,7 @@
 #include <unistd.h>
 
 #include "caches.h"
+#include "cluster.h"
 #include "log.h"
 #include "names.h"
 #include "paging.h"
@@ -61,19 +62,33 @@ static char *take_path(const char **at) {
   return NULL;
 }
 
+// Takes the word of an image of a Ceph cluster, as its name behind the scheme.
+static bool take_image(const char **at, struct disk *disk, char *why, size_t room) {
+  char *image = take_path(at), *name = image ? malloc(sizeof CLUSTER_SCHEME + strlen(image)) : NULL;
+  if (name) strcat(strcpy(name, CLUSTER_SCHEME), image);
+  free(image);
+  bool is_name = name && !disk->uri && cluster_is_name(name);
+  if (!is_name) return snprintf(why, room, "rbd= wants POOL/IMAGE or POOL/NAMESPACE/IMAGE, once, and no nbd="), free(name), false;
+  disk->uri = name;
+  return disk->is_rbd = true;
+}
+
 // Takes one word of a disk up to its end or to a comma. Returns false where there is no such word, or it is there already. Says why where
 // a name isn't one.
 static bool take_word(const char **at, struct disk *disk, char *why, size_t room) {
-  static const char file[] = "file=", nbd[] = "nbd=", punching[] = "detect-zeroes=unmap", narrow[] = "profile=narrow",
-                    wide[] = "profile=wide", protected[] = "read-only=on", writable[] = "read-only=off";
+  static const char *const texts[] = {"file=", "nbd=", "rbd-conf=", "rbd-user="};
+  static const char rbd[] = "rbd=", punching[] = "detect-zeroes=unmap", narrow[] = "profile=narrow", wide[] = "profile=wide",
+                    protected[] = "read-only=on", writable[] = "read-only=off";
+  char **const into[] = {&disk->path, &disk->uri, &disk->rbd_conf, &disk->rbd_user};
   size_t length = strcspn(*at, ",");
-  if (!strncmp(*at, file, sizeof file - 1)) {
-    *at += sizeof file - 1;
-    return !disk->path && (disk->path = take_path(at));
+  for (size_t i = 0; i < sizeof texts / sizeof *texts; i++) {
+    if (strncmp(*at, texts[i], strlen(texts[i]))) continue;
+    *at += strlen(texts[i]);
+    return !*into[i] && (*into[i] = take_path(at));
   }
-  if (!strncmp(*at, nbd, sizeof nbd - 1)) {
-    *at += sizeof nbd - 1;
-    return !disk->uri && (disk->uri = take_path(at));
+  if (!strncmp(*at, rbd, sizeof rbd - 1)) {
+    *at += sizeof rbd - 1;
+    return take_image(at, disk, why, room);
   }
   enum named named = names_take(disk, *at, length, why, room);
   if (named == NAMED_WELL) *at += length;
@@ -106,7 +121,7 @@ static const char no_read_only[] = "ro: read-only=on refuses what the guest writ
 // Returns why a disk can't be read-only for its guest, or NULL.
 static const char *protection_fault(const struct disk *disk) {
   if (disk->read_only || disk->grows) return "read-only=on takes no snapshot and no grow";
-  if (!disk->path) return "read-only=on wants file=PATH";
+  if (!disk->path && !disk->is_rbd) return "read-only=on wants file=PATH or rbd=IMAGE";
   return disk->wide ? NULL : "read-only=on wants profile=wide";
 }
 
@@ -114,8 +129,9 @@ static const char *protection_fault(const struct disk *disk) {
 static bool take_disk(struct disk *disk, const char *at, char *why, size_t room) {
   uint64_t target, lun;
   snprintf(why, room,
-           "%s: not T:L=SIZE[,file=PATH|,nbd=URI][,grow][,snapshot][,detect-zeroes=unmap][,write-cache=on][,cache-size=SIZE][,direct=on]"
-           "[,rerror=stop][,read-only=on][,profile=narrow|wide][,NAMES], T:L=file=PATH[,..] or T:L=nbd=URI[,..]",
+           "%s: not T:L=SIZE[,file=PATH|,nbd=URI|,rbd=IMAGE][,rbd-conf=PATH][,rbd-user=NAME][,grow][,snapshot][,detect-zeroes=unmap]"
+           "[,write-cache=on][,cache-size=SIZE][,direct=on][,rerror=stop][,read-only=on][,profile=narrow|wide][,NAMES], "
+           "T:L=file=PATH[,..], T:L=nbd=URI[,..] or T:L=rbd=IMAGE[,..]",
            at);
   if (!number(&at, 255, ':', &target) || !number(&at, 16383, '=', &lun)) return false;
   disk->target = (uint8_t)target;
@@ -129,11 +145,18 @@ static bool take_disk(struct disk *disk, const char *at, char *why, size_t room)
   if (!stands || *at) return false;
   const char *fault = disk->is_protected ? protection_fault(disk) : NULL;
   if (fault) return snprintf(why, room, "%s", fault), false;
-  disk->read_only = disk->read_only || disk->is_protected;
   bool wants_path = disk->read_only || disk->grows || (!has_size && !disk->uri);
   if (!disk->path && wants_path) return snprintf(why, room, "grow and snapshot want file=PATH"), false;
   if (disk->grows && (disk->read_only || !has_size)) return snprintf(why, room, "grow wants a size, and no snapshot"), false;
+  disk->read_only = disk->read_only || disk->is_protected;
   return true;
+}
+
+static void free_words(const struct disk *disk) {
+  free(disk->path);
+  free(disk->uri);
+  free(disk->rbd_conf);
+  free(disk->rbd_user);
 }
 
 bool disks_add(struct disks *disks, const char *words, char *why, size_t room) {
@@ -144,7 +167,7 @@ bool disks_add(struct disks *disks, const char *words, char *why, size_t room) {
     snprintf(why, room, "%s: there already, or one disk too many", words);
   }
   stands = stands && names_suit(disks, &disk, why, room) && caches_suit(&disk, why, room);
-  if (!stands) return free(disk.path), free(disk.uri), false;
+  if (!stands) return free_words(&disk), false;
   size_t place = disks->count;
   for (const struct disk *it = disks->disks; place; place--)
     if (it[place - 1].target < disk.target || (it[place - 1].target == disk.target && it[place - 1].lun < disk.lun)) break;
@@ -164,7 +187,13 @@ bool disks_are_whole(const struct disks *disks) {
 
 bool disks_connect(const struct disks *disks) {
   for (size_t i = 0; i < disks->count; i++)
-    if (disks->disks[i].uri) return true;
+    if (disks->disks[i].uri && !disks->disks[i].is_rbd) return true;
+  return false;
+}
+
+bool disks_have_images(const struct disks *disks) {
+  for (size_t i = 0; i < disks->count; i++)
+    if (disks->disks[i].is_rbd) return true;
   return false;
 }
 
@@ -182,8 +211,7 @@ static void close_disk(struct disks *disks, size_t which) {
   paging_leave(disks, &disks->disks[which]);
   store_drop(&disks->stores[which]);
   server_close(disks->disks[which].server);
-  free(disks->disks[which].path);
-  free(disks->disks[which].uri);
+  free_words(&disks->disks[which]);
 }
 
 void disks_remove(struct disks *disks, size_t which) {

@@ -28,7 +28,9 @@ struct disk {
   uint16_t lun;
   uint64_t blocks;  // 0 until its image is open, where the command line says no size
   char *path;       // of its image, or NULL
-  char *uri;        // of the NBD server that has it, or NULL: with neither the disk is in memory alone
+  char *uri;        // of the NBD server that has it, or of a Ceph cluster's image, or NULL: with neither the disk is in memory alone
+  bool is_rbd;      // it is an image's: CLUSTER_SCHEME and its name
+  char *rbd_conf, *rbd_user;  // the file of that cluster's configuration, and the user there, or NULL
   struct server *server;  // the connection to that, or NULL
   int file;         // below 0: there is no image, or it isn't open
   bool read_only;   // never written to that image
@@ -74,10 +76,10 @@ struct disks {
   size_t rest_disks[DEVICE_MOST_UNITS], rest_count;
 };
 
-// Adds the disk of words T:L=SIZE[,file=PATH|,nbd=URI][,grow][,snapshot][,detect-zeroes=unmap][,write-cache=on|off][,cache-size=SIZE]
-// [,direct=on|off][,rerror=report|stop][,read-only=on|off][,profile=narrow|wide][,NAMES], T:L=file=PATH[,..] or T:L=nbd=URI[,..], in its place of the order. A
-// comma of a path or a URI stands there twice. Opens nothing: images_open does that. Returns false, and says why, where the words name
-// no disk.
+// Adds the disk of words T:L=SIZE[,file=PATH|,nbd=URI|,rbd=IMAGE][,rbd-conf=PATH][,rbd-user=NAME][,grow][,snapshot][,detect-zeroes=unmap]
+// [,write-cache=on|off][,cache-size=SIZE][,direct=on|off][,rerror=report|stop][,read-only=on|off][,profile=narrow|wide][,NAMES],
+// T:L=file=PATH[,..], T:L=nbd=URI[,..] or T:L=rbd=IMAGE[,..], in its place of the order. A comma of a path, a URI or an image stands there
+// twice. Opens nothing: images_open does that. Returns false, and says why, where the words name no disk.
 bool disks_add(struct disks *disks, const char *words, char *why, size_t room);
 
 // Takes a size in bytes, with K, M, G or T behind it or none: whole blocks. `at` stands behind it then.
@@ -90,8 +92,9 @@ void disks_remove(struct disks *disks, size_t which);
 // Returns whether each target has a LUN 0, which the device asks for, and there is a disk.
 bool disks_are_whole(const struct disks *disks);
 
-// Returns whether an NBD server has one of them.
+// Returns whether an NBD server has one of them, and whether a Ceph cluster has.
 bool disks_connect(const struct disks *disks);
+bool disks_have_images(const struct disks *disks);
 
 // Closes all images and connections, and lets go of the blocks.
 void disks_close(struct disks *disks);

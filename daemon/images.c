@@ -12,8 +12,9 @@
 #include <unistd.h>
 
 #include "blocks.h"
+#include "cluster.h"
+#include "export.h"
 #include "folders.h"
-#include "server.h"
 #include "storage.h"
 
 // Where QEMU's locks are (block/file-posix.c): who uses a permission has a byte of the first run locked for reading, and who doesn't
@@ -53,7 +54,7 @@ static bool lock(const struct disk *disk, char *why, size_t room) {
   return true;
 }
 
-// Locks an image as the daemon begins. What the system reads and writes for a daemon that was killed keeps a file locked a moment longer, so
+// Locks an image as its disk comes. What the system reads and writes for a daemon that was killed keeps a file locked a moment longer, so
 // that of a backed disk is tried for a second.
 static bool lock_first(const struct disk *disk, char *why, size_t room) {
   enum { TRIES = 20, PAUSE = 50 };
@@ -120,9 +121,10 @@ static bool open_image(struct disk *disk, bool is_locked_now, char *why, size_t 
   return measure(disk, why, room) && (!is_locked_now || lock_first(disk, why, room)) && fits(disk, why, room) && make_direct(disk, why, room);
 }
 
-// Connects to the server of a disk, and tests that its export is as long as the disk.
+// Connects to the server of a disk, and tests that its export or its image is as long as the disk.
 static bool connect_disk(struct disk *disk, char *why, size_t room) {
-  disk->server = server_open(disk->uri, why, room);
+  const struct image_name image = {disk->uri, disk->rbd_conf, disk->rbd_user, disk->read_only};
+  disk->server = disk->is_rbd ? cluster_open(&image, why, room) : export_open(disk->uri, why, room);
   if (!disk->server) return false;
   disk->length = server_bytes(disk->server);
   if (!disk->blocks) disk->blocks = disk->length / DEVICE_BLOCK;
@@ -171,15 +173,17 @@ bool image_take(const struct disks *disks, struct disk *disk, char *why, size_t 
   bool suits = (flags & O_ACCMODE) == wanted || (flags & O_ACCMODE) == O_RDWR;
   if (!suits) return refuse(disk, "its descriptor isn't for writing. With read-only=on it is for reading alone", why, room);
   // What is written goes to the end of the file by the one, and has to be aligned by the other.
-  if (flags & (O_APPEND | O_DIRECT)) return refuse(disk, "its descriptor has O_APPEND or O_DIRECT", why, room);
-  if (!measure(disk, why, room) || (!is_loose(disks) && !lock(disk, why, room)) || !fits(disk, why, room)) return false;
+  if (flags & O_APPEND) return refuse(disk, "its descriptor has O_APPEND", why, room);
+  if (flags & O_DIRECT && !disk->is_direct) return refuse(disk, "its descriptor has O_DIRECT, and its disk no direct=on", why, room);
+  if (!measure(disk, why, room) || (!is_loose(disks) && !lock_first(disk, why, room))) return false;
+  if (!fits(disk, why, room) || !make_direct(disk, why, room)) return false;
   return disk->length == disk->blocks * DEVICE_BLOCK || grow(disks, disk, why, room);
 }
 
 bool image_resize(struct disk *disk, uint64_t blocks, char *why, size_t room) {
   struct stat stat;
   uint64_t bytes = blocks * DEVICE_BLOCK;
-  if (disk->server) return snprintf(why, room, "%s: an NBD server's disk stays as long as it is", disk->uri), false;
+  if (disk->server) return snprintf(why, room, "%s: a disk with nbd= or rbd= stays as long as it is", disk->uri), false;
   if (disk->file < 0 || disk->read_only) return true;
   if (disk->is_direct && bytes % PAGE_BYTES) return refuse(disk, "direct=on: no multiple of 4096 bytes", why, room);
   if (fstat(disk->file, &stat) || !measure(disk, why, room)) return refuse(disk, NULL, why, room);

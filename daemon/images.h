@@ -6,7 +6,7 @@
 
 #include "disks.h"
 
-// Opens and locks each image that is there, connects to each NBD server, and tests their lengths. Makes and changes nothing. An image that
+// Opens and locks each image that is there, connects to each server, and tests their lengths. Makes and changes nothing. An image that
 // isn't there is left to images_make. Returns false, and says why, where one can't be had: it is missing, denied, in use, or has another
 // length.
 //
@@ -18,6 +18,7 @@ bool images_open(struct disks *disks, char *why, size_t room);
 bool images_hold(struct disks *disks, char *why, size_t room);
 
 // Tests the length of an image that was opened by somebody else, and grows it where it is to grow. Locks it where the others are locked.
+// Has it read and written with no cache of the system's, where its words say so, also by whoever has this descriptor.
 bool image_take(const struct disks *disks, struct disk *disk, char *why, size_t room);
 
 // Makes an image as long as a disk of so many blocks. What a block device has behind the disk becomes zeros.

@@ -10,6 +10,7 @@
 #include <time.h>
 #include <unistd.h>
 
+#include "cluster.h"
 #include "control.h"
 #include "images.h"
 #include "listener.h"
@@ -22,7 +23,8 @@
 #include "signals.h"
 
 // PATIENCE: how long a front end may take for the rest of a message, in milliseconds, and for its first one where another wants its place.
-enum { EVENT_SIGNAL = 2000, EVENT_LISTENER = 2001, EVENT_CONTROL = 2002, EVENT_CLIENT = 2003, EVENTS = 32, REFUSED = 1, WRONG_WORDS = 2, WHY = 500, PATIENCE = 5000 };
+// WAITING: after how many an operator's request that waits is looked at once more.
+enum { EVENT_SIGNAL = 2000, EVENT_LISTENER = 2001, EVENT_CONTROL = 2002, EVENT_CLIENT = 2003, EVENTS = 32, REFUSED = 1, WRONG_WORDS = 2, WHY = 500, PATIENCE = 5000, WAITING = 50 };
 
 #ifdef DAEMON_JEMALLOC
 // What jemalloc reads as it begins: disks in memory are to stand on huge pages. MALLOC_CONF of the environment has the last word.
@@ -191,6 +193,8 @@ static bool serve(struct daemon *daemon) {
     }
     int rest = write_rest(daemon);
     if (rest >= 0 && (wait < 0 || rest < wait)) wait = rest;
+    // What the operator's request waits for may have come by that, with no event.
+    if (daemon->control.waits && (wait < 0 || wait > WAITING)) wait = WAITING;
     int count = epoll_wait(daemon->epoll, events, EVENTS, daemon->connected && daemon->session.more ? 0 : wait);
     if (count < 0 && errno != EINTR) return log_say(LOG_ERROR, NULL, "no event can be waited for: %s", strerror(errno)), false;
     if (!take_events(daemon, events, count)) return true;
@@ -213,18 +217,19 @@ static bool watch_all(struct daemon *daemon, char *why, size_t room) {
 static bool open_all(struct daemon *daemon, char *why, size_t room) {
   const struct options *options = &daemon->options;
   struct owner owner;
-  bool has_path = options->path, connects = disks_connect(&daemon->disks);
+  bool has_path = options->path;
+  const struct reach reach = {disks_connect(&daemon->disks), disks_have_images(&daemon->disks)};
   if (!sandbox_find(&owner, options->user, options->group, why, room)) return false;
   if (has_path ? !listener_can_bind(options->path, why, room) : !listener_take(&daemon->listener, options->fd, why, room)) return false;
   if (options->control && !listener_can_bind(options->control, why, room)) return false;
   if (!images_open(&daemon->disks, why, room) || !names_read(&daemon->disks, why, room)) return false;
   bool stands = images_make(&daemon->disks, owner.user, owner.group, why, room) &&
-                paging_open(&daemon->disks, why, room) && (daemon->disks.moves || blocks_load(&daemon->disks, why, room)) &&
+                paging_open(&daemon->disks, options->control, why, room) && (daemon->disks.moves || blocks_load(&daemon->disks, why, room)) &&
                 (!has_path || listener_bind(&daemon->listener, options->path, options->mode, owner.user, owner.group, why, room)) &&
                 (!options->control || listener_bind(&daemon->operators, options->control, 0600, owner.user, owner.group, why, room)) &&
                 watch_all(daemon, why, room) && (names_keep(&daemon->disks, owner.user, owner.group), true) &&
                 sandbox_become(&owner, why, room) &&
-                (!options->limits || sandbox_limit(options->path, options->control, options->log, connects, why, room));
+                (!options->limits || sandbox_limit(options->path, options->control, options->log, reach, why, room));
   if (stands) return true;
   names_undo(&daemon->disks);
   images_undo(&daemon->disks);
@@ -241,7 +246,7 @@ static int run(struct daemon *daemon) {
   char why[WHY];
   daemon->signals = signals_begin();
   daemon->epoll = epoll_create1(EPOLL_CLOEXEC);
-  if (!sandbox_begin() || !watch(daemon->epoll, daemon->signals, EVENT_SIGNAL)) return refuse(strerror(errno));
+  if (!sandbox_begin(disks_have_images(&daemon->disks)) || !watch(daemon->epoll, daemon->signals, EVENT_SIGNAL)) return refuse(strerror(errno));
   if (!open_all(daemon, why, sizeof why)) {
     if (signals_end_waits()) return log_say(LOG_NOTE, NULL, "ended before it served"), 0;
     return refuse(why);
@@ -289,5 +294,7 @@ int main(int count, char **words) {
   if (daemon->epoll >= 0) close(daemon->epoll);
   disks_close(&daemon->disks);
   free(daemon);
+  // A thread that waits for a cluster calls libraries whose values an ordinary end would take away.
+  if (cluster_is_busy()) _exit(status);
   return status;
 }

@@ -10,9 +10,10 @@
 #include <unistd.h>
 
 #include "backend.h"
+#include "cluster.h"
 #include "control.h"
+#include "export.h"
 #include "sandbox.h"
-#include "server.h"
 #include "storage.h"
 
 #ifndef VSCSI_DAEMON_VERSION
@@ -24,7 +25,7 @@
 #define CAPABILITIES_OF "{\"type\": \"scsi\", \"features\": []}\n"
 
 static const char usage[] =
-    "vscsi-vhost-user --socket PATH|--fd N --disk T:L=SIZE[,file=PATH|,nbd=URI][,grow][,snapshot][,detect-zeroes=unmap]"
+    "vscsi-vhost-user --socket PATH|--fd N --disk T:L=SIZE[,file=PATH|,nbd=URI|,rbd=IMAGE][,grow][,snapshot][,detect-zeroes=unmap]"
     "[,write-cache=on][,cache-size=SIZE][,direct=on][,rerror=stop][,read-only=on][,profile=narrow|wide][,NAMES] ..\n"
     "A virtio SCSI device for a vhost-user front end.\n"
     "\n"
@@ -32,7 +33,7 @@ static const char usage[] =
     "  --fd N               take the listening or connected socket with this number\n"
     "  --mode OCTAL         the mode of the socket at PATH\n"
     "  --disk T:L=SIZE      a disk at target T and LUN L, of SIZE bytes, or K, M, G or T of them\n"
-    "  --disk T:L=file=PATH a disk as long as its file, or with nbd=URI as its export\n"
+    "  --disk T:L=file=PATH a disk as long as its file, or with nbd=URI or rbd=IMAGE as its export or its image\n"
     "      file=PATH        keep it on this file or block device; a comma of the path is written twice\n"
     "      grow             make a shorter file as long as SIZE\n"
     "      snapshot         never write the file; what the guest writes is lost at the end\n"
@@ -41,6 +42,9 @@ static const char usage[] =
     "                       What the guest hasn't flushed is lost where the daemon is killed\n"
     "      nbd=URI          keep it on an NBD server in place of a file, with a write cache: nbd://HOST[:PORT]/EXPORT, or\n"
     "                       nbd+unix:///EXPORT?socket=PATH; a comma is written twice\n"
+    "      rbd=IMAGE        keep it on an image of a Ceph cluster, with a write cache: POOL/IMAGE or POOL/NAMESPACE/IMAGE\n"
+    "      rbd-conf=PATH, rbd-user=NAME\n"
+    "                       have that cluster's configuration from this file, and be this user there: admin is the default\n"
     "      cache-size=SIZE  have at most SIZE bytes of it in memory, 33M or more; 64M is the default\n"
     "      direct=on        read and write it with no cache of the system's (O_DIRECT)\n"
     "      rerror=stop      have a command that needs what can't be read wait, in place of rerror=report: MEDIUM ERROR\n"
@@ -184,8 +188,9 @@ enum wanted options_read(struct options *options, struct disks *disks, int count
     if (word == VERSION_WORD) {
       const char *built = sandbox_has_seccomp() ? "with seccomp" : "without seccomp";
       const char *ring = storage_is_built() ? "with io_uring" : "without io_uring";
-      const char *far = server_is_built() ? "with NBD" : "without NBD";
-      bool said = printf("vscsi-vhost-user %s\n%s\n%s\n%s\n", VSCSI_DAEMON_VERSION, built, ring, far) > 0;
+      const char *far = export_is_built() ? "with NBD" : "without NBD";
+      const char *loads = cluster_is_built() && storage_is_built() ? "with RBD" : "without RBD";
+      bool said = printf("vscsi-vhost-user %s\n%s\n%s\n%s\n%s\n", VSCSI_DAEMON_VERSION, built, ring, far, loads) > 0;
       return said && !fflush(stdout) ? WANTED_NOTHING : WANTED_WRONG;
     }
     if (word == '?' || !take(options, disks, word, optarg)) return fputs("--help says the words\n", stderr), WANTED_WRONG;

@@ -33,10 +33,16 @@ static bool open_disk(struct disk *disk, char *why, size_t room) {
   return true;
 }
 
-bool paging_open(struct disks *disks, char *why, size_t room) {
-  if (!paging_is_there(disks)) return true;
-  disks->storage = storage_make(why, room);
-  bool stands = disks->storage;
+bool paging_join(struct disks *disks, struct disk *disk, char *why, size_t room) {
+  if (disks->storage) return open_disk(disk, why, room);
+  return snprintf(why, room, "write-cache=on: the daemon began without io_uring, which the system refused"), false;
+}
+
+bool paging_open(struct disks *disks, bool comes, char *why, size_t room) {
+  bool is_there = paging_is_there(disks);
+  // The daemon's limits allow no ring to be made later.
+  if (is_there || (comes && storage_is_built())) disks->storage = storage_make(why, room);
+  bool stands = disks->storage || !is_there;
   for (size_t i = 0; stands && i < disks->count; i++) {
     if (!disks->disks[i].is_backed) continue;
     stands = open_disk(&disks->disks[i], why, room);
@@ -378,6 +384,7 @@ static void begin_writes(struct disks *disks, size_t which, struct device *devic
   struct paging *paging = disk->paging;
   struct gathering gathering = {disks, which, disk->error ? 1 : MOST_TRANSFERRED, NULL, NULL};
   bool punches = disk->punches && !paging->is_device && !paging->has_no_holes;
+  paging->gave_all = false;
   if (is_away(disk) || (disk->error && clock_now() < disk->due)) return;
   paging->fails = false;
   // Each transfer that is begun here takes a run, and so may those that were gathered.
@@ -390,6 +397,7 @@ static void begin_writes(struct disks *disks, size_t which, struct device *devic
     enum given given = device_give(device, paging->target, paging->lun, &page, buffer);
     bool is_hole = given == GIVEN_PAGE && punches && is_zeros(buffer);
     paging->starves = paging->starves || given == GIVEN_REFUSED;
+    paging->gave_all = given == GIVEN_NONE;
     if (given != GIVEN_PAGE || is_hole) storage_put_buffer(disks->storage, buffer, TRANSFER_WRITE);
     if (given != GIVEN_PAGE) break;
     note_stale(disks, which, page);
@@ -598,10 +606,13 @@ bool paging_end_rest(struct disks *disks) {
   return ended;
 }
 
-// Returns whether a disk's file has all, behind paging_give.
-static bool is_written(const struct disk *disk) {
-  const struct paging *paging = disk->paging;
-  return !paging->transfers && !paging->run_count && !paging->starves && !is_away(disk) && !(disk->error && clock_now() < disk->due);
+// Finds whether a disk's file has all, behind paging_give for the daemon's own device: nothing is changed there any more.
+static bool note_written(struct disk *disk) {
+  struct paging *paging = disk->paging;
+  if (!paging) return true;
+  bool is_written = paging->gave_all && !paging->transfers && !paging->run_count;
+  if (is_written) paging->is_left = false;
+  return is_written;
 }
 
 bool paging_write_rest(struct disks *disks) {
@@ -614,7 +625,7 @@ bool paging_write_rest(struct disks *disks) {
   paging_take(disks, &disks->rest);
   paging_give(disks, &disks->rest, WAITS_SURELY);
   paging_tell(disks);
-  for (size_t i = 0; i < disks->count; i++) is_done = is_done && (!disks->disks[i].paging || is_written(&disks->disks[i]));
+  for (size_t i = 0; i < disks->count; i++) is_done = note_written(&disks->disks[i]) && is_done;
   return !is_done || !paging_end_rest(disks) || paging_are_left(disks);
 }
 

@@ -41,6 +41,7 @@ struct paging {
   uint8_t target;          // by which the device knows the disk, and
   uint16_t lun;
   bool is_left;            // memory may have pages that the file lacks
+  bool gave_all;           // the device had no page to be written when it was last to give some
   bool is_device;          // the file is a block device
   unsigned losses;         // of connections to its server, behind which what was written was given up
   unsigned told_losses;    // and of which it was said
@@ -61,10 +62,13 @@ struct paging {
 // Returns whether a disk is backed.
 bool paging_is_there(const struct disks *disks);
 
-// Makes what backed disks need beside their files, which are open. Returns false, and says why, where it can't be. paging_close lets go of
-// it.
-bool paging_open(struct disks *disks, char *why, size_t room);
+// Makes what backed disks need beside their files, which are open, and what one needs that comes later, where `comes` says that one may.
+// Returns false, and says why, where a disk that is there can't have it. paging_close lets go of it.
+bool paging_open(struct disks *disks, bool comes, char *why, size_t room);
 void paging_close(struct disks *disks);
+
+// Makes what a backed disk needs that comes later, whose file is open. Returns false, and says why, where it can't be.
+bool paging_join(struct disks *disks, struct disk *disk, char *why, size_t room);
 
 // Lets go of what one disk has of it, with which nothing is under way.
 void paging_leave(struct disks *disks, struct disk *disk);

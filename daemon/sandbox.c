@@ -18,18 +18,21 @@
 #ifdef DAEMON_SECCOMP
 #include <seccomp.h>
 #include <linux/fs.h>
+#include <sched.h>
 #include <sys/mman.h>
 #include <sys/socket.h>
 #endif
 
-// Open files: each disk's, three a queue, a region of memory's each, and what came with a message.
-enum { MOST_OPEN = 1024 };
+// Open files: each disk's, three a queue, a region of memory's each, and what came with a message. With images a connection to each server
+// of their clusters besides.
+enum { MOST_OPEN = 1024, MOST_CONNECTED = 65536 };
 
-bool sandbox_begin(void) {
+bool sandbox_begin(bool has_images) {
   struct rlimit files;
+  const rlim_t most = has_images ? MOST_CONNECTED : MOST_OPEN;
   if (prctl(PR_SET_NO_NEW_PRIVS, 1, 0, 0, 0) || setrlimit(RLIMIT_CORE, &(struct rlimit){0})) return false;
   if (getrlimit(RLIMIT_NOFILE, &files)) return false;
-  files.rlim_cur = files.rlim_max < MOST_OPEN ? files.rlim_max : MOST_OPEN;
+  files.rlim_cur = files.rlim_max < most ? files.rlim_max : most;
   return !setrlimit(RLIMIT_NOFILE, &files);
 }
 
@@ -160,13 +163,30 @@ static int allow_connections(scmp_filter_ctx filter) {
   return failed;
 }
 
-// Returns 0, or an error number below 0.
-static int limit_calls(bool unlinks, bool opens, bool connects) {
-  scmp_filter_ctx filter = seccomp_init(SCMP_ACT_KILL_PROCESS);
+// Allows what librbd's threads take besides: threads, their names, and connections that are looked after. clone3 fails, as nothing looks into
+// what it is given, and the C library has clone in place of it then.
+static int allow_threads(scmp_filter_ctx filter) {
+  static const int more[] = {SCMP_SYS(set_robust_list), SCMP_SYS(rseq), SCMP_SYS(sigaltstack), SCMP_SYS(sched_getaffinity), SCMP_SYS(membarrier),
+                             SCMP_SYS(nanosleep), SCMP_SYS(clock_getres), SCMP_SYS(select), SCMP_SYS(pselect6), SCMP_SYS(epoll_create), SCMP_SYS(epoll_create1),
+                             SCMP_SYS(eventfd2), SCMP_SYS(pipe2), SCMP_SYS(readv), SCMP_SYS(getsockname), SCMP_SYS(getpeername),
+                             SCMP_SYS(getuid), SCMP_SYS(geteuid), SCMP_SYS(getgid), SCMP_SYS(getegid), SCMP_SYS(getrusage),
+                             SCMP_SYS(uname)};
+  int failed = allow(filter, SCMP_SYS(clone), 0, CLONE_THREAD, CLONE_THREAD);
+  if (!failed) failed = allow(filter, SCMP_SYS(prctl), 0, UINT32_MAX, PR_SET_NAME);
+  for (size_t i = 0; !failed && i < sizeof more / sizeof *more; i++) failed = seccomp_rule_add(filter, SCMP_ACT_ALLOW, more[i], 0);
+  return failed;
+}
+
+// Returns 0, or an error number below 0. What librbd calls depends on its version, so a call of its own that isn't known here fails, and
+// doesn't end the process.
+static int limit_calls(bool unlinks, bool opens, struct reach reach) {
+  scmp_filter_ctx filter = seccomp_init(reach.has_images ? SCMP_ACT_ERRNO(ENOSYS) : SCMP_ACT_KILL_PROCESS);
   int failed = filter ? 0 : -ENOMEM;
   for (size_t i = 0; !failed && i < sizeof calls / sizeof *calls; i++) failed = seccomp_rule_add(filter, SCMP_ACT_ALLOW, calls[i], 0);
   if (!failed) failed = allow_some(filter, unlinks, opens);
-  if (!failed && connects) failed = allow_connections(filter);
+  if (!failed && (reach.connects || reach.has_images)) failed = allow_connections(filter);
+  if (!failed && reach.has_images) failed = allow_threads(filter);
+  if (!failed && reach.has_images) failed = seccomp_attr_set(filter, SCMP_FLTATR_CTL_TSYNC, 1);
   if (!failed) failed = seccomp_load(filter);
   if (filter) seccomp_release(filter);
   calls_are_limited = !failed;
@@ -175,20 +195,20 @@ static int limit_calls(bool unlinks, bool opens, bool connects) {
 #else
 bool sandbox_has_seccomp(void) { return false; }
 
-static int limit_calls(bool unlinks, bool opens, bool connects) {
+static int limit_calls(bool unlinks, bool opens, struct reach reach) {
   (void)unlinks;
   (void)opens;
-  (void)connects;
+  (void)reach;
   return 0;
 }
 #endif
 
-bool sandbox_limit(const char *socket, const char *control, const char *log, bool connects, char *why, size_t room) {
+bool sandbox_limit(const char *socket, const char *control, const char *log, struct reach reach, char *why, size_t room) {
   const char *what = "files";
   int failed = limit_files(socket, control, log) ? 0 : -errno;
   if (!failed) {
     what = "system calls";
-    failed = limit_calls(socket || control, log, connects);
+    failed = limit_calls(socket || control, log, reach);
   }
   if (failed) snprintf(why, room, "%s can't be limited: %s; --seccomp off leaves that out", what, strerror(-failed));
   return !failed;

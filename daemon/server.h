@@ -1,5 +1,5 @@
-// The connection to an NBD server that has a disk's blocks, by libnbd. Where it is lost it is made anew. A daemon that is built without
-// libnbd has none.
+// What has a disk's blocks in place of a file: an NBD server's export (export.h), or an image of a Ceph cluster (cluster.h). All of these
+// calls are made by the daemon's own thread.
 #ifndef DAEMON_SERVER_H
 #define DAEMON_SERVER_H
 
@@ -11,15 +11,9 @@
 
 struct server;
 
-// Returns whether this daemon is built with libnbd.
-bool server_is_built(void);
-
-// Connects to the export that a URI names, and waits for it. Returns NULL, and says why, where it can't be had, is read-only, can't flush,
-// or doesn't take pages.
-struct server *server_open(const char *uri, char *why, size_t room);
 void server_close(struct server *server);
 
-// Returns how many bytes the export has, and whether it takes zeros that aren't sent.
+// Returns how many bytes it has, and whether it takes zeros that aren't sent.
 uint64_t server_bytes(const struct server *server);
 bool server_zeroes(const struct server *server);
 
@@ -46,7 +40,8 @@ bool server_is_there(const struct server *server);
 unsigned server_losses(const struct server *server);
 const char *server_fault(const struct server *server);
 
-// Says what is to be polled until server_turn has something to do. Returns false where nothing is.
+// Says what is to be polled until server_turn has something to do, unless server_has_next says behind this that there is something. Returns
+// false where nothing is.
 bool server_asks(struct server *server, struct pollfd *asked);
 
 #endif

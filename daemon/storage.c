@@ -23,7 +23,8 @@ struct storage {
   uint64_t busy[MOST_BUFFERS / BITS];                 // a bit for each that something has
   struct server *servers[DEVICE_MOST_UNITS];
   size_t server_count;
-  struct transfer transfers[MOST_TRANSFERS], *idle;   // those that nothing has
+  struct transfer transfers[MOST_TRANSFERS], *idle;   // those that nothing has any more
+  size_t fresh;                                       // how many were ever taken: memory of the others isn't touched
   struct transfer *under_way[TRANSFER_KINDS];
   size_t taken[TRANSFER_KINDS], buffered[TRANSFER_KINDS];
   bool passes;  // storage_pass waits
@@ -42,7 +43,6 @@ struct storage *storage_make(char *why, size_t room) {
     if (storage->uring) uring_end(storage->uring);
     return free(storage), NULL;
   }
-  for (size_t i = MOST_TRANSFERS; i-- > 0; storage->idle = &storage->transfers[i]) storage->transfers[i].next = storage->idle;
   return storage;
 }
 
@@ -75,13 +75,20 @@ static enum transfer_kind side_of(enum transfer_kind kind) {
 
 static bool is_read(const struct transfer *transfer) { return transfer->kind == TRANSFER_READ || transfer->kind == TRANSFER_AHEAD; }
 
+// Takes a transfer that nothing has, or returns NULL.
+static struct transfer *take_idle(struct storage *storage) {
+  struct transfer *transfer = storage->idle;
+  if (transfer) storage->idle = transfer->next;
+  else if (storage->fresh < MOST_TRANSFERS) transfer = &storage->transfers[storage->fresh++];
+  return transfer;
+}
+
 struct transfer *storage_take(struct storage *storage, enum transfer_kind kind) {
   enum transfer_kind side = side_of(kind);
   // Reads ahead leave half of them to READs.
   size_t most = kind == TRANSFER_AHEAD ? MOST_OF_KIND / 2 : MOST_OF_KIND;
-  struct transfer *transfer = side == TRANSFER_SYNC || storage->taken[side] < most ? storage->idle : NULL;
+  struct transfer *transfer = side == TRANSFER_SYNC || storage->taken[side] < most ? take_idle(storage) : NULL;
   if (!transfer) return NULL;
-  storage->idle = transfer->next;
   storage->taken[side]++;
   transfer->kind = kind;
   transfer->count = 0;
@@ -249,8 +256,8 @@ void storage_wait(struct storage *storage, unsigned milliseconds) {
   struct pollfd asked[DEVICE_MOST_UNITS];
   unsigned count = 0;
   for (size_t i = 0; i < storage->server_count; i++) {
-    if (server_has_next(storage->servers[i])) milliseconds = 0;
     count += server_asks(storage->servers[i], &asked[count]);
+    if (server_has_next(storage->servers[i])) milliseconds = 0;
   }
   uring_wait(storage->uring, asked, count, milliseconds);
 }

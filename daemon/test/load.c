@@ -32,7 +32,7 @@ static void make(struct disks *disks, unsigned count, const char *size, const ch
     MUST(disks_add(disks, words, why, sizeof why));
   }
   MUST(images_open(disks, why, sizeof why) && images_make(disks, (uid_t)-1, (gid_t)-1, why, sizeof why));
-  MUST(paging_open(disks, why, sizeof why));
+  MUST(paging_open(disks, false, why, sizeof why));
   faults_clear();
   faults.storage = disks->storage;
 }

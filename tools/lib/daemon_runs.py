@@ -5,10 +5,12 @@ where something isn't so.
 """
 
 import contextlib
+import ctypes.util
 import errno
 import fcntl
 import json
 import os
+import pwd
 import random
 import re
 import resource
@@ -34,8 +36,8 @@ READS, WRITES, RESIZES = 0, 1, 3
 class Room:
     """Where a test runs: a folder of its own, the daemon, and what was built beside it."""
 
-    def __init__(self, folder, program, shim=None, client=None):
-        self.folder, self.program, self.shim, self.client = folder, program, shim, client
+    def __init__(self, folder, program, shim=None, client=None, ceph=None):
+        self.folder, self.program, self.shim, self.client, self.ceph = folder, program, shim, client, ceph
         self.socket = folder / "socket"
         # What the daemon does within a second has this long, since the machine may be busy; sanitizers look for leaks at the end.
         self.late = 2 if shim else 10
@@ -210,7 +212,8 @@ def test_words(room):
         assert room.ends(*words, status=2) == ""
     usage = room.ends("--help", status=0)
     assert all(word in usage for word in ("--socket", "--disk", "--user", "--log", "snapshot", "grow"))
-    assert re.fullmatch(r"vscsi-vhost-user \d+\.\d+\S*\nwith(out)? seccomp\nwith(out)? io_uring\nwith(out)? NBD\n", room.ends("--version", status=0))
+    told = "".join(rf"\nwith(out)? {what}" for what in ("seccomp", "io_uring", "NBD", "RBD"))
+    assert re.fullmatch(rf"vscsi-vhost-user \d+\.\d+\S*{told}\n", room.ends("--version", status=0))
 
 
 def test_conventions(room):
@@ -224,7 +227,7 @@ def test_conventions(room):
 
 def test_documents(room):
     """The manual page and --help have the same words, and the page on the daemon has no other."""
-    words = r"--[a-z][a-z-]*|\b(?:grow|snapshot|detect-zeroes|write-cache|cache-size|direct|read-only|nbd|rerror)\b"
+    words = r"--[a-z][a-z-]*|\b(?:grow|snapshot|detect-zeroes|write-cache|cache-size|direct|read-only|nbd|rbd-conf|rbd-user|rbd|rerror)\b"
     said = [set(re.findall(words, text.replace("\\-", "-"))) for text in (
         room.ends("--help", status=0),
         (DOCS / "vscsi-vhost-user.1").read_text().split(".SH OPTIONS")[1].split(".SH ")[0],
@@ -1047,7 +1050,7 @@ def test_cache_words(room):
                f"file={image},write-cache=on,cache-size=64M,cache-size=64M": "cache-size= wants a size, once",
                f"file={image},write-cache=on,cache-size=0": "cache-size= wants a size", f"file={image},write-cache=on,cache-size=32M": "cache-size= is 33M at least",
                f"file={image},cache-size=64M": "cache-size= wants write-cache=on", f"file={image},write-cache=off,cache-size=64M": "cache-size= wants write-cache=on",
-               f"file={image},direct=on": "direct=on wants write-cache=on", "write-cache=on": "write-cache=on wants file=PATH or nbd=URI",
+               f"file={image},direct=on": "direct=on wants write-cache=on", "write-cache=on": "write-cache=on wants file=PATH, nbd=URI or rbd=IMAGE",
                f"file={image},write-cache=on,profile=narrow": "write-cache=on wants profile=wide",
                f"file={image},profile=narrow,write-cache=on": "write-cache=on wants profile=wide",
                f"file={image},write-cache=on,snapshot": "write-cache=on takes no snapshot"}
@@ -1114,10 +1117,16 @@ def test_cached_killed(room):
     """What a guest flushed is on the file when the daemon is killed while it writes, or a later version of the same page is."""
     if not has_ring(room):
         return NO_RING
-    choose, image = random.Random(), room.folder / "image"
-    flushed, latest, version = {}, {}, 0
-    for _ in range(KILLS):
-        with room.runs("--quiet", "--disk", f"0:0=256M,file={image}{CACHED}", ends=-signal.SIGKILL, by=signal.SIGKILL), FrontEnd(connected(room.socket)) as front:
+    image = room.folder / "image"
+    kill_and_compare(room, f"0:0=256M,file={image}{CACHED}", image, KILLS)
+    return None
+
+
+def kill_and_compare(room, disk, image, kills, **more):
+    """Kills the daemon so many times while a guest writes, and compares what its disk's image has each time."""
+    choose, flushed, latest, version = random.Random(), {}, {}, 0
+    for _ in range(kills):
+        with room.runs("--quiet", "--disk", disk, ends=-signal.SIGKILL, by=signal.SIGKILL, **more), FrontEnd(connected(room.socket)) as front:
             for _ in range(choose.randrange(5, 60)):
                 version += 1
                 pages = [choose.randrange(1 << choose.choice((6, 16))) for _ in range(choose.randrange(1, 15))]
@@ -1146,7 +1155,6 @@ def test_cached_killed(room):
                 latest[page] = struct.unpack("<II", file.read(8))[1]
                 if not latest[page]:
                     del latest[page]
-    return None
 
 
 def test_cached_held(room):
@@ -1246,7 +1254,7 @@ def test_cached_device(room):
 
 
 def test_cached_control(room):
-    """A disk with a cache gets another size while a guest writes it, and tells of its pages. It has to be there from the start."""
+    """A disk with a cache gets another size while a guest writes it, and tells of its pages."""
     if not room.client or not has_ring(room):
         return "no libjansson-dev or no liburing-dev"
     path, image = room.folder / "control", room.folder / "image"
@@ -1284,6 +1292,186 @@ def test_cached_control(room):
         with FrontEnd(connected(room.socket)) as front:
             number = run_cached(front, [("read", 9, 0)])[0]
             assert front.data(number, 4096) == stamped(9, 3)
+    return None
+
+
+def counts_open(run, control):
+    """Returns what says whether a daemon has as many files open, while it serves a client of its control socket, as it has now."""
+    def count():
+        with Asking(control) as asking:
+            assert "version" in asking.ask("stats")
+            return len(os.listdir(f"/proc/{run.pid}/fd"))
+
+    before = count()
+    return lambda: count() == before
+
+
+def test_control_attaches_cached(room):
+    """A disk with a cache comes by the words that the command line takes, within the daemon's limits, and is read and written as others."""
+    if not room.client or not has_ring(room):
+        return "no libjansson-dev or no liburing-dev"
+    path, asks = room.folder / "control", asking_by_client(room)
+    with room.runs("--disk", "0:0=1M", "--control", path, "--log", room.folder / "log") as run:
+        is_same_open = counts_open(run, path)
+        for version, more in enumerate(("", ",direct=on", ",detect-zeroes=unmap,rerror=stop,serial=one"), 1):
+            image = room.folder / f"image{version}"
+            asks("attach", f"0:1=256M,file={image},grow{CACHED}{more}")
+            with FrontEnd(connected(room.socket)) as front, image.open("rb") as file:
+                assert is_locked(file, 100 + WRITES)
+                room.ends("--socket", room.folder / "other", "--disk", f"0:0=file={image}{CACHED}", status=1, says="in use")
+                for first in range(0, 9000, 15):
+                    for page in range(first, first + 15):
+                        front.write(8 * page, stamped(page, version), 1)
+                    wait_for(lambda: front.answered() == front.count & 0xFFFF, "WRITEs", pause=0.0005)  # noqa: B023
+                front.write(8 * 3, bytes(4096), 1)
+                front.flush(1)
+                front.read(8 * 5, 4096, 1)
+                wait_for(lambda: front.answered() == front.count, "the SYNCHRONIZE CACHE")  # noqa: B023
+                assert not front.status(front.count - 2) and front.data(front.count - 1, 4096) == stamped(5, version)
+                assert all(has(image, 4096 * page, stamped(page, version) if page != 3 else bytes(4096)) for page in (0, 3, 5, 4000, 8999))
+                # What isn't flushed is on the file once the disk is gone, also where it goes at once.
+                front.write(8 * 60000, stamped(60000, version), 1)
+                wait_for(lambda: front.answered() == front.count, "a WRITE")  # noqa: B023
+            wait_for(lambda: not asks("stats")["return"]["front-end"], "the end of the session")
+            asks("detach", "0:1")
+            assert has(image, 4096 * 60000, stamped(60000, version)) and is_same_open()
+        # One that is read only, of which the file can't be written.
+        image.chmod(0o400)
+        asks("attach", f"0:1=file={image}{CACHED},read-only=on")
+        with FrontEnd(connected(room.socket)) as front:
+            front.read(8 * 8999, 4096, 1)
+            front.write(0, bytes(4096), 1)
+            wait_for(lambda: front.answered() == 2, "both")
+            # SPC-4 4.5.3 and table F.1: DATA PROTECT, WRITE PROTECTED.
+            assert front.data(0, 4096) == stamped(8999, 3) and front.status(1) == 2 and front.sense(1)[2] == 7
+    assert has(image, 0, stamped(0, 3))
+    # What a guest flushed stays where the daemon is killed.
+    image = room.folder / "killed"
+    with room.runs("--disk", "0:0=1M", "--control", path, "--quiet", ends=-signal.SIGKILL, by=signal.SIGKILL):
+        asks("attach", f"0:1=64M,file={image},grow{CACHED}")
+        with FrontEnd(connected(room.socket)) as front:
+            front.write(8 * 7, stamped(7, 7), 1)
+            front.flush(1)
+            wait_for(lambda: front.answered() == 2 and not front.status(1), "the SYNCHRONIZE CACHE")
+    assert has(image, 4096 * 7, stamped(7, 7))
+    with room.runs("--disk", "0:0=1M", "--control", path):
+        asks("attach", f"0:1=file={image}{CACHED}")
+    return None
+
+
+def test_control_refuses_cached(room):
+    """A disk with a cache that can't come is refused by name, and nothing is left of it."""
+    if not room.client or not has_ring(room):
+        return "no libjansson-dev or no liburing-dev"
+    path, asks = room.folder / "control", asking_by_client(room)
+    image, odd = room.file("image", 64 * MIB), room.file("odd", 1050112)
+    with room.runs("--disk", "0:0=1M", "--control", path) as run:
+        is_same_open = counts_open(run, path)
+        refused_words = {f"file={image},write-cache=on,cache-size=32M": "cache-size= is 33M at least", f"file={image},write-cache=on,snapshot": "takes no snapshot",
+                         f"file={image},direct=on": "direct=on wants write-cache=on", f"file={image},write-cache=on,profile=narrow": "wants profile=wide",
+                         f"65M,file={image}{CACHED}": "shorter than the disk", f"63M,file={image}{CACHED}": "longer than the disk",
+                         f"file={odd}{CACHED},direct=on": "direct=on: the disk has no multiple of 4096 bytes"}
+        if "with NBD" in room.ends("--version", status=0):
+            refused_words["nbd=nbd://localhost/"] = "nbd=: the daemon has to begin with such a disk"
+        for words, says in refused_words.items():
+            error = asks("attach", f"0:1={words}", status=1)["error"]
+            assert error["name"] == "BadDisk" and says in error["text"], (words, error)
+        for flags, more, is_taken in ((os.O_RDWR | os.O_APPEND, "", False), (os.O_RDWR | os.O_DIRECT, "", False), (os.O_RDONLY, "", False),
+                                      (os.O_RDWR | os.O_DIRECT, ",direct=on", True), (os.O_RDONLY, ",read-only=on", True)):
+            descriptor = os.open(image, flags)
+            with Asking(path) as asking:
+                said = asking.ask("attach", disk=f"0:1=file={image}{CACHED}{more}", files=[descriptor])
+                assert said == ({} if is_taken else "BadDisk"), (flags, more, said)
+                assert not is_taken or asking.ask("detach", disk="0:1") == {}
+            os.close(descriptor)
+        # A file that another daemon has is tried for a second.
+        with room.runs("--disk", f"0:0=file={image}{CACHED}", path=room.folder / "other"):
+            assert "in use" in asks("attach", f"0:1=file={image}{CACHED}", status=1)["error"]["text"]
+        asks("attach", f"0:1=file={image}{CACHED}")
+        assert asks("attach", f"0:2=file={image}{CACHED}", status=1)["error"]["name"] == "BadDisk"
+        with connected(room.socket) as front:
+            assert is_served(front) and asks("attach", f"0:2=1M,file={odd}{CACHED}", status=1)["error"]["name"] == "InUse"
+            assert asks("detach", "0:1", status=1)["error"]["name"] == "InUse"
+        wait_for(lambda: not asks("stats")["return"]["front-end"], "the end of the session")
+        asks("detach", "0:1")
+        assert is_same_open()
+    assert image.read_bytes() == b"\x5a" * 64 * MIB
+
+
+def refuse_rings():
+    """Has the system refuse io_uring to this process, by libseccomp."""
+    library = ctypes.CDLL(ctypes.util.find_library("seccomp"))
+    library.seccomp_init.restype = ctypes.c_void_p
+    allows, fails, io_uring_setup = 0x7FFF0000, 0x00050000, 425
+    rules = ctypes.c_void_p(library.seccomp_init(ctypes.c_uint32(allows)))
+    assert not library.seccomp_rule_add(rules, ctypes.c_uint32(fails | errno.EPERM), io_uring_setup, 0) and not library.seccomp_load(rules)
+
+
+def test_control_without_rings(room):
+    """Where the system refuses io_uring a daemon with a control socket serves all the same, and a disk with a cache can't come."""
+    if not room.client or not has_ring(room) or not ctypes.util.find_library("seccomp"):
+        return "no libjansson-dev, no liburing-dev or no libseccomp"
+    path, asks, image = room.folder / "control", asking_by_client(room), room.file("image", 64 * MIB)
+    room.refuses("--disk", f"0:0=file={image}{CACHED}", says="write-cache=on: no io_uring: Operation not permitted", preexec_fn=refuse_rings)
+    with room.runs("--disk", "0:0=1M", "--control", path, preexec_fn=refuse_rings):
+        error = asks("attach", f"0:1=65M,grow,file={image}{CACHED}", status=1)["error"]
+        assert error["name"] == "BadDisk" and "began without io_uring" in error["text"] and image.stat().st_size == 64 * MIB
+        asks("attach", f"0:1=file={image}")
+        assert serves(room.socket)
+    return None
+
+
+def test_control_detaches_cached(room):
+    """A disk with a cache goes once its file has all. Where that can't be written it stays, and others go."""
+    if not room.client or not has_ring(room):
+        return "no libjansson-dev or no liburing-dev"
+    path, log, image, other = room.folder / "control", room.folder / "log", room.folder / "image", room.folder / "other"
+    disks = [word for lun, it in enumerate((image, other)) for word in ("--disk", f"0:{lun + 1}=64M,file={it}{CACHED}")]
+    with room.runs("--disk", "0:0=1M", *disks, "--control", path, "--log", log) as run, Asking(path) as asking:
+        limit_files(run, 32 * MIB)
+        with FrontEnd(connected(room.socket)) as front:
+            front.write(8 * 10000, stamped(10000, 1), 1)
+            front.write(8 * 100, stamped(100, 1), 2)
+            wait_for(lambda: front.answered() == 2, "two WRITEs")
+        wait_for(lambda: not asking.ask("stats")["front-end"], "the end of the session")
+        began = time.monotonic()
+        assert asking.ask("detach", disk="0:2") == {} and has(other, 4096 * 100, stamped(100, 1)) and time.monotonic() - began < 4
+        assert asking.ask("detach", disk="0:1") == "Busy" and time.monotonic() - began > 4 and not has(image, 4096 * 10000, stamped(10000, 1))
+        # A request that waits goes on once its file can be written, and takes no processor before.
+        before = taken(run)
+        asking.connection.sendall(b'{"execute":"detach","arguments":{"disk":"0:1"}}\n')
+        time.sleep(0.5)
+        assert taken(run) - before < 100_000_000
+        limit_files(run, resource.RLIM_INFINITY)
+        assert asking.lines.readline() == '{"return":{}}\n' and has(image, 4096 * 10000, stamped(10000, 1))
+        with image.open("rb") as file:
+            assert not is_locked(file, 100 + WRITES)
+        assert asking.ask("detach", disk="0:0") == "BadDisk"
+    return None
+
+
+def test_control_migratable_cached(room):
+    """With --migratable a disk with a cache that comes is locked while a queue runs, and two daemons find what the other one left."""
+    if not room.client or not has_ring(room):
+        return "no libjansson-dev or no liburing-dev"
+    first, image, others = room.file("first.img"), room.file("image", 64 * MIB), room.folder / "others"
+    paths = (room.folder / "control", room.folder / "controls")
+    words = ["--disk", f"0:0=1M,file={first}", "--migratable", "--control"]
+    with room.runs(*words, paths[0]), room.runs(*words, paths[1], path=others), image.open("rb") as file:
+        for path in paths:
+            asking_by_client(room, path)("attach", f"0:1=file={image}{CACHED}")
+        assert not is_locked(file, 100 + WRITES)
+        with FrontEnd(connected(room.socket)) as one, FrontEnd(connected(others)) as two:
+            for turn, front in enumerate((one, two, one, two), 1):
+                if front.count:
+                    front.start(front.count)
+                front.read(8 * 5, 4096, 1)
+                wait_for(lambda: front.answered() == front.count, "the READ")  # noqa: B023
+                assert front.data(front.count - 1, 4096) == (stamped(5, turn - 1) if turn > 1 else b"\x5a" * 4096)
+                front.write(8 * 5, stamped(5, turn), 1)
+                wait_for(lambda: front.answered() == front.count, "the WRITE")  # noqa: B023
+                assert is_locked(file, 100 + WRITES) and front.stop() == front.count and not is_locked(file, 100 + WRITES)
+    assert has(image, 4096 * 5, stamped(5, 4))
     return None
 
 
@@ -1665,6 +1853,369 @@ def test_nbd_detached(room):
     return None
 
 
+# Disks on images of Ceph clusters, over a stand-in for its libraries (daemon/test/stand_in/ceph.c). No cluster is there.
+
+
+NO_CLUSTER = "no liburing-dev, or a daemon that is linked statically"
+KINDS = ("read", "write", "zero", "flush")
+FAULTS = [*(f"{kind}_error" for kind in KINDS), "holds", "delay", "forgets", "threads", *(f"{kind}s_asked" for kind in KINDS), *(f"{kind}s_done" for kind in KINDS)]
+
+
+def has_clusters(room):
+    return room.ceph and "with RBD" in room.ends("--version", status=0)
+
+
+class Cluster:
+    """What the stand-in has for a cluster: a folder with a pool and an image, and what goes wrong with that."""
+
+    def __init__(self, room, size=EXPORT, fill=b"\0", name="pool/image"):
+        self.folder, self.conf = room.folder / "ceph", room.folder / "ceph.conf"
+        self.image = self.folder / name
+        self.image.parent.mkdir(parents=True, exist_ok=True)
+        self.image.write_bytes(fill * size)
+        self.faults = self.image.with_name(f"{self.image.name}.faults")
+        self.faults.write_bytes(bytes(4 * len(FAULTS)))
+        self.conf.write_text(f"{self.folder}\n")
+        self.env = {**os.environ, "LD_LIBRARY_PATH": str(room.ceph)}
+        self.words = f"rbd={name},rbd-conf={self.conf}"
+
+    def set(self, **values):
+        with self.faults.open("r+b") as file:
+            for name, value in values.items():
+                file.seek(4 * FAULTS.index(name))
+                file.write(struct.pack("<I", value))
+
+    def told(self, name):
+        return struct.unpack_from("<I", self.faults.read_bytes(), 4 * FAULTS.index(name))[0]
+
+    def hold(self, *kinds):
+        self.set(holds=sum(1 << KINDS.index(kind) for kind in kinds))
+
+
+def test_rbd_words(room):
+    """Words of a disk on an image that don't go together are refused by name, and so is what its libraries or its cluster refuse."""
+    named, rbd = ["--socket", room.socket, "--disk"], "rbd=pool/image"
+    if "with RBD" not in room.ends("--version", status=0):
+        room.ends(*named, f"0:0={rbd}", status=2, says="this daemon")
+    if not has_clusters(room):
+        return NO_CLUSTER
+    wanted = "rbd= wants POOL/IMAGE or POOL/NAMESPACE/IMAGE, once, and no nbd="
+    refused = {**{f"rbd={name}": wanted for name in ("", "pool", "pool/", "/image", "pool//image", "a/b/c/d", "a/b/")}, f"{rbd},{rbd}": wanted,
+               f"nbd=nbd://a/,{rbd}": wanted, f"{rbd},nbd=nbd://a/": "not T:L=SIZE", f"{rbd},rbd-user=a,rbd-user=a": "not T:L=SIZE",
+               f"{rbd},file={room.folder / 'image'}": "rbd= stands in place of file=", f"{rbd},write-cache=off": "rbd= wants write-cache=on",
+               f"{rbd},direct=on": "direct=on wants file=PATH", f"{rbd},profile=narrow": "write-cache=on wants profile=wide",
+               f"{rbd},cache-size=32M": "cache-size= is 33M at least", f"{rbd},snapshot": "grow and snapshot want file=PATH",
+               f"64M,{rbd},grow": "grow and snapshot want file=PATH", f"64M,{rbd},grow,read-only=on": "read-only=on takes no snapshot and no grow",
+               "64M,rbd-user=a": "rbd-conf= and rbd-user= want rbd=IMAGE", f"64M,file={room.folder / 'image'},rbd-conf=a": "want rbd=IMAGE"}
+    for words, says in refused.items():
+        room.ends(*named, f"0:0={words}", status=2, says=says)
+    room.ends(*named, f"0:0={rbd}", "--migratable", status=2, says="--migratable: each disk has to be kept on a file")
+    # What the loader says.
+    empty = room.folder / "libraries"
+    empty.mkdir()
+    if not any(ctypes.util.find_library(name) for name in ("rados", "rbd")):
+        room.refuses("--disk", f"0:0={rbd}", says="rbd:pool/image: librados.so.2: cannot open shared object file")
+        shutil.copy(room.ceph / "librados.so.2", empty)
+        room.refuses("--disk", f"0:0={rbd}", says="librbd.so.1: cannot open shared object file", env={**os.environ, "LD_LIBRARY_PATH": str(empty)})
+    shutil.copy(room.ceph / "librados.so.2", empty)
+    subprocess.run(["cc", "-shared", "-x", "c", "/dev/null", "-o", empty / "librbd.so.1"], check=True)
+    room.refuses("--disk", f"0:0={rbd}", says="librbd.so.1 has no rbd_open", env={**os.environ, "LD_LIBRARY_PATH": str(empty)})
+    return None
+
+
+def test_rbd_refused(room):
+    """What a cluster refuses ends the start with a text, and an image that can have the disk is taken by all its words."""
+    if not has_clusters(room):
+        return NO_CLUSTER
+    cluster = Cluster(room, 64 * MIB)
+    other, odd = Cluster(room, 64 * MIB, name="pool/space/image"), Cluster(room, 1000, name="pool/odd")
+    conf = f"rbd-conf={cluster.conf}"
+
+    def refuses(words, says):
+        room.refuses("--disk", f"0:0={words}", says=says, env=cluster.env)
+
+    refuses(f"rbd=pool/image,rbd-conf={room.folder / 'no'}", "rbd:pool/image: its configuration can't be read: No such file or directory")
+    refuses("rbd=pool/image", "no connection to its cluster: Connection timed out")
+    refuses(f"rbd=pools/image,{conf}", "rbd:pools/image: no such pool: No such file or directory")
+    refuses(f"rbd=pool/images,{conf}", "rbd:pool/images: it can't be opened: No such file or directory")
+    refuses(f"rbd=pool/spaces/image,{conf}", "rbd:pool/spaces/image: it can't be opened")
+    refuses(odd.words, "its length is no disk's")
+    refuses(f"63M,{cluster.words}", "longer than the disk")
+    refuses(f"65M,{cluster.words}", "shorter than the disk")
+    (cluster.folder / "down").touch()
+    refuses(cluster.words, "no connection to its cluster: Connection timed out")
+    (cluster.folder / "down").unlink()
+    (cluster.folder / "user").write_text("vscsi\n")
+    refuses(cluster.words, "no connection to its cluster: Permission denied")
+    for words in (f"{cluster.words},rbd-user=vscsi", f"64M,{other.words},rbd-user=vscsi,write-cache=on,cache-size=33M,detect-zeroes=unmap,serial=one"):
+        with room.runs("--disk", f"0:0={words}", env=cluster.env):
+            assert serves(room.socket)
+    with room.runs("--disk", "0:0=rbd=pool/image,rbd-user=vscsi", env={**cluster.env, "CEPH_CONF": str(cluster.conf)}):
+        assert serves(room.socket)
+    (cluster.folder / "user").unlink()
+    # An image with an exclusive lock has one daemon.
+    (cluster.image.parent / "image.lock").touch()
+    with room.runs("--disk", f"0:0={cluster.words}", env=cluster.env):
+        room.ends("--socket", room.folder / "second", "--disk", f"0:0={cluster.words}", status=1, env=cluster.env,
+                  says="rbd:pool/image: its exclusive lock can't be had: Read-only file system")
+    with room.runs("--disk", f"0:0={cluster.words}", env=cluster.env):
+        assert serves(room.socket)
+    # One that is read alone isn't locked, and nobody changes it.
+    with room.runs("--disk", f"0:0={cluster.words}", env=cluster.env):
+        with room.runs("--disk", f"0:0={cluster.words},read-only=on", path=room.folder / "second", env=cluster.env):
+            with FrontEnd(connected(room.folder / "second")) as front:
+                front.write(8, stamped(1, 1))
+                front.read(8, 4096)
+                front.flush()
+                wait_for(lambda: front.answered() == 3, "all")
+                assert front.status(0) == 2 and front.sense(0)[2] == 7 and front.data(1, 4096) == bytes(4096) and not front.status(2)
+    assert not cluster.told("writes_asked")
+    # A daemon whose cluster doesn't answer is ended all the same.
+    (cluster.folder / "silent").touch()
+    words = [room.program, "--socket", room.socket, "--disk", f"0:0={cluster.words}"]
+    with subprocess.Popen(words, env=cluster.env, stderr=subprocess.PIPE, text=True) as run:
+        time.sleep(0.5)
+        assert run.poll() is None and not room.socket.exists()
+        run.terminate()
+        began = time.monotonic()
+        assert run.wait(10) == 0 and time.monotonic() - began < room.late and "ended before it served" in run.stderr.read()
+    return None
+
+
+def test_rbd(room):
+    """A disk on an image has what a guest flushed, is read back as it was written, and has all once the daemon has ended, in whatever order
+    the cluster answers.
+    """
+    if not has_clusters(room):
+        return NO_CLUSTER
+    choose = random.Random(7)
+    for turn, (more, faults) in enumerate((("cache-size=33M", {"delay": 2000}), ("detect-zeroes=unmap", {"forgets": 1}), ("serial=a", {"forgets": 1, "threads": 1, "delay": 500}))):
+        cluster = Cluster(room, name=f"pool/image{turn}")
+        cluster.set(**faults)
+        with driven(room, "--disk", f"0:0={cluster.words},{more}", ends=0, env=cluster.env) as (_, front, log):
+            work_on_server(room, front, choose, cluster.image)
+            # Zeros; and what isn't flushed is there once the daemon has ended.
+            front.write(8 * 40, bytes(4096))
+            run_cached(front, [("flush", 0, 0), ("read", 40, 0)] + [("write", page, 9999) for page in range(8)])
+        assert has(cluster.image, 4096 * 40, bytes(4096)), log.read_text()
+        assert all(has(cluster.image, 4096 * page, stamped(page, 9999)) for page in range(8)), log.read_text()
+        assert bool(cluster.told("zeros_done")) == (more == "detect-zeroes=unmap") and cluster.told("flushs_done") > 2
+        assert all(cluster.told(f"{kind}s_asked") == cluster.told(f"{kind}s_done") for kind in KINDS)
+        log.unlink()
+        cluster.image.unlink()
+    # Of a disk that ends within a page no byte is written behind its end.
+    cluster = Cluster(room, MIB + 1536)
+    for version in (0, 1):
+        with driven(room, "--disk", f"0:0={cluster.words}", ends=0, env=cluster.env) as (_, front, _):
+            front.read(2048, 1536)
+            front.write(2048, b"x" * 1536)
+            wait_for(lambda: front.answered() == 2, "the last blocks")  # noqa: B023
+            assert not front.status(0) and not front.status(1) and front.data(0, 1536) == (b"x" if version else b"\0") * 1536
+    assert cluster.image.stat().st_size == MIB + 1536
+    return None
+
+
+def test_rbd_ahead(room):
+    """What is read ahead of an image is never older than what it has, whenever it is written."""
+    if not has_clusters(room):
+        return NO_CLUSTER
+    cluster = Cluster(room)
+    cluster.set(delay=3000)
+    with driven(room, "--disk", f"0:0={cluster.words},cache-size=33M", ends=0, env=cluster.env) as (_, front, _):
+        read_and_write(front, random.Random(11), {}, 2)
+    return None
+
+
+def test_rbd_killed(room):
+    """What a guest flushed is on the image when the daemon is killed while it writes, or a later version of the same page is. What the
+    cluster hasn't flushed is lost with the daemon.
+    """
+    if not has_clusters(room):
+        return NO_CLUSTER
+    cluster = Cluster(room)
+    cluster.set(forgets=1, delay=1000)
+    kill_and_compare(room, f"0:0={cluster.words},cache-size=33M", cluster.image, max(KILLS // 2, 1), env=cluster.env)
+    return None
+
+
+def test_rbd_errors(room):
+    """Where a cluster fails reads, writes or flushes, commands wait, that is said once, and all goes on once it doesn't. What a flush that
+    failed may have lost is written again.
+    """
+    if not has_clusters(room):
+        return NO_CLUSTER
+    cluster = Cluster(room, 64 * MIB, b"\x5a")
+    cluster.set(forgets=1, read_error=errno.EIO)
+    with driven(room, "--disk", f"0:0={cluster.words},rerror=stop", ends=0, env=cluster.env) as (run, front, log):
+        front.read(8 * 3, 4096)
+        wait_for(lambda: "can't be read, and is tried again: Input/output error" in log.read_text(), "a line")
+        assert front.asks() and front.answered() == 0
+        cluster.set(read_error=0)
+        wait_for(lambda: front.answered() == 1, "the READ")
+        assert front.data(0, 4096) == b"\x5a" * 4096
+        for turn, kind in enumerate(("write", "flush"), 1):
+            cluster.set(**{f"{kind}_error": errno.ESHUTDOWN})
+            answered = front.answered()
+            run_cached(front, [("write", page, turn) for page in range(100, 110)])
+            front.flush()
+            wait_for(lambda: log.read_text().count("can't be written, and is tried again: Cannot send after transport") == turn, "a line")  # noqa: B023
+            before = taken(run)
+            time.sleep(1)
+            assert front.answered() == answered + 10 and taken(run) - before < 200_000_000 and log.read_text().count("can't be written") == turn
+            assert not has(cluster.image, 4096 * 100, stamped(100, turn))
+            cluster.set(**{f"{kind}_error": 0})
+            wait_for(lambda: front.answered() == answered + 11 and not front.status(front.count - 1), "the SYNCHRONIZE CACHE")  # noqa: B023
+            assert all(has(cluster.image, 4096 * page, stamped(page, turn)) for page in range(100, 110))
+            wait_for(lambda: log.read_text().count("can be written again") == turn, "a line")  # noqa: B023
+    return None
+
+
+def test_rbd_lost(room):
+    """A READ of a page that a cluster can't read ends with MEDIUM ERROR, and that is said. Any other error has it wait."""
+    if not has_clusters(room):
+        return NO_CLUSTER
+    cluster = Cluster(room, 64 * MIB, b"\x5a")
+    cluster.set(read_error=errno.EIO)
+    with driven(room, "--disk", f"0:0={cluster.words}", ends=0, env=cluster.env) as (_, front, log):
+        front.read(8 * 3, 4096)
+        wait_for(lambda: front.answered() == 1, "the READ")
+        # SPC-4 4.5.3: valid and current, MEDIUM ERROR, block 24, UNRECOVERED READ ERROR.
+        assert front.status(0) == 0x02 and front.sense(0) == bytes.fromhex("f0000300000018 0a00000000 1100 00000000")
+        wait_for(lambda: "can't be read, which its guest is told: Input/output error" in log.read_text(), "a line")
+        cluster.set(read_error=errno.ETIMEDOUT)
+        front.read(8 * 900, 4096)
+        time.sleep(0.3)
+        assert front.answered() == 1 and front.asks()
+        cluster.set(read_error=0)
+        wait_for(lambda: front.answered() == 2, "the other READ")
+        assert not front.status(1) and front.data(1, 4096) == b"\x5a" * 4096
+    return None
+
+
+def test_rbd_slow(room):
+    """While a cluster doesn't answer, commands that need it wait, and take no processor. Others of the guest go on, also of the same disk."""
+    if not has_clusters(room):
+        return NO_CLUSTER
+    cluster, other = Cluster(room, 64 * MIB, b"\x5a"), room.folder / "image"
+    words = ["--disk", f"0:0={cluster.words}", "--disk", f"0:1=64M,file={other}{CACHED}"]
+    with driven(room, *words, ends=0, env=cluster.env) as (run, front, log):
+        run_cached(front, [("write", 5, 1), ("flush", 0, 0)])
+        cluster.hold(*KINDS)
+        front.read(8 * 9, 4096)
+        front.write(8 * 6, stamped(6, 1))
+        front.flush()
+        front.read(8 * 5, 4096)
+        wait_for(lambda: front.answered() == 4, "what needs no cluster")
+        assert front.data(5, 4096) == stamped(5, 1) and not front.status(3)
+        front.write(8, stamped(1, 1), 1)
+        front.flush(1)
+        wait_for(lambda: front.answered() == 6 and has(other, 4096, stamped(1, 1)), "the other disk")
+        before = taken(run)
+        time.sleep(1)
+        assert taken(run) - before < 100_000_000 and front.answered() == 6 and front.asks() and "can't" not in log.read_text()
+        cluster.hold()
+        wait_for(lambda: front.answered() == 8, "what waited")
+        assert front.data(2, 4096) == b"\x5a" * 4096 and not front.status(2) and not front.status(4) and has(cluster.image, 4096 * 6, stamped(6, 1))
+    return None
+
+
+def test_rbd_left(room):
+    """A daemon that ends while its cluster fails says what isn't kept, and with status 1. One that isn't answered waits. What a front end left
+    is written with none.
+    """
+    if not has_clusters(room):
+        return NO_CLUSTER
+    cluster, log = Cluster(room, 64 * MIB), room.folder / "log"
+    disk = f"0:0={cluster.words}"
+    with driven(room, "--disk", disk, ends=1, env=cluster.env) as (_, front, _):
+        run_cached(front, [("write", 1, 1), ("flush", 0, 0)])
+        cluster.set(write_error=errno.EIO)
+        run_cached(front, [("write", 2, 2)])
+    text = log.read_text()
+    assert f"disk 0:0: rbd:pool/image: WRITEs behind the last SYNCHRONIZE CACHE aren't all kept: {os.strerror(errno.EIO)}" in text, text
+    assert has(cluster.image, 4096, stamped(1, 1)) and not has(cluster.image, 8192, stamped(2, 2))
+    log.unlink()
+    cluster.set(write_error=0)
+    with driven(room, "--disk", disk, ends=0, env=cluster.env) as (run, front, _):
+        cluster.hold("write")
+        run_cached(front, [("write", 3, 3)])
+        run.terminate()
+        time.sleep(2)
+        assert run.poll() is None and not has(cluster.image, 4096 * 3, stamped(3, 3))
+        cluster.hold()
+        assert run.wait(10) == 0
+    assert has(cluster.image, 4096 * 3, stamped(3, 3))
+    log.unlink()
+    with room.runs("--log", log, "--disk", disk, env=cluster.env):
+        with FrontEnd(connected(room.socket)) as front:
+            cluster.set(write_error=errno.EIO)
+            run_cached(front, [("write", 4, 4)])
+            wait_for(lambda: "can't be written" in log.read_text(), "a line")
+        wait_for(lambda: "the session is over" in log.read_text(), "the end of the session")
+        with FrontEnd(connected(room.socket)) as front:
+            number = run_cached(front, [("read", 4, 0)])[0]
+            assert front.data(number, 4096) == stamped(4, 4) and not has(cluster.image, 4096 * 4, stamped(4, 4))
+        cluster.set(write_error=0)
+        wait_for(lambda: has(cluster.image, 4096 * 4, stamped(4, 4)), "the page that was left")
+    return None
+
+
+def test_rbd_detached(room):
+    """A disk on an image that is detached lets go of it once it has all, and of its lock. It can't be attached, and stays as long as it is."""
+    if not has_clusters(room) or not room.client:
+        return NO_CLUSTER + ", or no libjansson-dev"
+    cluster, control = Cluster(room, 64 * MIB), room.folder / "control"
+    lock = cluster.image.parent / "image.lock"
+    lock.touch()
+    words = ["--disk", "0:0=1M", "--disk", f"0:1={cluster.words}", "--control", control]
+    with room.runs(*words, env=cluster.env) as run, Asking(control) as asking, lock.open() as file:
+        with FrontEnd(connected(room.socket)) as front:
+            front.write(8, stamped(1, 1), 1)
+            wait_for(lambda: front.answered() == 1, "a WRITE")
+            assert asking.ask("resize", disk="0:1", size=32 * MIB) == "File"
+            told = asking.ask("stats")["disks"][1]
+            assert told["file"] == "rbd:pool/image" and "pages-asked" in told
+        wait_for(lambda: not asking.ask("stats")["front-end"], "the end of the session")
+        try:
+            fcntl.flock(file, fcntl.LOCK_EX | fcntl.LOCK_NB)
+            raise AssertionError("the lock isn't taken")
+        except BlockingIOError:
+            pass
+        assert asking.ask("detach", disk="0:1") == {} and has(cluster.image, 4096, stamped(1, 1))
+        fcntl.flock(file, fcntl.LOCK_EX | fcntl.LOCK_NB)
+        assert len(os.listdir(f"/proc/{run.pid}/task")) == 1
+        assert asking.ask("attach", disk=f"0:1={cluster.words}") == "BadDisk"
+    return None
+
+
+def test_rbd_limits(room):
+    """With an image all threads have the limits of system calls: one that isn't allowed fails, and ends nothing."""
+    if not has_clusters(room) or not room.shim or not has_seccomp(room):
+        return "needs a program with seccomp"
+    cluster, other = Cluster(room, 64 * MIB), room.folder / "other"
+    other.touch()
+    for call in {"x86_64": (59, 257, 101, 272, 435), "aarch64": (221, 56, 117, 97, 435)}.get(os.uname().machine, ()):
+        with room.runs("--disk", f"0:0={cluster.words}", env={**cluster.env, "LD_PRELOAD": str(room.shim), "CALL": str(call)}) as run:
+            assert serves(room.socket)
+            tasks = list(Path(f"/proc/{run.pid}/task").iterdir())
+            told = [re.search(r"^Seccomp:\t(\d)$", (task / "status").read_text(), re.M)[1] for task in tasks]
+            assert len(told) > 5 and set(told) == {"2"}, told
+            assert re.search(r"Max open files +(\d+) ", Path(f"/proc/{run.pid}/limits").read_text())[1] != "1024"
+    words = [room.program, "--socket", room.socket, "--disk", f"0:0={cluster.words}"]
+    run = subprocess.run(words, env={**cluster.env, "LD_PRELOAD": str(room.shim), "ADD": str(other)}, capture_output=True, timeout=20)
+    assert run.returncode == 100 + errno.ENOSYS, run.returncode
+    if os.geteuid():
+        return None
+    # All threads become the user, and go on.
+    room.folder.chmod(0o777)
+    user = pwd.getpwnam("nobody").pw_uid
+    with room.runs("--disk", f"0:0={cluster.words}", "--user", "nobody", env=cluster.env) as run, FrontEnd(connected(room.socket)) as front:
+        run_cached(front, [("write", 5, 5), ("flush", 0, 0)])
+        told = [re.search(r"^Uid:\t(\d+)\t", (task / "status").read_text(), re.M)[1] for task in Path(f"/proc/{run.pid}/task").iterdir()]
+        assert set(told) == {str(user)} and has(cluster.image, 4096 * 5, stamped(5, 5)), told
+    return None
+
+
 # Isolation.
 
 
@@ -1849,6 +2400,16 @@ def test_hardened(room):
 
 
 # The control socket, and guests that move.
+
+
+def asking_by_client(room, path=None):
+    """What asks a control socket by vscsi-ctl, and gives its answer, if there is one."""
+    def asks(*words, status=0):
+        run = subprocess.run([room.client, path or room.folder / "control", *words], capture_output=True, text=True)
+        assert run.returncode == status, (words, run.stdout, run.stderr)
+        return json.loads(run.stdout) if run.stdout else None
+
+    return asks
 
 
 class Asking:
@@ -2254,7 +2815,18 @@ def make_shim(folder):
 TESTS = [it for name, it in list(globals().items()) if name.startswith("test_")]
 
 
-def run_all(folder, program, shim=None, wanted=(), client=None):
+def make_ceph(folder):
+    """Builds the stand-in for the libraries of Ceph, as both of them. Gives their folder."""
+    libraries = folder / "ceph"
+    libraries.mkdir()
+    source = DOCS.parent / "daemon/test/stand_in/ceph.c"
+    for name in ("librados.so.2", "librbd.so.1"):
+        words = ["-std=c11", "-Wall", "-Wextra", "-Werror", "-O1", "-fPIC", "-shared", "-pthread", "-fvisibility=hidden"]
+        subprocess.run(["cc", *words, source, "-o", libraries / name], check=True)
+    return libraries
+
+
+def run_all(folder, program, shim=None, wanted=(), client=None, ceph=None):
     """Runs all tests, or those that are named, each in a folder of its own. Gives how many failed."""
     failed = 0
     for test in TESTS:
@@ -2264,7 +2836,7 @@ def run_all(folder, program, shim=None, wanted=(), client=None):
         place = folder / test.__name__
         place.mkdir()
         try:
-            skipped = test(Room(place, program, shim, client))
+            skipped = test(Room(place, program, shim, client, ceph))
             print(f"{name}: {f'left out: {skipped}' if skipped else 'passed'}", flush=True)
         except (AssertionError, OSError, subprocess.TimeoutExpired) as fault:
             failed += 1
