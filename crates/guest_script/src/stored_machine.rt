@@ -23,7 +23,7 @@ use world::{Event, Notify, Served};
 #[derive(Drop)]
 pub(crate) struct StoredMachine {
     device: StoredWorld,
-    /// What the host has to do for each unit.
+    /// The pages that the host has to do with, for each unit.
     tasks: Vec<HostTasks>,
 }
 

@@ -1,4 +1,4 @@
-//! What a host's storage has of a disk whose pages come and go, for a host that keeps it in memory.
+//! Keeps in memory what a host's storage has of a disk whose pages come and go.
 //!
 //! # Proved
 //!

@@ -1,4 +1,4 @@
-//! What a host's storage has of a disk.
+//! The storage of a disk.
 
 ghost use Rattle.std.specs.Prelude.{◌≡◌, ◌+◌, ◌*◌, ◌<◌, ℕ, ◌^◌, length, IfOk};
 ghost use Rattle.block_store.specs.Blocks.{run};

@@ -25,7 +25,7 @@ pub trait Device {
     fn hosted(&self, address: Address) -> Option<Hosted<'_>>;
 }
 
-/// What a host has of a disk that is on a storage of its.
+/// A disk on a storage of its host, with the pages that the host has to do with.
 #[derive(Clone, Copy)]
 pub struct Hosted<'a> {
     /// The pages that it was asked for, the oldest first.

@@ -177,7 +177,7 @@ pub(crate) fn named(identity: Identity, word: &str, value: &str) -> Result<Ident
     }
 }
 
-/// What a disk says of itself, and where it is.
+/// The names of a disk, and where it is.
 #[derive(Clone, Copy)]
 pub(crate) struct Names {
     pub(crate) identity: Identity,
