@@ -92,6 +92,30 @@ pub trait Memory {
         ensures read { OnOk result ((m : List ℕ) → may_be self.new m
             → out.new.items ≡ out.old.items ++ bytes_at m addr len) };
 
+    /// Claims a run of bytes, behind those that are claimed: the phase reads each of them once, in their order, and keeps none.
+    /// Called before the phase writes, for bytes that lie inside. Returns false where it may not: a memory decides which runs it
+    /// lets be claimed. It asks nothing of the guest's memory.
+    fn claim(&mut self, addr: u64, len: usize) -> bool
+        requires reading { is_open self.old }
+        requires inside { LiesIn (extent self.old) addr len }
+        ensures reading { is_open self.new }
+        ensures size { extent self.new ≡ extent self.old }
+        ensures stays { (m : List ℕ) → may_be self.new m → may_be self.old m }
+        ensures stores { stored self.new ≡ stored self.old };
+
+    /// Reads the run that was claimed next, as many bytes as `out` holds. Called before the phase writes, for bytes that lie
+    /// inside. An error where another run was claimed next, or none; then nothing was asked of the guest's memory. Once one was
+    /// read so, the phase may refuse to read anything that isn't claimed, and has no room for short reads.
+    fn read_claimed(&mut self, addr: u64, out: &mut [u8]) -> Result<(), AllocError>
+        requires reading { is_open self.old }
+        requires inside { LiesIn (extent self.old) addr (length out.old) }
+        ensures reading { is_open self.new }
+        ensures size { extent self.new ≡ extent self.old }
+        ensures stays { (m : List ℕ) → may_be self.new m → may_be self.old m }
+        ensures stores { stored self.new ≡ stored self.old }
+        ensures len { length out.new ≡ length out.old }
+        ensures read { OnOk result ((m : List ℕ) → may_be self.new m → out.new ≡ bytes_at m addr (length out.old)) };
+
     /// Proves that room for some short reads is room for fewer.
     ghost fewer: { (x : Self) (m n : ℕ) → n ≤ m → has_room x m → has_room x n };
 

@@ -197,6 +197,17 @@ impl Memory for GuestMem {
         out.extend_from_slice(self.range(addr, len))
     }
 
+    // What stands still is read without.
+    #[inline(always)]
+    fn claim(&mut self, _addr: u64, _len: usize) -> bool {
+        false
+    }
+
+    #[inline(always)]
+    fn read_claimed(&mut self, addr: u64, out: &mut [u8]) -> Result<(), AllocError> {
+        self.try_read(addr, out)
+    }
+
     ghost fewer = { λ x m n le room. room };
 
     ghost sized = { λ x m e. ap length e };
@@ -276,6 +287,17 @@ impl<'a> Memory for StillMem<'a> {
     #[inline(always)]
     fn append(&mut self, addr: u64, len: usize, out: &mut Vec<u8>) -> Result<(), AllocError> {
         out.extend_from_slice(self.memory.range(addr, len))
+    }
+
+    // What stands still is read without.
+    #[inline(always)]
+    fn claim(&mut self, _addr: u64, _len: usize) -> bool {
+        false
+    }
+
+    #[inline(always)]
+    fn read_claimed(&mut self, addr: u64, out: &mut [u8]) -> Result<(), AllocError> {
+        self.try_read(addr, out)
     }
 
     ghost fewer = { λ x m n le room. room };

@@ -1,4 +1,5 @@
 mod Appending
+pub mod Claiming
 pub mod Spans
 pub mod Recording
 pub mod Over

@@ -1,5 +1,6 @@
 pub mod Access
 pub mod Calls
+pub mod Claims
 pub mod Heard
 pub mod Kept
 pub mod Live

@@ -226,6 +226,16 @@ impl Kept {
         false
     }
 
+    /// Returns true if the bytes from `addr` up to `end` lie in a range that no span has.
+    #[tactic(auto, using(crate::proofs::Keeping::narrower))]
+    #[inline(always)]
+    pub(crate) fn is_free(&self, addr: u64, end: u64) -> bool
+        requires { addr ≤ end }
+        ensures { IsTrue result → IsFree self.now.spans.items self.now.long.bytes addr end }
+    {
+        addr >= self.high || end <= self.low || self.free_from <= addr && end <= self.free_to
+    }
+
     /// Returns true if the latest span has all bytes from `addr` on, as many as `out` holds, and puts them there then.
     pub(crate) fn gives(&self, addr: u64, out: &mut [u8]) -> bool
         requires small { addr + length out.old ≤ 2 ^ 52 }

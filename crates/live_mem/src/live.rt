@@ -8,10 +8,12 @@ ghost use Rattle.live_mem.specs.Inner.Access.{ReadsThere};
 ghost use Rattle.live_mem.specs.Heard.{heard};
 ghost use Rattle.live_mem.specs.Kept.{valued};
 ghost use Rattle.live_mem.specs.Scattered.{scattered_at};
+ghost use Rattle.live_mem.specs.Claims.{AreUnread};
 ghost use Rattle.std.proofs.Common.{append-nil, append_assoc, arith};
 ghost use Rattle.std.proofs.lemmas.Bool.{true≢false};
 
 use crate::bus::Bus;
+use crate::claims::Claims;
 use crate::kept::Kept;
 use crate::recorded::RecordedBus;
 use crate::scattered::Scattered;
@@ -23,24 +25,28 @@ use std::alloc::{AllocError, Global};
 const MOST_SCATTERED: usize = 256;
 
 /// A memory that is read and written where it stands, while the guest runs. A phase reads no byte twice: it keeps what it
-/// read. So all that it reads is of one list of bytes, whatever the guest writes meanwhile, and each byte of the list that was
-/// read is the first that the bus gave of it. What a phase writes it stores at once. There always is memory to keep the
-/// first 64 short reads of a phase. Where memory to keep another is refused, the bus isn't asked, and the read is an error.
+/// read, but for runs that it claimed first. Each of these is read once, straight to where it goes, and behind the first of
+/// them the phase reads nothing else. So all that it reads is of one list of bytes, whatever the guest writes meanwhile, and each
+/// byte of the list that was read is the first that the bus gave of it. What a phase writes it stores at once. There always is
+/// memory to keep the first 64 short reads of a phase that claims nothing. Where memory to keep another is refused, the bus isn't
+/// asked, and the read is an error.
 #[derive(Drop)]
 pub struct LiveMem<B> {
     bus: RecordedBus<B>,
     size: u64,
     kept: Kept,
     scattered: Scattered,
+    claims: Claims,
     ghost small: { size ≤ 2 ^ 52 },
-    ghost faithful: { (p d : ℕ) → valued kept.spans.items kept.long.bytes p (scattered_at scattered p d) ≡ loaded (heard bus) p d },
+    ghost faithful: { claims.read ≡ 0 → (p d : ℕ) → valued kept.spans.items kept.long.bytes p (scattered_at scattered p d) ≡ loaded (heard bus) p d },
+    ghost unread: { AreUnread (heard bus) claims.runs.items claims.read },
     ghost bytes_loaded: { (p d : ℕ) → d < 256 → loaded (heard bus) p d < 256 },
     ghost stays_sized: { (m : List ℕ) → length m ≡ size → length (stored (heard bus) m) ≡ size },
     ghost bytes_stored: { (m : List ℕ) → length m ≡ size → AreBytes m → AreBytes (stored (heard bus) m) },
 }
 
 impl<B: Bus> LiveMem<B> {
-    ghost use Rattle.live_mem.specs.Room.{HasRoom};
+    ghost use Rattle.live_mem.specs.Room.{HasRoom, ClaimsNothing};
     ghost use Rattle.live_mem.specs.Inner.Places.{HasPlaces};
     ghost use Rattle.live_mem.specs.Inner.Room.{Takes};
     ghost use Rattle.live_mem.specs.Live.{MayBeLive, bus_of};
@@ -59,6 +65,7 @@ impl<B: Bus> LiveMem<B> {
             size,
             kept,
             scattered: Scattered::new(alloc),
+            claims: Claims::new(alloc),
         })
     }
 
@@ -67,6 +74,8 @@ impl<B: Bus> LiveMem<B> {
     fn read_listed(&mut self, addr: u64, out: &mut [u8])
         requires inside { addr + length out.old ≤ self.old.size }
         requires room { Takes self.old.kept (length out.old) }
+        requires idle { ClaimsNothing self.old }
+        ensures idle { ClaimsNothing self.new }
         ensures len { length out.new ≡ length out.old }
         ensures loads { ReadsThere (heard self.old.bus) (heard self.new.bus) addr out.new }
         ensures stores { all_stores (heard self.new.bus) ≡ all_stores (heard self.old.bus) }
@@ -92,6 +101,8 @@ impl<B: Bus> LiveMem<B> {
     fn read_again(&mut self, addr: u64, out: &mut [u8])
         requires inside { addr + length out.old ≤ self.old.size }
         requires room { Takes self.old.kept (length out.old) }
+        requires idle { ClaimsNothing self.old }
+        ensures idle { ClaimsNothing self.new }
         ensures len { length out.new ≡ length out.old }
         ensures loads { ReadsThere (heard self.old.bus) (heard self.new.bus) addr out.new }
         ensures stores { all_stores (heard self.new.bus) ≡ all_stores (heard self.old.bus) }
@@ -112,6 +123,8 @@ impl<B: Bus> LiveMem<B> {
     fn read_scattered(&mut self, addr: u64, out: &mut [u8])
         requires inside { addr + length out.old ≤ self.old.size }
         requires room { HasPlaces self.old.scattered addr (length out.old) }
+        requires idle { ClaimsNothing self.old }
+        ensures idle { ClaimsNothing self.new }
         ensures len { length out.new ≡ length out.old }
         ensures loads { ReadsThere (heard self.old.bus) (heard self.new.bus) addr out.new }
         ensures stores { all_stores (heard self.new.bus) ≡ all_stores (heard self.old.bus) }
@@ -130,6 +143,8 @@ impl<B: Bus> LiveMem<B> {
         requires inside { addr + length out.old ≤ self.old.size }
         requires listed { IsTrue listed → Takes self.old.kept (length out.old) }
         requires scattered { IsFalse listed → HasPlaces self.old.scattered addr (length out.old) }
+        requires idle { ClaimsNothing self.old }
+        ensures idle { ClaimsNothing self.new }
         ensures len { length out.new ≡ length out.old }
         ensures loads { ReadsThere (heard self.old.bus) (heard self.new.bus) addr out.new }
         ensures stores { all_stores (heard self.new.bus) ≡ all_stores (heard self.old.bus) }
@@ -147,7 +162,9 @@ impl<B: Bus> LiveMem<B> {
     /// addresses. It asks the bus for nothing.
     #[inline(always)]
     fn make_room(&mut self, addr: u64, len: usize) -> Result<bool, AllocError>
-        requires { addr + len ≤ self.old.size }
+        requires inside { addr + len ≤ self.old.size }
+        requires idle { ClaimsNothing self.old }
+        ensures idle { ClaimsNothing self.new }
         ensures size { self.new.size ≡ self.old.size }
         ensures bus { heard self.new.bus ≡ heard self.old.bus }
         ensures listed { IfOk result (λ listed. IsTrue listed → Takes self.new.kept len) }
@@ -165,7 +182,7 @@ impl<B: Bus> LiveMem<B> {
 
 impl<B: Bus> LiveMem<B> {
     ghost use Rattle.live_mem.specs.Live.{MayBeLive, stored_live};
-    ghost use Rattle.live_mem.specs.Room.{HasRoom};
+    ghost use Rattle.live_mem.specs.Room.{HasRoom, ClaimsNothing};
     ghost use Rattle.live_mem.specs.Inner.Room.{Takes};
     ghost use Rattle.live_mem.specs.Access.{spans};
     ghost use Rattle.live_mem.specs.Kept.{IsFree};
@@ -176,7 +193,9 @@ impl<B: Bus> LiveMem<B> {
     /// not be read as one.
     #[inline(always)]
     fn takes_long(&mut self, addr: u64, len: usize) -> Result<bool, AllocError>
-        requires { addr + len ≤ self.old.size }
+        requires inside { addr + len ≤ self.old.size }
+        requires idle { ClaimsNothing self.old }
+        ensures idle { ClaimsNothing self.new }
         ensures size { self.new.size ≡ self.old.size }
         ensures bus { heard self.new.bus ≡ heard self.old.bus }
         ensures bare { IfOk result (λ long. IsTrue long → (p d : ℕ) → scattered_at self.new.scattered p d ≡ d) }
@@ -208,6 +227,7 @@ impl<B: Bus> LiveMem<B> {
         requires bare { (p d : ℕ) → scattered_at self.old.scattered p d ≡ d }
         requires fits { vec_len out.old + len ≤ vec_capacity out.old }
         requires reading { StoredNothing (heard self.old.bus) }
+        requires idle { ClaimsNothing self.old }
         ensures reading { StoredNothing (heard self.new.bus) }
         ensures size { self.new.size ≡ self.old.size }
         ensures stays { (m : List ℕ) → MayBeLive self.new m → MayBeLive self.old m }
@@ -242,7 +262,7 @@ impl<B: Bus> LiveMem<B> {
 
 impl<B: Bus> Memory for LiveMem<B> {
     ghost use Rattle.live_mem.specs.Live.{MayBeLive, stored_live};
-    ghost use Rattle.live_mem.specs.Room.{HasRoom};
+    ghost use Rattle.live_mem.specs.Room.{HasRoom, ClaimsNothing};
 
     ghost may_be = { λ x m. MayBe x.size (heard x.bus) m };
 
@@ -272,6 +292,7 @@ impl<B: Bus> Memory for LiveMem<B> {
         self.bus.begin();
         self.kept.clear();
         self.scattered.clear();
+        self.claims.clear();
     }
 
     #[inline(always)]
@@ -309,6 +330,7 @@ impl<B: Bus> Memory for LiveMem<B> {
         ensures asks_nothing { OnErr result (heard self.new.bus ≡ heard self.old.bus) }
         ensures succeeds { HasRoom self.old 1 → length out.old ≤ 16 → IsOk result }
     {
+        self.claims.give_up()?;
         let listed = self.make_room(addr, out.len())?;
         self.read_there(listed, addr, out);
         Ok(())
@@ -330,6 +352,7 @@ impl<B: Bus> Memory for LiveMem<B> {
         if len <= SHORT {
             return self.append_copied(addr, len, out);
         }
+        self.claims.give_up()?;
         out.reserve(len)?;
         if self.takes_long(addr, len)? {
             self.append_long(addr, len, out);
@@ -338,7 +361,43 @@ impl<B: Bus> Memory for LiveMem<B> {
         self.append_copied(addr, len, out)
     }
 
-    ghost fewer = { λ x m n le room. Prim.omega (arith, le, room) };
+    // A run of which something may be kept isn't claimed.
+    #[inline(always)]
+    fn claim(&mut self, addr: u64, len: usize) -> bool
+        requires reading { StoredNothing (heard self.old.bus) }
+        requires inside { LiesIn self.old.size addr len }
+        ensures reading { StoredNothing (heard self.new.bus) }
+        ensures size { self.new.size ≡ self.old.size }
+        ensures bus { heard self.new.bus ≡ heard self.old.bus }
+    {
+        if self.scattered.is_bare() && self.kept.is_free(addr, addr + len as u64) {
+            return self.claims.add(addr, len);
+        }
+        false
+    }
+
+    #[inline(always)]
+    fn read_claimed(&mut self, addr: u64, out: &mut [u8]) -> Result<(), AllocError>
+        requires reading { StoredNothing (heard self.old.bus) }
+        requires inside { LiesIn self.old.size addr (length out.old) }
+        ensures reading { StoredNothing (heard self.new.bus) }
+        ensures size { self.new.size ≡ self.old.size }
+        ensures stays { (m : List ℕ) → MayBeLive self.new m → MayBeLive self.old m }
+        ensures stores { stored_live self.new ≡ stored_live self.old }
+        ensures len { length out.new ≡ length out.old }
+        ensures read { OnOk result ((m : List ℕ) → MayBeLive self.new m → out.new ≡ bytes_at m addr (length out.old)) }
+        ensures asks { OnOk result (heard self.new.bus ≡ Access.Loads addr out.new ∷ heard self.old.bus) }
+        ensures asks_nothing { OnErr result (heard self.new.bus ≡ heard self.old.bus) }
+    {
+        if !self.claims.has_next(addr, out.len()) {
+            return Err(AllocError);
+        }
+        self.bus.load(addr, out);
+        self.claims.pass();
+        Ok(())
+    }
+
+    ghost fewer = { λ x m n le room. (Prim.omega (arith, le, room.0), room.1) };
 
     ghost sized = { λ x m b. b.3 };
 

@@ -112,6 +112,62 @@ fn first_wrong(memory: &mut LiveMem<RestlessBus>) -> Option<usize> {
     }
 }
 
+/// Returns true if runs are claimed that lie apart, and others aren't.
+fn claims_apart(memory: &mut LiveMem<RestlessBus>) -> bool {
+    if memory.size() < 256 {
+        return false;
+    }
+    memory.begin();
+    memory.claim(100, 20) && memory.claim(130, 4) && memory.claim(90, 10) && !memory.claim(119, 1)
+}
+
+/// Returns true if what is claimed is read in its order, once, and nothing else then.
+fn reads_claims(memory: &mut LiveMem<RestlessBus>) -> bool {
+    if memory.size() < 256 {
+        return false;
+    }
+    let mut first = [7; 20];
+    let mut second = [7; 4];
+    memory.begin();
+    memory.claim(100, 20)
+        && memory.claim(130, 4)
+        && memory.read_claimed(130, &mut second).is_err()
+        && memory.read_claimed(100, &mut first).is_ok()
+        && memory.try_read(200, &mut second).is_err()
+        && !memory.claim(200, 4)
+        && memory.read_claimed(130, &mut second).is_ok()
+        && memory.read_claimed(130, &mut second).is_err()
+        && first == [0; 20]
+        && second == [0; 4]
+}
+
+/// Returns true if what the phase read isn't claimed, and what is claimed is given up for another read.
+fn claims_what_is_unread(memory: &mut LiveMem<RestlessBus>) -> bool {
+    if memory.size() < 256 {
+        return false;
+    }
+    let mut out = [7; 4];
+    memory.begin();
+    memory.try_read(100, &mut out).is_ok()
+        && out == [1, 0, 0, 0]
+        && !memory.claim(98, 4)
+        && !memory.claim(103, 4)
+        && memory.claim(96, 4)
+        && memory.claim(104, 4)
+        && memory.try_read(96, &mut out).is_ok()
+        && memory.read_claimed(104, &mut out).is_err()
+}
+
+#[test]
+fn claims(rt: HostRuntime) -> Result<(), Fail> {
+    let bytes = GuestMem::new(rt.alloc(), 1)?;
+    let mut memory = LiveMem::new(rt.alloc(), RestlessBus { bytes }, 4096)?;
+    assert!(rt; claims_apart(&mut memory));
+    assert!(rt; reads_claims(&mut memory));
+    assert!(rt; claims_what_is_unread(&mut memory));
+    Ok(())
+}
+
 #[test]
 fn live_memory(rt: HostRuntime) -> Result<(), Fail> {
     let bytes = GuestMem::new(rt.alloc(), 1)?;

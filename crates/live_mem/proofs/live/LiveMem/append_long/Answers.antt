@@ -6,6 +6,7 @@ use Rattle.live_mem.specs.Inner.Access.{ReadsThere}
 use Rattle.live_mem.specs.Heard.{heard}
 use Rattle.live_mem.specs.Scattered.{scattered_at}
 use Rattle.live_mem.proofs.Appending.{stands, reads_fresh}
+use Rattle.live_mem.proofs.Claiming.{none_read}
 use Rattle.live_mem.proofs.Keeping.{kept_loaded}
 use Rattle.live_mem.proofs.Reading.{byte_in, reads_asks, reads_gives, reads_stays}
 use Rattle.live_mem.proofs.live.LiveMem.append_long.Goals as goal
@@ -16,10 +17,10 @@ invariant_of-self-clause-faithful g c =
     let a = c.append.ensures.appends in
     let k = c.append.new.self in
     let e = c.requires in
-    λ p d. rw a.asked
+    λ none p d. rw a.asked
     (kept_loaded s.kept.spans.items k.spans.items s.kept.long.bytes k.long.bytes c.args.addr a.fresh s.kept.all a.keeps (scattered_at s.scattered) (heard s.bus) a.fresh refl
     (λ i lt. sym (stands s.kept.spans.items s.kept.long.bytes (scattered_at s.scattered) c.args.addr c.args.len a.fresh a.long e.free e.bare i lt))
-    s.faithful p d)
+    (s.faithful (none_read s.claims.runs.items s.claims.read s.claims.inside c.requires.idle)) p d)
 
 pub invariant_of-self-clause-bytes_loaded : goal.invariant_of-self-clause-bytes_loaded
 invariant_of-self-clause-bytes_loaded g c = λ p d lt.
@@ -48,7 +49,7 @@ returns-clause-stays g c = λ m may.
     let s = c.args.self.now in
     let a = c.append.ensures.appends in
     let e = c.requires in
-    let loads : ReadsThere (heard s.bus) (heard c.append.new.bus) c.args.addr a.fresh = reads_fresh s.kept.spans.items s.kept.long.bytes (scattered_at s.scattered) c.args.addr c.args.len a.fresh a.long e.free e.bare (heard s.bus) (heard c.append.new.bus) s.faithful a.asked in
+    let loads : ReadsThere (heard s.bus) (heard c.append.new.bus) c.args.addr a.fresh = reads_fresh s.kept.spans.items s.kept.long.bytes (scattered_at s.scattered) c.args.addr c.args.len a.fresh a.long e.free e.bare (heard s.bus) (heard c.append.new.bus) (s.faithful (none_read s.claims.runs.items s.claims.read s.claims.inside e.idle)) a.asked in
     reads_stays s.size s.size (heard s.bus) (heard c.append.new.bus) c.args.addr a.fresh m refl (rw a.long e.inside) e.reading loads may
 
 pub returns-clause-read : goal.returns-clause-read
@@ -56,7 +57,7 @@ returns-clause-read g c = λ m may.
     let s = c.args.self.now in
     let a = c.append.ensures.appends in
     let e = c.requires in
-    let loads : ReadsThere (heard s.bus) (heard c.append.new.bus) c.args.addr a.fresh = reads_fresh s.kept.spans.items s.kept.long.bytes (scattered_at s.scattered) c.args.addr c.args.len a.fresh a.long e.free e.bare (heard s.bus) (heard c.append.new.bus) s.faithful a.asked in
+    let loads : ReadsThere (heard s.bus) (heard c.append.new.bus) c.args.addr a.fresh = reads_fresh s.kept.spans.items s.kept.long.bytes (scattered_at s.scattered) c.args.addr c.args.len a.fresh a.long e.free e.bare (heard s.bus) (heard c.append.new.bus) (s.faithful (none_read s.claims.runs.items s.claims.read s.claims.inside e.idle)) a.asked in
     let are = reads_gives s.size s.size (heard s.bus) (heard c.append.new.bus) c.args.addr a.fresh m refl (rw a.long e.inside) e.reading loads may in
     a.behind ∙ ap (λ (l : List ℕ). c.args.out.now.items ++ l) (are ∙ ap (bytes_at m c.args.addr) a.long)
 
@@ -65,5 +66,5 @@ returns-clause-asks g c =
     let s = c.args.self.now in
     let a = c.append.ensures.appends in
     let e = c.requires in
-    let loads : ReadsThere (heard s.bus) (heard c.append.new.bus) c.args.addr a.fresh = reads_fresh s.kept.spans.items s.kept.long.bytes (scattered_at s.scattered) c.args.addr c.args.len a.fresh a.long e.free e.bare (heard s.bus) (heard c.append.new.bus) s.faithful a.asked in
+    let loads : ReadsThere (heard s.bus) (heard c.append.new.bus) c.args.addr a.fresh = reads_fresh s.kept.spans.items s.kept.long.bytes (scattered_at s.scattered) c.args.addr c.args.len a.fresh a.long e.free e.bare (heard s.bus) (heard c.append.new.bus) (s.faithful (none_read s.claims.runs.items s.claims.read s.claims.inside e.idle)) a.asked in
     subst (λ (n : ℕ). Asks (heard s.bus) (heard c.append.new.bus) c.args.addr n) a.long (reads_asks (heard s.bus) (heard c.append.new.bus) c.args.addr a.fresh loads)

@@ -2,6 +2,7 @@ use Rattle.std.proofs.Common.{◌+◌, ◌-◌, ◌∙◌, arith, inl, sym, cond
 use Rattle.live_mem.specs.Access.{spans}
 use Rattle.live_mem.specs.Heard.{heard}
 use Rattle.live_mem.specs.Scattered.{scattered_at}
+use Rattle.live_mem.proofs.Claiming.{none_read}
 use Rattle.live_mem.proofs.Keeping.{kept_loaded}
 use Rattle.live_mem.proofs.Reading.{byte_in}
 use Rattle.live_mem.proofs.Spare.{same_room}
@@ -13,14 +14,14 @@ invariant_of-self-clause-faithful g c =
     let over = c.put_over-2.ensures in
     let out = c.put_over-2.new.out in
     let k = rw (over.spans, over.bytes) at c.keep.ensures.kept in
-    λ p d. rw c.load.ensures.heard
+    λ none p d. rw c.load.ensures.heard
     (kept_loaded s.kept.spans.items c.keep.new.self.spans.items s.kept.long.bytes c.keep.new.self.long.bytes c.args.addr out s.kept.all k (scattered_at s.scattered) (heard s.bus) c.load.new.out
     (sym (over.len ∙ c.put_over.ensures.len))
     (λ i lt.
     let b = c.put_over.ensures.over i (omega (arith, lt, over.len, c.put_over.ensures.len)) in
     let o = over.over i (omega (arith, lt, over.len)) in
     rw b at o)
-    s.faithful p d)
+    (s.faithful (none_read s.claims.runs.items s.claims.read s.claims.inside c.requires.idle)) p d)
 
 pub invariant_of-self-clause-bytes_loaded : goal.invariant_of-self-clause-bytes_loaded
 invariant_of-self-clause-bytes_loaded g c = λ p d lt.
@@ -35,7 +36,7 @@ invariant_of-self-clause-bytes_stored g c = λ m e are. rw c.load.ensures.heard 
 pub returns-clause-room : goal.returns-clause-room
 returns-clause-room g c = λ n h.
     let over = c.put_over-2 in
-    c.keep.ensures.room n (same_room c.args.self.now.kept over.new.self (n + 1) over.ensures.spans h)
+    (c.keep.ensures.room n (same_room c.args.self.now.kept over.new.self (n + 1) over.ensures.spans h.0), h.1)
 
 pub returns-clause-loads : goal.returns-clause-loads
 returns-clause-loads g c =
@@ -48,5 +49,5 @@ returns-clause-loads g c =
       are = λ i lt.
           let b = c.put_over.ensures.over i (omega (arith, lt, over.len, c.put_over.ensures.len)) in
           let o = over.over i (omega (arith, lt, over.len)) in
-          (rw b at o) ∙ s.faithful (c.args.addr + i) (get_or c.load.new.out i 0);
+          (rw b at o) ∙ s.faithful (none_read s.claims.runs.items s.claims.read s.claims.inside c.requires.idle) (c.args.addr + i) (get_or c.load.new.out i 0);
     })

@@ -2,6 +2,7 @@ use Rattle.std.proofs.Common.{◌+◌, ◌-◌, ◌∙◌, arith, inl, sym, cond
 use Rattle.live_mem.specs.Access.{spans}
 use Rattle.live_mem.specs.Heard.{heard}
 use Rattle.live_mem.specs.Scattered.{scattered_at}
+use Rattle.live_mem.proofs.Claiming.{none_read}
 use Rattle.live_mem.proofs.Keeping.{scattered_loaded}
 use Rattle.live_mem.proofs.Reading.{byte_in}
 use Rattle.live_mem.proofs.live.LiveMem.read_scattered.Goals as goal
@@ -10,14 +11,14 @@ pub invariant_of-self-clause-faithful : goal.invariant_of-self-clause-faithful
 invariant_of-self-clause-faithful g c =
     let s = c.args.self.now in
     let over = c.put_spans_over.ensures in
-    λ p d. rw c.load.ensures.heard
+    λ none p d. rw c.load.ensures.heard
     (scattered_loaded s.kept.spans.items s.kept.long.bytes (scattered_at s.scattered) (scattered_at c.keep.new.self) c.args.addr c.put_spans_over.new.out (heard s.bus) c.load.new.out
     (sym (over.len ∙ c.put_over.ensures.len))
     (λ i lt.
     let b = c.put_over.ensures.over i (omega (arith, lt, over.len, c.put_over.ensures.len)) in
     let o = over.over i (omega (arith, lt, over.len)) in
     rw b at o)
-    c.keep.ensures s.faithful p d)
+    c.keep.ensures (s.faithful (none_read s.claims.runs.items s.claims.read s.claims.inside c.requires.idle)) p d)
 
 pub invariant_of-self-clause-bytes_loaded : goal.invariant_of-self-clause-bytes_loaded
 invariant_of-self-clause-bytes_loaded g c = λ p d lt.
@@ -40,5 +41,5 @@ returns-clause-loads g c =
       are = λ i lt.
           let b = c.put_over.ensures.over i (omega (arith, lt, over.len, c.put_over.ensures.len)) in
           let o = over.over i (omega (arith, lt, over.len)) in
-          (rw b at o) ∙ s.faithful (c.args.addr + i) (get_or c.load.new.out i 0);
+          (rw b at o) ∙ s.faithful (none_read s.claims.runs.items s.claims.read s.claims.inside c.requires.idle) (c.args.addr + i) (get_or c.load.new.out i 0);
     })

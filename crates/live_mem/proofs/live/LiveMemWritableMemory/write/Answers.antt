@@ -1,11 +1,17 @@
 use Rattle.std.proofs.Common.{◌∙◌, ◌≤◌, arith, length}
 use Rattle.live_mem.specs.Access.{stored}
 use Rattle.live_mem.specs.Heard.{heard}
+use Rattle.live_mem.proofs.Claiming.{stored_unread}
 use Rattle.live_mem.proofs.Storing.{before_store, length_with, bytes_with}
 use Rattle.live_mem.proofs.live.LiveMemWritableMemory.write.Goals as goal
 
 pub invariant_of-self-clause-faithful : goal.invariant_of-self-clause-faithful
-invariant_of-self-clause-faithful g c = λ p d. rw c.store.ensures (c.args.self.now.faithful p d)
+invariant_of-self-clause-faithful g c = λ none p d. rw c.store.ensures (c.args.self.now.faithful none p d)
+
+pub invariant_of-self-clause-unread : goal.invariant_of-self-clause-unread
+invariant_of-self-clause-unread g c =
+    let s = c.args.self.now in
+    stored_unread (heard s.bus) (heard c.store.new.self) s.claims.runs.items s.claims.read c.args.addr c.args.bytes.now c.store.ensures s.unread
 
 pub invariant_of-self-clause-bytes_loaded : goal.invariant_of-self-clause-bytes_loaded
 invariant_of-self-clause-bytes_loaded g c = λ p d lt. rw c.store.ensures (c.args.self.now.bytes_loaded p d lt)
