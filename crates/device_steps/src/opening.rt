@@ -40,7 +40,9 @@ fn open_bays<M: Memory>(
     requires placed { list_all (is_queue form (M.extent memory.now)) layouts.now ≡ true }
     ensures { IfOk result (λ bays. AreOpening form (M.extent memory.now) (features_of features) layouts.now bays.items) }
 {
-    let mut bays = Vec::new(alloc);
+    let Ok(mut bays) = Vec::with_capacity(alloc, layouts.len()) else {
+        return Err(NoMemory);
+    };
     for number in 0..layouts.len() {
         let queue = Queue::new(
             alloc,
@@ -50,9 +52,7 @@ fn open_bays<M: Memory>(
             features,
             memory,
         )?;
-        if bays.push(Bay::new(queue)).is_err() {
-            return Err(NoMemory);
-        }
+        bays.push_reserved(Bay::new(queue));
     }
     Ok(bays)
 }

@@ -98,7 +98,7 @@ facts_sends = struct_send (shape facts_type) (search sendable, (search sendable,
 
 base_fields : IsSend base.the_row
 base_fields = recorded_send base.the_field.row _ _ base.the_type.to_one
-    (struct_send (shape base.the_type) (search sendable, (search sendable, (search sendable, (search sendable depth 30, (search sendable depth 30, (search sendable, (log_sends, (table.the_send, (search sendable, (search sendable, (search sendable, (option_sends fault_row (search sendable depth 30), (option_sends _ spare.the_send, tt))))))))))))))
+    (struct_send (shape base.the_type) (search sendable, (search sendable, (search sendable, (search sendable depth 30, (search sendable depth 30, (search sendable, (log_sends, (table.the_send, (search sendable, (search sendable, (search sendable, (option_sends fault_row (search sendable depth 30), (option_sends _ spare.the_send, (search crosses depth 30, tt)))))))))))))))
 
 base_sends : IsSend base_row
 base_sends = search (sendable, base_fields)

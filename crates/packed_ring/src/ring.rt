@@ -252,6 +252,7 @@ impl PackedRing {
             slots,
             mut draft,
         } = candidate;
+        self.base.lend_room(&mut draft);
         let Ok(bytes) = gather(memory, &mut draft, FIRST_BYTES) else {
             return Err(RingFault::NoMemory);
         };

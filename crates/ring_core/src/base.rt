@@ -30,6 +30,8 @@ pub struct RingBase {
     broken: Option<RingFault>,
     // The room that the chain used last leaves to the next.
     spare: Option<Spare>,
+    // The larger room for bytes that a used chain leaves to the next that has so many.
+    large: Vec<u8>,
 }
 
 impl Model for RingBase {
@@ -71,6 +73,7 @@ impl RingBase {
             latest_slots: 0,
             broken: None,
             spare: None,
+            large: Vec::new(alloc),
         })
     }
 
@@ -101,6 +104,7 @@ impl RingBase {
             latest_slots: 0,
             broken: None,
             spare: None,
+            large: Vec::new(alloc),
         }
     }
 
@@ -113,6 +117,15 @@ impl RingBase {
             Some(spare) => Ok(spare.into_draft()),
             None => Draft::new(self.alloc),
         }
+    }
+
+    /// Lends the larger room to a chain that was found, where it has more readable bytes than a chain's own room holds.
+    #[inline(always)]
+    pub fn lend_room(&mut self, draft: &mut Draft)
+        ensures same { self.new ≡ self.old }
+        ensures draft { draft.new ≡ draft.old }
+    {
+        draft.borrow_room(&mut self.large);
     }
 
     /// Returns its log.
@@ -260,11 +273,13 @@ impl RingBase {
         ticket
     }
 
-    /// Keeps the room of a chain that is over for the next, where none is kept yet.
+    /// Keeps the room of a chain that is over for the next, where none is kept yet; and its room for bytes, where that is
+    /// larger than the one that is kept.
     #[inline(always)]
-    fn keep(&mut self, chain: Chain)
+    fn keep(&mut self, mut chain: Chain)
         ensures { self.new ≡ self.old }
     {
+        chain.leave_room(&mut self.large);
         if self.spare.is_none() {
             self.spare = chain.into_spare();
         }

@@ -1,9 +1,10 @@
 //! Reading and writing the bytes of a chain's parts.
 
-ghost use Rattle.std.specs.Prelude.{◌≡◌, ◌+◌, ◌≤◌, ◌<◌, ◌^◌, ◌-◌, ◌++◌, List, ℕ, length, take, min, true, IfOk, OnOk};
+ghost use Rattle.std.specs.Prelude.{◌≡◌, ◌+◌, ◌≤◌, ◌<◌, ◌^◌, ◌-◌, ◌++◌, List, ℕ, length, take, min, cond, true, IfOk, OnOk};
+ghost use Rattle.std.specs.List.{AllPass};
 ghost use Rattle.guest_mem.specs.Memory.{with_bytes};
 ghost use Rattle.guest_mem.specs.Stores.{stores_at};
-ghost use Rattle.ring_core.specs.Parts.{PartsFit, inside, readable_of, readable_bytes, writable_total};
+ghost use Rattle.ring_core.specs.Parts.{PartsFit, inside, readable_of, readable_bytes, readable_total, writable_total};
 ghost use Rattle.ring_core.specs.Writes.{Wrote, scatter_writes, stores_of};
 
 use crate::chain::{Chain, Draft};
@@ -43,7 +44,114 @@ fn append_part<M: Memory>(
     memory.append(part.addr, len, bytes)
 }
 
-/// Returns the first readable bytes of a chain that was found, at most `most` of them. For rings.
+/// Returns how many readable bytes a part has, as far as there is room.
+#[inline(always)]
+fn readable_below(part: &Part, room: usize) -> usize
+    ensures { result ≡ min (cond part.now.writable 0 part.now.len) room }
+{
+    if part.writable {
+        return 0;
+    }
+    (part.len as usize).min(room)
+}
+
+/// Claims the first `len` bytes of a part, and returns false where they may not be claimed. No bytes need no claim.
+#[inline(always)]
+fn claim_part<M: Memory>(memory: &mut M, part: &Part, len: usize) -> bool
+    requires reading { M.is_open memory.old }
+    requires inside { inside (M.extent memory.old) part.now ≡ true }
+    requires len { len ≤ part.now.len }
+    ensures size { M.extent memory.new ≡ M.extent memory.old }
+    ensures stays { (m : List ℕ) → M.may_be memory.new m → M.may_be memory.old m }
+    ensures stores { M.stored memory.new ≡ M.stored memory.old }
+    ensures reading { M.is_open memory.new }
+{
+    if len == 0 {
+        return true;
+    }
+    memory.claim(part.addr, len)
+}
+
+/// Claims the first readable bytes of the parts in order, at most `most` of them. Returns false at the first part that may not
+/// be claimed.
+#[inline(always)]
+fn claims_parts<M: Memory>(memory: &mut M, parts: &[Part], most: usize) -> bool
+    requires reading { M.is_open memory.old }
+    requires inside { AllPass (inside (M.extent memory.old)) parts.now }
+    ensures size { M.extent memory.new ≡ M.extent memory.old }
+    ensures stays { (m : List ℕ) → M.may_be memory.new m → M.may_be memory.old m }
+    ensures stores { M.stored memory.new ≡ M.stored memory.old }
+    ensures reading { M.is_open memory.new }
+{
+    let mut room = most;
+    for part in parts {
+        let len = readable_below(part, room);
+        if !claim_part(memory, part, len) {
+            return false;
+        }
+        room -= len;
+    }
+    true
+}
+
+/// Reads the readable bytes of a part, which were claimed next, into their place from `at` on, as far as there is room below
+/// `most`. Returns where they end.
+#[inline(always)]
+fn read_part<M: Memory>(
+    memory: &mut M,
+    part: &Part,
+    bytes: &mut [u8],
+    at: usize,
+    most: usize,
+) -> Result<usize, AllocError>
+    requires reading { M.is_open memory.old }
+    requires inside { inside (M.extent memory.old) part.now ≡ true }
+    requires at { at ≤ most }
+    requires place { at + min (cond part.now.writable 0 part.now.len) (most - at) ≤ length bytes.old }
+    ensures size { M.extent memory.new ≡ M.extent memory.old }
+    ensures stays { (m : List ℕ) → M.may_be memory.new m → M.may_be memory.old m }
+    ensures stores { M.stored memory.new ≡ M.stored memory.old }
+    ensures reading { M.is_open memory.new }
+    ensures len { length bytes.new ≡ length bytes.old }
+    ensures end { IfOk result (λ end. end ≡ at + min (cond part.now.writable 0 part.now.len) (most - at)) }
+    ensures read { IfOk result (λ end. (m : List ℕ) → M.may_be memory.new m →
+        take end bytes.new ≡ take at bytes.old ++ take (most - at) (readable_of m part.now)) }
+{
+    let len = readable_below(part, most - at);
+    if len != 0 {
+        memory.read_claimed(part.addr, &mut bytes[at..at + len])?;
+    }
+    Ok(at + len)
+}
+
+/// Reads the first readable bytes of the parts, all of which were claimed, each into its place. There are as many places as
+/// bytes, at most `most`.
+#[inline(always)]
+fn read_parts<M: Memory>(
+    memory: &mut M,
+    parts: &[Part],
+    bytes: &mut [u8],
+    most: usize,
+) -> Result<(), AllocError>
+    requires reading { M.is_open memory.old }
+    requires inside { AllPass (inside (M.extent memory.old)) parts.now }
+    requires places { length bytes.old ≡ min (readable_total parts.now) most }
+    ensures size { M.extent memory.new ≡ M.extent memory.old }
+    ensures stays { (m : List ℕ) → M.may_be memory.new m → M.may_be memory.old m }
+    ensures stores { M.stored memory.new ≡ M.stored memory.old }
+    ensures reading { M.is_open memory.new }
+    ensures len { length bytes.new ≡ length bytes.old }
+    ensures read { OnOk result ((m : List ℕ) → M.may_be memory.new m → bytes.new ≡ take most (readable_bytes m parts.now)) }
+{
+    let mut at = 0;
+    for part in parts {
+        at = read_part(memory, part, bytes, at, most)?;
+    }
+    Ok(())
+}
+
+/// Returns the first readable bytes of a chain that was found, at most `most` of them. Bytes that may be claimed are read
+/// straight into the room. For rings.
 #[inline(always)]
 pub fn gather<M: Memory>(
     memory: &mut M,
@@ -62,6 +170,11 @@ pub fn gather<M: Memory>(
 {
     let total = draft.readable_len().min(most as u64);
     let mut bytes = draft.take_room();
+    if claims_parts(memory, draft.parts(), most) {
+        bytes.resize(total as usize, 0)?;
+        read_parts(memory, draft.parts(), bytes.as_mut_slice(), most)?;
+        return Ok(bytes);
+    }
     bytes.clear();
     bytes.reserve(total as usize)?;
     for part in draft.parts() {

@@ -12,8 +12,15 @@ use std::mem;
 /// The parts that a chain has room for without a further allocation.
 const FEW_PARTS: usize = 8;
 
-/// The largest room kept from one chain for the next, in bytes.
-const FEW_BYTES: usize = 4096;
+/// The most parts for which a chain that is over leaves room to the next.
+const MOST_PARTS: usize = 128;
+
+/// The largest room for bytes that a chain keeps while it is outstanding: a request of 51 bytes with 4,096 bytes of data,
+/// rounded up.
+const FEW_BYTES: usize = 4_160;
+
+/// The largest room for bytes that a queue keeps: a request of 51 bytes with 128 KiB of data, rounded up.
+const MOST_BYTES: usize = 131_136;
 
 /// A chain where it stands in memory. A chain that moves is a pointer to it.
 #[derive(Drop)]
@@ -159,6 +166,16 @@ impl Draft {
         mem::replace(&mut self.body.room, none)
     }
 
+    /// Swaps its room with a larger one, where its bytes may need that.
+    #[inline(always)]
+    pub(crate) fn borrow_room(&mut self, large: &mut Vec<u8>)
+        ensures { self.new ≡ self.old }
+    {
+        if self.body.readable_len > FEW_BYTES as u64 {
+            mem::swap(&mut self.body.room, large);
+        }
+    }
+
     /// Returns how many of its bytes can be read, modulo 2^64.
     pub(crate) fn readable_len(&self) -> u64
         ensures { result ≡ readable_total self.now % 2 ^ 64 }
@@ -199,12 +216,36 @@ impl Chain {
         }
     }
 
-    /// Returns its room, for a later chain; `None` where its parts took more than what stands in place.
+    /// Leaves these bytes' room to a later chain of its queue, also where it is large. A caller that needs the chain's first
+    /// bytes no more calls it right before it completes the chain, since many chains may be outstanding.
+    #[inline(always)]
+    pub fn return_room(&mut self, bytes: Vec<u8>)
+        ensures { self.new ≡ self.old }
+    {
+        if bytes.capacity() <= MOST_BYTES {
+            self.body.room = bytes;
+        }
+    }
+
+    /// Swaps its room with the one that its queue keeps, where its own is large, and larger than that.
+    #[inline(always)]
+    pub(crate) fn leave_room(&mut self, large: &mut Vec<u8>)
+        ensures { self.new ≡ self.old }
+    {
+        if self.body.room.capacity() > FEW_BYTES.max(large.capacity()) {
+            mem::swap(&mut self.body.room, large);
+        }
+    }
+
+    /// Returns its room, for a later chain; `None` where its parts took very much. A large room for bytes is given back.
     pub(crate) fn into_spare(self) -> Option<Spare> {
-        if self.body.parts.len() > FEW_PARTS {
+        if self.body.parts.capacity() > MOST_PARTS {
             return None;
         }
         let Chain { mut body } = self;
+        if body.room.capacity() > FEW_BYTES {
+            body.room = Vec::new(*body.room.allocator());
+        }
         body.parts.clear();
         body.readable_len = 0;
         body.writable_len = 0;

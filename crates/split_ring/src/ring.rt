@@ -240,6 +240,7 @@ impl SplitRing {
         let _ = &self.base;
         let _bytes = memory.size();
         let Candidate { head, mut draft } = candidate;
+        self.base.lend_room(&mut draft);
         let Ok(bytes) = gather(memory, &mut draft, FIRST_BYTES) else {
             return Err(RingFault::NoMemory);
         };

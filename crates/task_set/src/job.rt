@@ -147,7 +147,7 @@ impl Arrival {
             ..
         } = self;
         if let Some(room) = request.into_room() {
-            chain.keep_room(room);
+            chain.return_room(room);
         }
         chain
     }
