@@ -18,6 +18,9 @@ void bus_load(uint64_t map, uint64_t addr, uint64_t times, uint8_t *out, size_t 
 void bus_store(uint64_t map, uint64_t addr, uint64_t times, const uint8_t *bytes, size_t len);
 void bus_echo(uint64_t map, bool packed, uint64_t chains, uint64_t looks, struct echoed *echoed);
 
+/* What the test of looking ahead is told of in the place of the compiler's prefetch. */
+void note_fetch(const void *bytes);
+
 /* Says what is wrong, and ends the test. */
 #define FAIL(...) (fprintf(stderr, __VA_ARGS__), fputc('\n', stderr), exit(1))
 

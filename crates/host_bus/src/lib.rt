@@ -70,7 +70,7 @@ impl HostBus {
 }
 
 impl Bus for HostBus {
-    // Each store of 2 or of 8 bytes ends with a full barrier.
+    // Each store of 2 bytes ends with a full barrier, and so does one of 8, unless one of 2 comes behind it first.
     #[inline(always)]
     fn begin(&mut self) {}
 

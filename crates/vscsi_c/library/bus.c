@@ -7,14 +7,14 @@
  * 2 bytes, which are an index or flags, are loaded by one load that acquires; of 16 bytes, which are a descriptor, the half
  * with the flags of a packed one comes first; the 2 bytes of an index, and of 8 bytes the last two, which are the flags of
  * a packed used descriptor, are stored by one store that releases, and behind it stands a full barrier, so that what the
- * device then reads of the driver's event suppression isn't older.
+ * device then reads of the driver's event suppression isn't older. None stands behind a used entry where all queues are split: the
+ * device stores their index next, before it reads anything.
  *
  * Where the host has a log, the bit of a page is set behind each store into the page, by an access that releases: who takes the
  * bit away, and copies the page then, sees what was stored. A bit that was set before could be taken away before the store.
  */
 #include "bus.h"
 
-#include <stdbool.h>
 #include <stdlib.h>
 #include <string.h>
 
@@ -41,6 +41,10 @@ struct bus_map {
 	const struct span *stored; /* one in which a store lay, or `none`: always where there is a log */
 	uint8_t *log; /* NULL: none */
 	size_t log_bytes;
+	bool split; /* what is known of the queues: an entry is stored right before an index */
+	bool packed;
+	size_t ring_count;
+	struct bus_ring rings[BUS_MOST_RINGS];
 };
 
 static const struct span none;
@@ -426,7 +430,7 @@ static inline ssize_t publish_index(int what, const void *room)
 	return 0;
 }
 
-/* Stores a used entry: what is loaded next isn't older. */
+/* Stores a used entry: what is loaded next isn't older, unless an index is stored before. */
 static inline ssize_t publish_entry(int what, const void *room)
 {
 	struct place at = place_in(room);
@@ -435,7 +439,8 @@ static inline ssize_t publish_entry(int what, const void *room)
 	if (!is_short(&map_of(at)->stored, at.addr, &bytes) || !is_aligned(bytes, 4))
 		return publish_apart(what, room);
 	store_8(bytes, behind(room));
-	__atomic_thread_fence(__ATOMIC_SEQ_CST);
+	if (!map_of(at)->split)
+		__atomic_thread_fence(__ATOMIC_SEQ_CST);
 	return 0;
 }
 
@@ -454,4 +459,158 @@ ssize_t vscsi_bus_write(int what, const void *bytes, size_t len)
 	if (what < PUT)
 		return say_or_store(what, bytes, len);
 	return what == PUT + 8 ? publish_entry(what, bytes) : publish_index(what, bytes);
+}
+
+/*
+ * Looking ahead. What a request is found by lies in lines that the guest's processor wrote last, and the device would wait for one
+ * after another. So the lines of several requests are asked for together. No value that is read here decides anything but what is
+ * fetched: the device reads each byte itself.
+ */
+
+/* The most requests of a queue, and of a packed one the most slots, that are looked at ahead. */
+enum { MOST_AHEAD = 64 };
+
+/* The flags of a descriptor (VIRTIO 1.2, 2.7.5 and 2.8.1). */
+enum { DESC_NEXT = 1, DESC_INDIRECT = 4, DESC_AVAIL = 1 << 7, DESC_USED = 1 << 15 };
+
+/* A descriptor of either form; `last` is what comes behind the length: of a split one the flags, and then the next. */
+struct descriptor {
+	uint64_t addr;
+	uint32_t len;
+	uint16_t last[2];
+};
+
+/* Where so many bytes stand, if they lie in one region. */
+static inline const unsigned char *bytes_of(const struct bus_map *map, uint64_t addr, size_t len)
+{
+	unsigned char *bytes;
+	size_t here;
+
+	if (is_whole(&map->loaded, addr, len, &bytes))
+		return bytes;
+	bytes = run((struct place){ (uint64_t)(uintptr_t)map, addr }, len, &here, NULL);
+	return here == len ? bytes : NULL;
+}
+
+static inline struct descriptor descriptor_at(const unsigned char *bytes)
+{
+	struct descriptor it;
+
+	load_16(bytes, (unsigned char *)&it);
+	return it;
+}
+
+/* Fetches the first line of what a descriptor names, and the next if a request reaches there. Returns where that stands. */
+static inline const unsigned char *fetch_named(const struct bus_map *map, const struct descriptor *it, size_t len)
+{
+	const unsigned char *bytes = bytes_of(map, it->addr, len);
+
+	if (bytes) {
+		__builtin_prefetch(bytes);
+		__builtin_prefetch(bytes + len - 1);
+	}
+	return bytes;
+}
+
+/* The bytes of a request, and of a table's first descriptor. */
+enum { REQUEST = 51, ENTRY = 16 };
+
+/* The same for a chain's first descriptor. Returns where its table stands; NULL where it has none. */
+static inline const unsigned char *fetch_first(const struct bus_map *map, const struct descriptor *it, uint16_t flags)
+{
+	if (!(flags & DESC_INDIRECT)) {
+		fetch_named(map, it, REQUEST);
+		return NULL;
+	}
+	const unsigned char *table = fetch_named(map, it, ENTRY);
+
+	return table && is_aligned(table, 8) ? table : NULL;
+}
+
+/* The same for the first descriptors of tables, of which the lines were asked for. */
+static void fetch_tables(const struct bus_map *map, const unsigned char *const *tables, size_t count)
+{
+	for (size_t i = 0; i < count; i++) {
+		if (tables[i]) {
+			struct descriptor first = descriptor_at(tables[i]);
+
+			fetch_named(map, &first, REQUEST);
+		}
+	}
+}
+
+static void ahead_in_split(struct bus_map *map, struct bus_ring *it)
+{
+	const unsigned char *driver = bytes_of(map, it->driver, 4 + 2 * (size_t)it->size);
+	const unsigned char *desc = bytes_of(map, it->desc, 16 * (size_t)it->size);
+	const unsigned char *chains[MOST_AHEAD], *tables[MOST_AHEAD];
+
+	if (!driver || !desc || !is_aligned(driver, 2) || !is_aligned(desc, 8))
+		return;
+	uint16_t end = __atomic_load_n((const uint16_t *)(driver + 2), __ATOMIC_ACQUIRE);
+	uint16_t next = it->next;
+	size_t count = (uint16_t)(end - next);
+
+	it->next = end;
+	if (count < 2 || count > it->size) /* one isn't waited for any shorter, and more no driver makes available */
+		return;
+	count = count < MOST_AHEAD ? count : MOST_AHEAD;
+	for (size_t i = 0; i < count; i++) {
+		size_t place = (uint16_t)(next + i) % it->size;
+		uint16_t head = __atomic_load_n((const uint16_t *)(driver + 4 + 2 * place), __ATOMIC_RELAXED);
+
+		chains[i] = desc + 16 * (size_t)(head % it->size);
+		__builtin_prefetch(chains[i]);
+	}
+	for (size_t i = 0; i < count; i++) {
+		struct descriptor first = descriptor_at(chains[i]);
+
+		tables[i] = fetch_first(map, &first, first.last[0]);
+	}
+	fetch_tables(map, tables, count);
+}
+
+static void ahead_in_packed(struct bus_map *map, struct bus_ring *it)
+{
+	const unsigned char *desc = bytes_of(map, it->desc, 16 * (size_t)it->size);
+	const unsigned char *tables[MOST_AHEAD];
+	size_t count = 0;
+
+	if (!desc || !is_aligned(desc, 8))
+		return;
+	while (count < MOST_AHEAD) {
+		struct descriptor slot = descriptor_at(desc + 16 * (size_t)it->next);
+		bool avail = slot.last[1] & DESC_AVAIL;
+
+		if (avail == it->wrapped) /* the driver hasn't come so far */
+			break;
+		tables[count++] = fetch_first(map, &slot, slot.last[1]);
+		if (++it->next == it->size) {
+			it->next = 0;
+			it->wrapped = !it->wrapped;
+		}
+	}
+	fetch_tables(map, tables, count);
+}
+
+void bus_rings(struct bus_map *map, bool packed, const struct bus_ring *rings, size_t count)
+{
+	map->packed = packed;
+	map->split = !packed;
+	map->ring_count = count < BUS_MOST_RINGS ? count : BUS_MOST_RINGS;
+	memcpy(map->rings, rings, map->ring_count * sizeof *rings);
+}
+
+void bus_look_ahead(struct bus_map *map, uint32_t queues)
+{
+	for (size_t number = 2; number < map->ring_count; number++) {
+		struct bus_ring *it = &map->rings[number];
+
+		if (!(queues >> number & 1) || !it->size)
+			continue;
+		if (map->packed)
+			ahead_in_packed(map, it);
+		else
+			ahead_in_split(map, it);
+	}
 }

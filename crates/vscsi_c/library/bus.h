@@ -4,6 +4,7 @@
 #ifndef VSCSI_BUS_H
 #define VSCSI_BUS_H
 
+#include <stdbool.h>
 #include <stddef.h>
 #include <stdint.h>
 #include <sys/types.h>
@@ -43,6 +44,27 @@ enum bus_answer bus_remap(struct bus_map *map, const struct bus_region *regions,
  * process may take bits away by atomic accesses. NULL logs nothing, as in the beginning.
  */
 void bus_log(struct bus_map *map, uint8_t *log, size_t bytes);
+
+/* A queue in which is looked ahead: where its descriptors and its driver area lie, how many descriptors it has, and from where on. */
+struct bus_ring {
+	uint64_t desc;
+	uint64_t driver;
+	uint16_t size;
+	uint16_t next;
+	bool wrapped;
+};
+
+/* The most queues in which is looked ahead. */
+#define BUS_MOST_RINGS ((size_t)18)
+
+/* Says which queues there are, by their numbers, all packed or all split. Where there are more, the others are left. */
+void bus_rings(struct bus_map *map, bool packed, const struct bus_ring *rings, size_t count);
+
+/*
+ * Has the processor fetch what the next requests of some queues are found by, before the device serves them: the bit of queue 0 in
+ * `queues` is the lowest. Nothing is written, and nothing that is read here reaches the device. Queues 0 and 1 are left.
+ */
+void bus_look_ahead(struct bus_map *map, uint32_t queues);
 
 /* Frees a map, with which no device is served any more. Nothing is done for NULL. */
 void bus_unmap(struct bus_map *map);

@@ -399,6 +399,20 @@ static enum vscsi_answer create_over(struct vscsi_live *device, struct bus_map *
                                                        units->count, disks, units->count, fault);
 }
 
+/* VIRTIO_F_RING_PACKED. */
+#define PACKED (UINT64_C(1) << 34)
+
+/* Tells the bus where the queues lie, so that it can look ahead. */
+static void tell_rings(struct bus_map *map, const struct vscsi_live_config *config) {
+  struct bus_ring rings[BUS_MOST_RINGS];
+  size_t count = config->ring_count < BUS_MOST_RINGS ? config->ring_count : BUS_MOST_RINGS;
+  for (size_t i = 0; i < count; i++) {
+    const struct vscsi_ring *it = &config->rings[i];
+    rings[i] = (struct bus_ring){it->desc, it->driver, it->size, it->first.available, it->first.available_wrapped};
+  }
+  bus_rings(map, config->features & PACKED, rings, count);
+}
+
 enum vscsi_answer vscsi_live_create(struct vscsi_live *device, const struct vscsi_live_config *config, struct vscsi_disk *disks,
                                     struct vscsi_fault *fault) {
   struct vscsi_fault unread = {0, 0, 0};
@@ -416,6 +430,7 @@ enum vscsi_answer vscsi_live_create(struct vscsi_live *device, const struct vscs
     bus_unmap(map);
     return answer;
   }
+  tell_rings(map, config);
   device->map = map;
   device->asks = config->size != live_size_without_asks && config->asks;
   return VSCSI_DONE;
@@ -475,6 +490,7 @@ enum vscsi_answer vscsi_live_serve(struct vscsi_live *device, uint32_t queues, u
   uint64_t taken = 0;
   bool left = false;
   if (!device) return VSCSI_NULL;
+  if (device->map) bus_look_ahead(device->map, queues);
   enum vscsi_answer answer = (enum vscsi_answer)(device->asks ? vscsi_raw_live_serve_and_ask(device, queues, most, &taken, &left)
                                                               : vscsi_raw_live_serve(device, queues, most, &taken, &left));
   if (answer == VSCSI_DONE && steps) *steps = taken;
