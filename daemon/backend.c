@@ -208,13 +208,33 @@ static enum ran settle(struct backend *backend) {
   return run(backend, NO_QUEUES, UINT64_MAX);
 }
 
+// Nanoseconds: what it takes, about, to try a command once more that waits, and for how long other reads are waited for at most. And of how
+// many commands one's read is enough.
+enum { TRY = 300, LONGEST_GATHERING = 20000, SHARE = 4 };
+
+// Has the device told of more reads, where few of those are over for which commands wait: each time all of these are tried again. So it
+// looks for others for as long as that would take.
+static void gather_reads(struct backend *backend, size_t reads) {
+  uint64_t cost = backend->waiting * TRY, until = 0, now;
+  enum came came = CAME_READS;
+  while (came != CAME_MORE && reads * SHARE < backend->waiting && paging_reads(backend->disks)) {
+    now = clock_nanoseconds();
+    if (!until) until = now + (cost < LONGEST_GATHERING ? cost : LONGEST_GATHERING);
+    if (now >= until) break;
+    came = paging_take(backend->disks, &backend->device, &reads);
+  }
+}
+
 // Has the device told of what is over of reads and writes. Returns whether there was any.
 static bool take_pages(struct backend *backend) {
+  size_t reads = 0;
   if (!backend->pages) return false;
-  bool came = paging_take(backend->disks, &backend->device) || backend->came;
-  if (came) device_wake(&backend->device);
+  enum came came = paging_take(backend->disks, &backend->device, &reads);
+  if (came == CAME_READS && !backend->came) gather_reads(backend, reads);
+  if (came == CAME_NOTHING && !backend->came) return false;
+  backend->waiting = device_wake(&backend->device);
   backend->came = false;
-  return came;
+  return true;
 }
 
 void backend_settle(struct backend *backend) {
@@ -232,7 +252,7 @@ static enum ran give_pages(struct backend *backend, enum ran ran) {
   bool handed_in = paging_give(disks, &backend->device, took || backend->waits ? WAITS_PERHAPS : WAITS_NOT);
   backend->waits = true;
   for (uint64_t before = UINT64_MAX; ran == RAN && (handed_in || (helps && !paging_reads(disks)));) {
-    uint64_t waiting = device_wake(&backend->device);
+    uint64_t waiting = backend->waiting = device_wake(&backend->device);
     backend->waits = waiting;
     if (!waiting) break;
     helps = waiting < before;

@@ -239,15 +239,19 @@ static void note_losses(struct disk *disk) {
   ahead_drop(&paging->ahead, 0, UINT64_MAX);
 }
 
-bool paging_take(struct disks *disks, struct device *device) {
+enum came paging_take(struct disks *disks, struct device *device, size_t *reads) {
   struct transfer *transfer;
-  bool came = false;
+  enum came came = CAME_NOTHING;
+  bool passed = false;
   int error;
-  while ((transfer = storage_next(disks->storage, &error, &came))) {
-    came = true;
+  while ((transfer = storage_next(disks->storage, &error, &passed))) {
+    bool is_read = !error && (transfer->kind == TRANSFER_READ || transfer->kind == TRANSFER_AHEAD);
+    *reads += is_read;
+    if (came != CAME_MORE) came = is_read ? CAME_READS : CAME_MORE;
     if (finish(disks, device, transfer, error)) storage_put(disks->storage, transfer);
   }
-  for (size_t i = 0; came && i < disks->count; i++) {
+  if (passed) came = CAME_MORE;
+  for (size_t i = 0; came != CAME_NOTHING && i < disks->count; i++) {
     if (!disks->disks[i].paging) continue;
     note_losses(&disks->disks[i]);
     say_runs(disks->disks[i].paging, device);
@@ -475,10 +479,11 @@ bool paging_is_under_way(const struct disks *disks) {
 void paging_wait(struct disks *disks, unsigned milliseconds) { storage_wait(disks->storage, milliseconds); }
 
 void paging_settle(struct disks *disks, struct device *device) {
+  size_t reads = 0;
   for (unsigned turn = 0; turn < 2; turn++) {
     for (size_t i = 0; turn && i < disks->count; i++)
       if (disks->disks[i].paging) begin_sync(disks, i);
-    for (storage_send(disks->storage); paging_is_under_way(disks); paging_take(disks, device)) storage_wait(disks->storage, LAST);
+    for (storage_send(disks->storage); paging_is_under_way(disks); paging_take(disks, device, &reads)) storage_wait(disks->storage, LAST);
   }
   for (size_t i = 0; i < disks->count; i++)
     if (disks->disks[i].paging) ahead_forget(&disks->disks[i].paging->ahead);
@@ -616,13 +621,14 @@ static bool note_written(struct disk *disk) {
 }
 
 bool paging_write_rest(struct disks *disks) {
+  size_t reads = 0;
   bool is_done = true;
   if (!disks->storage || (!disks->rest.live && !paging_are_left(disks))) return false;
   if (!disks->rest.live && !make_rest(disks)) {
     storage_pass(disks->storage);
     return storage_send(disks->storage), true;
   }
-  paging_take(disks, &disks->rest);
+  paging_take(disks, &disks->rest, &reads);
   paging_give(disks, &disks->rest, WAITS_SURELY);
   paging_tell(disks);
   for (size_t i = 0; i < disks->count; i++) is_done = note_written(&disks->disks[i]) && is_done;

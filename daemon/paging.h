@@ -79,8 +79,12 @@ bool paging_watch(struct disks *disks, int epoll, uint32_t event);
 // Has these disks be those of a device that was made of them.
 void paging_begin(struct disks *disks);
 
-// Tells the device what is over of reads and writes. Returns whether commands that wait are to be tried again.
-bool paging_take(struct disks *disks, struct device *device);
+// What was over when that was last looked at: nothing, reads that failed not, or something else as well.
+enum came { CAME_NOTHING, CAME_READS, CAME_MORE };
+
+// Tells the device what is over of reads and writes, and counts the reads besides. Where there was any, commands that wait are to be tried
+// again.
+enum came paging_take(struct disks *disks, struct device *device, size_t *reads);
 
 // Whether commands wait for a sync: none does, or one may, or one does, unless it waits for something that is put off.
 enum wait { WAITS_NOT, WAITS_PERHAPS, WAITS_SURELY };
