@@ -3,6 +3,7 @@
 //!
 //! # Proved
 //!
+//! It opens over disks of zeros as its configuration has them, with a storage of zeros exactly for each disk that is to have one.
 //! Each page that is handed in is as the host's storage keeps it, whatever the guest, the operator and the host did before. So
 //! the premise of the promise of disks whose pages come and go holds of this device, and it has none. Its calls do what those of
 //! `World` do.

@@ -1,7 +1,7 @@
 //! A device opens over disks of zeros, some of which are on storages.
 
-ghost use Rattle.std.specs.Prelude.{◌<◌, ◌^◌, IfOk, OnOk};
-ghost use Rattle.stored_world.specs.Inner.Opening.{AreFresh};
+ghost use Rattle.std.specs.Prelude.{◌<◌, ◌^◌, OnOk};
+ghost use Rattle.stored_world.specs.Inner.Opening.{AddsDisk};
 
 use crate::hosted::HostedDisk;
 use crate::stored::StoredWorld;
@@ -25,9 +25,8 @@ fn add_disk(
     disks: &mut Vec<Disk>,
     hosted: &mut Vec<Option<HostedDisk>>,
 ) -> Result<(), AllocError>
-    requires fresh { AreFresh disks.old.items hosted.old.items }
     requires few { blocks < 2 ^ 60 }
-    ensures fresh { OnOk result (AreFresh disks.new.items hosted.new.items) }
+    ensures adds { OnOk result (AddsDisk blocks cache disks.old.items hosted.old.items disks.new.items hosted.new.items) }
 {
     match cache {
         None => {
@@ -47,18 +46,31 @@ fn add_disk(
 }
 
 impl StoredWorld {
+    ghost use Rattle.std.specs.Prelude.{◌≡◌, true, IfOk, MatchResult};
+    ghost use Rattle.config.specs.Config.{is_config};
     ghost use Rattle.device_model.specs.World as plain;
     ghost use Rattle.stored_world.specs.Inner.Device.{world_of};
+    ghost use Rattle.stored_world.specs.Inner.Opening.{AreCachesFor, IsStoredOpening, StoredRefusedAs};
 
-    /// Opens the device of a configuration over disks of zeros. The unit at a place has its disk on a storage where `caches`
-    /// says so at that place, with at most so many of its pages of 8 blocks in memory; else all of it is in memory.
-    /// `BadConfig` where the configuration isn't valid, there aren't as many caches as units, a unit with a cache doesn't tell of
-    /// it, or one has 2^60 blocks or more; `NoMemory` where memory was refused.
+    /// Opens the device of a configuration over disks of zeros, each of its unit's capacity. Where `caches` has a number at the
+    /// unit's place, the disk is on a storage of zeros, with at most so many of its pages of 8 blocks in memory. Else all of it is
+    /// in memory, and it has no storage. No clause says how many pages are in memory.
+    ///
+    /// Answers `BadConfig` where one of these holds, unless memory was refused before:
+    ///
+    /// - the configuration isn't valid;
+    /// - there aren't as many caches as units;
+    /// - a unit that doesn't tell of a write cache has a number there.
+    ///
+    /// Answers `NoMemory` where memory was refused.
     pub fn new(
         alloc: Global,
         config: &Config,
         caches: &[Option<usize>],
     ) -> Result<StoredWorld, StartFault>
+        ensures opening { MatchResult result
+            (λ s. (is_config config.now ≡ true) × AreCachesFor config.now.units.items caches.now × IsStoredOpening config.now caches.now s)
+            (λ fault. StoredRefusedAs config.now caches.now fault) }
         ensures opens { IfOk result (λ s. plain.Opens (world_of s)) }
     {
         if config.units.len() != caches.len() {
@@ -76,11 +88,13 @@ impl StoredWorld {
                 Err(_) => return Err(StartFault::NoMemory),
             }
         }
-        let world = World::new_with(alloc, config, &mut disks)?;
-        Ok(StoredWorld {
-            alloc,
-            world,
-            disks: hosted,
-        })
+        match World::new_with(alloc, config, &mut disks) {
+            Ok(world) => Ok(StoredWorld {
+                alloc,
+                world,
+                disks: hosted,
+            }),
+            Err(fault) => Err(fault),
+        }
     }
 }

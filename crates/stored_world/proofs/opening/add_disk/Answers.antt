@@ -1,24 +1,36 @@
-use Rattle.std.proofs.Common.{◌≡◌, ◌∙◌, List, [], Some, None, refl, sym, ap, subst}
+use Rattle.std.proofs.Common.{Some, None, refl}
 use Rattle.backed_store.specs.declared.disk.Disk.TheVariants.{Whole, Backed}
 use Rattle.stored_world.specs.declared.hosted.HostedDisk.{HostedDisk}
-use Rattle.stored_world.proofs.Fresh.{fresh_more, fresh_backed, fresh_lists}
+use Rattle.stored_world.proofs.Fresh.{zero_whole, zero_backed}
 use Rattle.stored_world.proofs.opening.add_disk.Goals as goal
 
 pub returns-in_ok-push-in-None-2 : goal.returns-in_ok-push-in-None-2
 returns-in_ok-push-in-None-2 c =
     record {
-      fresh =
-          fresh_lists c.in_ok-push-in-None.ensures.items c.in_ok-push-in-None-2.ensures.items
-          (fresh_more c.args.disks.now.items c.args.hosted.now.items (Whole c.new.result) None c.requires.fresh tt);
+      adds =
+          record {
+            disk = Whole c.new.result;
+            hosted = None;
+            is =
+                zero_whole c.new.result c.args.blocks c.args.cache c.in-None.is c.new.ensures.capacity c.new.ensures.zeros;
+            disks = c.in_ok-push-in-None.ensures.items;
+            storages = c.in_ok-push-in-None-2.ensures.items;
+          };
     }
 
 pub returns-in_ok-push-in-Some-2 : goal.returns-in_ok-push-in-Some-2
 returns-in_ok-push-in-Some-2 c =
     let h : HostedDisk = record { storage = c.new-in-Some-2.result; capacity = c.args.blocks } in
+    let new = c.new-disk.ensures in
     record {
-      fresh =
-          fresh_lists c.in_ok-push-in-Some.ensures.items c.in_ok-push-in-Some-2.ensures.items
-          (fresh_more c.args.disks.now.items c.args.hosted.now.items (Backed c.new-disk.result) (Some h) c.requires.fresh
-          (fresh_backed c.new-disk.result h (c.new-disk.ensures.ledger ∙ ap (λ xs. record { content = xs; dealings = [] }) c.new-in-Some.ensures)
-          c.new-in-Some-2.ensures.given c.new-in-Some-2.ensures.kept (sym c.new-disk.ensures.capacity)));
+      adds =
+          record {
+            disk = Backed c.new-disk.result;
+            hosted = Some h;
+            is =
+                zero_backed c.new-disk.result h c.args.blocks c.in-Some.budget c.args.cache c.new-in-Some.result.items c.in-Some.is
+                c.new-in-Some.ensures new.capacity new.blocks new.ledger c.new-in-Some-2.ensures.given c.new-in-Some-2.ensures.kept refl;
+            disks = c.in_ok-push-in-Some.ensures.items;
+            storages = c.in_ok-push-in-Some-2.ensures.items;
+          };
     }
