@@ -1,6 +1,7 @@
 //! The runs that a phase claims, to read each of them once and to keep none.
 
-ghost use Rattle.std.specs.Prelude.{ℕ, ◌≡◌, ◌<◌, ◌≤◌, ◌+◌, ◌^◌, ◌++◌, ◌∷◌, [], length, get_or, true, false, IsTrue, IsOk, OnOk, OnErr, IsFalse};
+ghost use Rattle.std.specs.Prelude.{ℕ, ◌≡◌, ◌<◌, ◌≤◌, ◌+◌, ◌^◌, ◌++◌, ◌∷◌, [], length, get_or};
+ghost use Rattle.std.specs.Prelude.{true, false, IsTrue, IsFalse, IsOk, OnOk, OnErr};
 ghost use Rattle.live_mem.specs.Access.{spans};
 ghost use Rattle.live_mem.specs.Claims.{AreApart, LieIn, claims_at};
 

@@ -38,7 +38,8 @@ pub struct LiveMem<B> {
     scattered: Scattered,
     claims: Claims,
     ghost small: { size ≤ 2 ^ 52 },
-    ghost faithful: { claims.read ≡ 0 → (p d : ℕ) → valued kept.spans.items kept.long.bytes p (scattered_at scattered p d) ≡ loaded (heard bus) p d },
+    ghost faithful: { claims.read ≡ 0 → (p d : ℕ)
+        → valued kept.spans.items kept.long.bytes p (scattered_at scattered p d) ≡ loaded (heard bus) p d },
     ghost unread: { AreUnread (heard bus) claims.runs.items claims.read },
     ghost bytes_loaded: { (p d : ℕ) → d < 256 → loaded (heard bus) p d < 256 },
     ghost stays_sized: { (m : List ℕ) → length m ≡ size → length (stored (heard bus) m) ≡ size },

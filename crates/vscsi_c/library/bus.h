@@ -45,7 +45,10 @@ enum bus_answer bus_remap(struct bus_map *map, const struct bus_region *regions,
  */
 void bus_log(struct bus_map *map, uint8_t *log, size_t bytes);
 
-/* A queue in which is looked ahead: where its descriptors and its driver area lie, how many descriptors it has, and from where on. */
+/*
+ * A queue in which is looked ahead: where its descriptors and its driver area lie, how many descriptors it has, and from where on. Of
+ * a packed queue that is a slot below their number, which a device sees to that takes the queue.
+ */
 struct bus_ring {
 	uint64_t desc;
 	uint64_t driver;
