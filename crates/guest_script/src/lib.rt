@@ -10,14 +10,9 @@
 
 mod allowance;
 mod host_memory;
-mod live_machine;
-mod machine;
-mod own_machine;
-mod racing_bus;
 mod service;
 mod session;
 mod steps;
-mod stored_machine;
 mod trace;
 
 pub use script_semantics::check;

@@ -1,14 +1,11 @@
 //! Plays a script on a device of one thread.
 
 use crate::allowance::Allowance;
-use crate::live_machine::LiveMachine;
-use crate::machine::Machine;
-use crate::own_machine::OwnMachine;
 use crate::steps::{event_of, order};
-use crate::stored_machine::StoredMachine;
 use crate::trace::{Trace, print_ask};
 use foundation::NoMemory;
 use guest_driver::Driver;
+use script_machines::{LiveMachine, Machine, OwnMachine, StoredMachine};
 use script_semantics::{
     Known, Script, Wanted, command_of, line_number, print, read_whole, run_guest_line,
 };

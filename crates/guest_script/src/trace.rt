@@ -1,8 +1,8 @@
 //! Prints what each step of the device did, as a line.
 
-use crate::machine::Machine;
 use guest_driver::Driver;
 use ring_core::Ticket;
+use script_machines::Machine;
 use script_semantics::{Known, written};
 use script_syntax::Stop;
 use scsi_codec::{Address, CONTROL_QUEUE, EVENT_QUEUE};

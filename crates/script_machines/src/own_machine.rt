@@ -21,7 +21,7 @@ pub(crate) const EACH_QUEUE: u32 = u32::MAX;
 
 /// A device that has its guest's memory to itself while it takes a step.
 #[derive(Drop)]
-pub(crate) struct OwnMachine {
+pub struct OwnMachine {
     world: World,
 }
 

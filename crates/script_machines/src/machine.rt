@@ -10,7 +10,7 @@ use std::alloc::Global;
 use world::{Event, Notify, Served};
 
 /// A device of one thread with its guest's memory, which the guest's driver writes and reads between two lines.
-pub(crate) trait Machine: GuestMemory + Device + Drop {
+pub trait Machine: GuestMemory + Device + Drop {
     /// Opens the device of a configuration. A unit has its disk on a storage of its host where `caches` says at its place how
     /// many pages are in memory at most. `BadConfig` where it isn't taken.
     fn open(alloc: Global, config: &Config, caches: &[Option<usize>]) -> Result<Self, Stop>;

@@ -21,7 +21,7 @@ use world::{Event, Notify, Served};
 
 /// A device that has its guest's memory to itself, and disks on storages of its host.
 #[derive(Drop)]
-pub(crate) struct StoredMachine {
+pub struct StoredMachine {
     device: StoredWorld,
     /// The pages that the host has to do with, for each unit.
     tasks: Vec<HostTasks>,

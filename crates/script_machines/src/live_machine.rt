@@ -23,7 +23,7 @@ use world::{Event, LiveWorld, Notify, Served};
 
 /// A device on a memory that its guest changes between two reads of a line, as the script says.
 #[derive(Drop)]
-pub(crate) struct LiveMachine {
+pub struct LiveMachine {
     world: LiveWorld<LiveMem<RacingBus>>,
     /// The memory of its guest, between two lines of the device.
     memory: GuestMem,
