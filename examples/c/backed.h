@@ -109,7 +109,9 @@ static inline void pause_shortly(void) { nanosleep(&(struct timespec){.tv_nsec =
 static inline void serve(void) {
   uint32_t owed;
   for (bool more = true; more;) {
-    must("serve", vscsi_live_serve(&device, ~UINT32_C(0), 1000, NULL, &more));
+    must("serve", vscsi_live_serve(&device, ~UINT32_C(1), 1000, NULL, &more));
+    // The control queue comes last: what an abort is about was made available before it.
+    if (!more) must("serve", vscsi_live_serve(&device, 1, 1000, NULL, &more));
     must("owed", vscsi_live_owed(&device, &owed));
     if (owed) ring(notice);
   }

@@ -789,6 +789,10 @@ static void backed_refused(void) {
     IS(fault.detail, 0);
     IS(vscsi_create_with(&copies, &config, disks, 0), VSCSI_BAD_CONFIG);
     IS(vscsi_disk_blocks(&disks[1], &blocks), VSCSI_DONE);
+    config.pages = 0; // which is told first
+    IS(vscsi_create_with(&copies, &config, disks, &fault), VSCSI_BAD_CONFIG);
+    IS(fault.cause, VSCSI_CAUSE_PAGES);
+    begin();
   }
   fault = (struct vscsi_fault){77, 77, 77};
   IS(vscsi_live_create(&device, &live, disks, &fault), VSCSI_BAD_CONFIG);

@@ -6,7 +6,7 @@
 
 #include <string.h>
 
-enum { SIZE = 64, REQUESTS = SIZE / 2, QUEUES = 3, LINES = 1 << 12, DESC = 0x1000, DRIVER = 0x3000, HEADERS = 0x8000, TABLES = 0x10000 };
+enum { SIZE = 64, REQUESTS = SIZE / 2, QUEUES = 3, LINES = 1 << 12, DESC = 0x1000, DRIVER = 0x3000, DEVICE = 0x4000, HEADERS = 0x8000, TABLES = 0x10000 };
 
 /* What was asked for since the last look. */
 static const unsigned char *fetched[LINES];
@@ -28,10 +28,11 @@ static size_t times(const unsigned char *bytes)
 	return count;
 }
 
-static void look(struct bus_map *map, uint32_t queues)
+/* Returns whether a queue has several requests. */
+static bool look(struct bus_map *map, uint32_t queues)
 {
 	fetches = 0;
-	bus_look_ahead(map, queues);
+	return bus_look_ahead(map, queues);
 }
 
 static void put(unsigned char *at, uint64_t addr, uint32_t len, uint16_t third, uint16_t fourth)
@@ -90,11 +91,11 @@ static void looks_at_new_requests(bool packed, bool indirect, size_t step)
 	static unsigned char memory[0x20000];
 	struct bus_region region = { 0, sizeof memory, memory };
 	struct bus_map *map = mapped(&region, 1);
-	struct bus_ring rings[QUEUES] = { [2] = { DESC, DRIVER, SIZE, 0, false } };
+	struct bus_ring rings[QUEUES] = { [2] = { DESC, DRIVER, DEVICE, SIZE, 0, false } };
 	size_t done = 0;
 
 	memset(memory, 0, sizeof memory);
-	bus_rings(map, packed, rings, QUEUES);
+	bus_rings(map, packed, false, rings, QUEUES);
 	look(map, UINT32_MAX);
 	if (fetches)
 		FAIL("an empty queue has something to be asked for");
@@ -106,7 +107,9 @@ static void looks_at_new_requests(bool packed, bool indirect, size_t step)
 		look(map, 3);
 		if (fetches)
 			FAIL("a queue is looked at that isn't named");
-		look(map, 4);
+		/* A packed table takes one of the two slots, so that the other is a chain of its own. */
+		if (look(map, 4) != (step > 1 || (packed && indirect)))
+			FAIL("%zu requests are said to be %s", step, step > 1 ? "one" : "several");
 		for (size_t request = 0; request < REQUESTS; request++) {
 			size_t behind = (request + REQUESTS - from % REQUESTS) % REQUESTS;
 			bool wanted = behind < step && (packed || step > 1);
@@ -148,10 +151,10 @@ static void reads_what_is_mapped(uint64_t rounds)
 		struct bus_map *map = mapped(regions, REGIONS);
 
 		for (size_t i = 0; i < QUEUES; i++)
-			rings[i] = (struct bus_ring){ next(&seed) % 4200, next(&seed) % 4200, (uint16_t)(next(&seed) % 20), (uint16_t)(next(&seed) % 8), next(&seed) % 2 };
+			rings[i] = (struct bus_ring){ next(&seed) % 4200, next(&seed) % 4200, next(&seed) % 4200, (uint16_t)(next(&seed) % 20), (uint16_t)(next(&seed) % 8), next(&seed) % 2 };
 		for (size_t i = 0; i < QUEUES; i++)
 			rings[i].next = rings[i].size ? rings[i].next % rings[i].size : 0;
-		bus_rings(map, next(&seed) % 2, rings, QUEUES);
+		bus_rings(map, next(&seed) % 2, next(&seed) % 2, rings, QUEUES);
 		for (int looks = 0; looks < 4; looks++)
 			look(map, (uint32_t)next(&seed));
 		for (size_t i = 0; i < REGIONS; i++) {

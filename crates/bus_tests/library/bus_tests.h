@@ -21,6 +21,9 @@ void bus_echo(uint64_t map, bool packed, uint64_t chains, uint64_t looks, struct
 /* What the test of looking ahead is told of in the place of the compiler's prefetch. */
 void note_fetch(const void *bytes);
 
+/* What the test of barriers is told of in the place of the compiler's. */
+void note_fence(int order);
+
 /* Says what is wrong, and ends the test. */
 #define FAIL(...) (fprintf(stderr, __VA_ARGS__), fputc('\n', stderr), exit(1))
 

@@ -177,7 +177,7 @@ static void meet(unsigned side, unsigned round)
 }
 
 static uint16_t seen_by_guest;
-static unsigned published; /* 2: the index of a split ring; 8: a packed used descriptor */
+static unsigned published; /* 2: the index of a split ring; 4: what asks a packed driver; 8: a packed used descriptor */
 
 /* The guest says up to where it wants no notice, and looks whether something came. */
 static void *says_then_looks(void *nothing)
@@ -199,14 +199,63 @@ static void publishes_then_looks(void)
 		uint16_t all[4] = { (uint16_t)i, (uint16_t)i, (uint16_t)i, (uint16_t)i }, seen;
 
 		meet(0, 2 * i);
-		if (published == 2)
-			bus_store(map, 4102, 1, (const uint8_t *)all, 2);
-		else
-			bus_store(map, 4096, 1, (const uint8_t *)all, 8);
+		bus_store(map, 4104 - published, 1, (const uint8_t *)all, published);
 		seen = load_2(0);
 		meet(0, 2 * i + 1);
 		if (seen != (uint16_t)i && seen_by_guest != (uint16_t)i)
 			FAIL("a notice is lost: neither saw what the other stored");
+	}
+}
+
+/* What the guest names in a round: the index before, or the one slot of a packed ring on its side. */
+static uint16_t name_of(unsigned i)
+{
+	return (uint16_t)(published == 2 ? i - 1 : i % 2 << 15);
+}
+
+/* What is stored of a chain: an index, or flags with that side. */
+static uint16_t word_of(unsigned i)
+{
+	return (uint16_t)(published == 2 ? i : i % 2 << 15 | (i & 0x7fff));
+}
+
+/* The guest names the chain of which it wants a notice, and looks whether it came. */
+static void *names_then_looks(void *nothing)
+{
+	for (unsigned i = 1; !atomic_load(&over); i++) {
+		meet(1, 2 * i);
+		__atomic_store_n(HALF(64), name_of(i), __ATOMIC_RELAXED);
+		__atomic_thread_fence(__ATOMIC_SEQ_CST);
+		seen_by_guest = __atomic_load_n(HALF(4102), __ATOMIC_RELAXED);
+		meet(1, 2 * i + 1);
+	}
+	return nothing;
+}
+
+/* The device uses it in a round, and looks at its end whether a notice is wanted. */
+static void looks_behind_a_round(void)
+{
+	struct bus_map *its = (struct bus_map *)(uintptr_t)map;
+	const struct bus_ring split = { 0, 58, 4100, 1, 0, false }, packed = { 4088, 64, 0, 1, 0, false };
+
+	bus_rings(its, published == 8, true, published == 8 ? &packed : &split, 1);
+	if (published == 8)
+		*HALF(66) = 2;
+	for (unsigned i = 1; !is_late(i); i++) {
+		uint16_t word = word_of(i), all[4] = { word, word, word, word };
+
+		meet(0, 2 * i);
+		bus_begin_round(its);
+		bus_store(map, 4104 - published, 1, (const uint8_t *)all, published);
+		bool is_used = bus_end_round(its) == 1;
+		enum bus_wish wish = bus_wish(its, 0);
+		bool is_wanted = wish == BUS_WANTED || (wish == BUS_NAMED && bus_has_passed(its, 0, 0, !(i % 2)));
+
+		meet(0, 2 * i + 1);
+		if (!is_used)
+			FAIL("a chain is used that isn't told");
+		if (!is_wanted && seen_by_guest != word)
+			FAIL("a notice is lost behind a round: neither saw what the other stored");
 	}
 }
 
@@ -245,6 +294,31 @@ int main(int count, char **words)
 	beside("the index before the driver's event", says_then_looks, publishes_then_looks);
 	published = 8;
 	beside("a packed used descriptor before the driver's event", says_then_looks, publishes_then_looks);
+	published = 4;
+	beside("what asks a packed driver before its chain", says_then_looks, publishes_then_looks);
+	published = 2;
+	beside("a round before the driver's event", names_then_looks, looks_behind_a_round);
+	published = 8;
+	beside("a round of a packed queue before the driver's event", names_then_looks, looks_behind_a_round);
+	/* In a round what uses no chain has a barrier of its own; behind a round each chain has one again. */
+	const struct bus_ring elsewhere = { 0, 58, 600, 1, 0, false };
+
+	bus_rings(made, false, true, &elsewhere, 1);
+	bus_begin_round(made);
+	published = 2;
+	beside("what uses no chain in a round", says_then_looks, publishes_then_looks);
+	bus_end_round(made);
+	bus_rings(made, false, true, &(struct bus_ring){ 0, 58, 4100, 1, 0, false }, 1);
+	beside("an index behind a round", says_then_looks, publishes_then_looks);
+	bus_unmap(made);
+
+	/* The end of a region is stored to the long way. */
+	const struct bus_region few = { 0, 4104, memory };
+
+	made = mapped(&few, 1);
+	map = handle(made);
+	for (published = 2; published <= 8; published *= 2)
+		beside("the end of a region", says_then_looks, publishes_then_looks);
 	bus_unmap(made);
 	return 0;
 }

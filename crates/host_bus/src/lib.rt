@@ -70,7 +70,8 @@ impl HostBus {
 }
 
 impl Bus for HostBus {
-    // Each store of 2 bytes ends with a full barrier, and so does one of 8, unless one of 2 comes behind it first.
+    // Each store of 2, 4 or 8 bytes ends with a full barrier, but one of 8 where one of 2 comes behind it first. In a round of
+    // serving none stands behind what uses a chain: C looks at its end once more which drivers want to be notified.
     #[inline(always)]
     fn begin(&mut self) {}
 

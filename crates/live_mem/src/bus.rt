@@ -3,7 +3,8 @@
 /// Loads and stores bytes of a guest's memory while the guest runs. All addresses lie inside the memory. No clause says
 /// which bytes a load gives: the guest may change them at any moment. `RecordedBus` makes each call, and records it.
 pub trait Bus: Drop {
-    /// Begins a phase with a full barrier: later loads see nothing older than what was stored before.
+    /// Begins a phase with a full barrier: later loads see nothing older than what was stored before. Where a bus has none, its
+    /// owner sees to it that no driver waits for a notification which such a load left out.
     fn begin(&mut self);
 
     /// Loads the bytes from `addr` on, as many as `out` holds. It loads 2 bytes by one load that acquires. Of 16 bytes

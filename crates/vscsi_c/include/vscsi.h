@@ -17,10 +17,10 @@
  * process with threads.
  *
  * What a call answers. One of `enum vscsi_answer`. Each call says below what else but VSCSI_DONE it may answer. Then it
- * changed nothing, nor the room that it would write. Exceptions are said of vscsi_settle, vscsi_serve, and the fault that
- * vscsi_create tells. No call ends the process. Each call answers VSCSI_NULL where a pointer is null. A run of no bytes,
- * queues or units may be null, and what is called optional below. Each answers VSCSI_BAD_LENGTH where a length is more than
- * memory can have.
+ * changed nothing, nor the room that it would write. Exceptions are said of vscsi_settle, vscsi_serve, vscsi_disk_load,
+ * vscsi_disk_save, and the fault that vscsi_create tells. No call ends the process. Each call answers VSCSI_NULL where a pointer
+ * is null. A run of no bytes, queues, units, regions or disks may be null, and what is called optional below. Each answers
+ * VSCSI_BAD_LENGTH where a length is more than memory can have.
  *
  * What can't be checked, and is the caller's. Anything may happen by:
  * - a `struct vscsi` or `struct vscsi_disk` that isn't zeros and that no call left;
@@ -36,8 +36,8 @@
  * in memory (vscsi_disk_create_backed).
  *
  * Versions. VSCSI_VERSION is that of this header, vscsi_version() that of the library. With one major version programs
- * that were built with an older header go on working: numbers keep their meaning, and calls, numbers and fields at a
- * structure's end are only added. */
+ * that were built with an older header go on working: numbers keep their meaning, and calls, numbers and fields at the end of
+ * a structure whose size a call is told are only added. */
 #ifndef VSCSI_H
 #define VSCSI_H
 
@@ -49,10 +49,10 @@
 extern "C" {
 #endif
 
-/* The version of this header: 1.10.0. VSCSI_VERSION is major * 65,536 + minor * 256 + patch. */
+/* The version of this header: 1.10.1. VSCSI_VERSION is major * 65,536 + minor * 256 + patch. */
 #define VSCSI_VERSION_MAJOR 1
 #define VSCSI_VERSION_MINOR 10
-#define VSCSI_VERSION_PATCH 0
+#define VSCSI_VERSION_PATCH 1
 #define VSCSI_VERSION ((uint32_t)VSCSI_VERSION_MAJOR << 16 | (uint32_t)VSCSI_VERSION_MINOR << 8 | (uint32_t)VSCSI_VERSION_PATCH)
 
 /* A device, or none. Made of zeros: `struct vscsi device = {0};`. */
@@ -70,7 +70,7 @@ struct vscsi_disk {
 
 enum vscsi_answer {
   VSCSI_DONE = 0,
-  VSCSI_NO_MEMORY = 1,  /* malloc refused memory; the call may be made again */
+  VSCSI_NO_MEMORY = 1,  /* malloc refused memory, or a backed disk's page isn't in memory; the call may be made again */
   VSCSI_BAD_CONFIG = 2, /* the device doesn't take the configuration: `struct vscsi_fault` says why */
   VSCSI_NO_DEVICE = 3,  /* there is no device here: none was made, or it was destroyed */
   VSCSI_IN_USE = 4,     /* there is a device here already, or a disk */
@@ -190,8 +190,8 @@ struct vscsi_config {
 };
 
 /* Why a configuration isn't taken: the first of these, in this order, that is so. But queues are looked at one after the
- * other for 4 and 5, and so are units for 9, 10 and 15. Before all else units are looked at for 14, and then for what C has
- * of 15. Of a queue or a unit `place` says which, from 0. No cause has number 6 or 7. */
+ * other for 4 and 5, and so are units for 9, 10 and 15. Before all else the first 65 units are looked at for 14, and then for
+ * what C has of 15. Of a queue or a unit `place` says which, from 0. No cause has number 6 or 7. */
 enum vscsi_cause {
   VSCSI_CAUSE_PAGES = 1,        /* no pages, or more than 65,536 */
   VSCSI_CAUSE_FEATURES = 2,     /* no VSCSI_F_VERSION_1, or one that isn't among VSCSI_ACCEPTED_FEATURES */
@@ -350,8 +350,9 @@ enum vscsi_answer vscsi_close(struct vscsi *device, struct vscsi_disk *disks, si
 enum vscsi_answer vscsi_destroy(struct vscsi *device);
 
 /* Serves all that the guest made available on all queues, until nothing is left to do, and counts the steps. Called when a
- * driver notified a queue, or whenever; where there is nothing to do it costs a look at each queue. The control and the
- * request queues then have no chain outstanding. Event buffers are held until an event wants them, at most as many as the
+ * driver notified a queue, or whenever; where there is nothing to do it costs a look at each queue. Queue 0 comes first
+ * (vscsi_serve says when that matters). The control and the request queues then have no chain outstanding. Event buffers
+ * are held until an event wants them, at most as many as the
  * event queue has descriptors; one takes at most 600 bytes, however long its chain is. `steps` is optional.
  *
  * A guest can keep this call busy for ever: its own requests may make chains available, as a READ whose data the guest has
@@ -372,6 +373,10 @@ enum vscsi_answer vscsi_settle(struct vscsi *device, uint64_t *steps);
  * goes on from there. Where it is false those queues have no chain left, unless a fault broke one. Within one call lower
  * queue numbers are fetched first, so a queue that feeds itself holds up those above it. A host that must be fair gives one
  * bit at a time, and goes round. `steps`, how many were taken, and `more` are optional.
+ *
+ * A driver makes a task management function available behind the requests that it is about. So a host serves queue 0 last, by a
+ * call of its own, once one for the other queues left nothing (`more`). Else an abort may be answered before its request is taken,
+ * which then runs, though its driver takes it for over. That leaves those that both come between the two calls.
  * VSCSI_NO_DEVICE; VSCSI_NO_MEMORY where malloc refused what was next: what was served before stands, its notifications
  * are owed, and a later call goes on from there; how many steps these were isn't told. */
 enum vscsi_answer vscsi_serve(struct vscsi *device, uint32_t queues, uint64_t most, uint64_t *steps, bool *more);
@@ -440,7 +445,7 @@ enum vscsi_answer vscsi_capacity(struct vscsi *device, uint8_t target, uint16_t 
 
 /* Copies blocks of a unit out, as its commands left them; `length` is `count` times 512.
  * The first of these, in this order, that is so: VSCSI_NO_DEVICE; VSCSI_BAD_LENGTH; VSCSI_NO_UNIT; VSCSI_OUTSIDE;
- * VSCSI_NO_MEMORY, never where `count` is 0. */
+ * VSCSI_NO_MEMORY, never where `count` is 0; else always where the unit's disk is backed, since its storage has the blocks. */
 enum vscsi_answer vscsi_blocks(struct vscsi *device, uint8_t target, uint16_t lun, uint64_t first, uint32_t count, void *into,
                                size_t length);
 
@@ -475,19 +480,20 @@ enum vscsi_answer vscsi_disk_blocks(const struct vscsi_disk *disk, uint64_t *blo
 /* Copies bytes over blocks of a disk; `length` is `count` times 512. Blocks that a disk never got are zeros: whoever
  * loads a sparse file leaves its holes out. Since 1.2.
  * The first of these, in this order, that is so: VSCSI_NO_DISK; VSCSI_BAD_LENGTH; VSCSI_OUTSIDE; VSCSI_NO_MEMORY, and then no block
- * has changed: also where the disk is backed, and pages of these blocks aren't in memory. */
+ * has changed: also where the disk is backed, and has no room for a page of these blocks, or lacks one that they cover in part. Of
+ * such a disk room may be kept then, and pages wanted, as for a command. */
 enum vscsi_answer vscsi_disk_load(struct vscsi_disk *disk, uint64_t first, uint32_t count, const void *bytes, size_t length);
 
 /* Copies blocks of a disk out; `length` is `count` times 512. Since 1.2.
  * The first of these, in this order, that is so: VSCSI_NO_DISK; VSCSI_BAD_LENGTH; VSCSI_OUTSIDE; VSCSI_NO_MEMORY, never where
- * `count` is 0; also where the disk is backed, and pages of these blocks aren't in memory. */
+ * `count` is 0; also where the disk is backed, and pages of these blocks aren't in memory, which are wanted then as for a command. */
 enum vscsi_answer vscsi_disk_save(struct vscsi_disk *disk, uint64_t first, uint32_t count, void *into, size_t length);
 
 /* Live memory: a device that serves a guest where the guest's memory is, while the guest runs. Nothing is copied in and
  * nothing out. The device reads rings, tables, requests and data at the places that the host mapped, each byte once for what
  * it decides by it. It writes data, responses and the used ring there, the used index last. A guest that writes meanwhile
- * gives it nonsense at worst, which it is proved to stand. The host's loop is: wait for a kick, vscsi_live_serve,
- * vscsi_live_owed, notify.
+ * gives it nonsense at worst, which it is proved to stand. The host's loop is: wait for a kick; vscsi_live_serve of all queues but
+ * queue 0 until `more` is false, then of queue 0; vscsi_live_owed; notify.
  *
  * Makes a device of which nothing has happened yet, with no memory mapped: none of its queues is served before vscsi_map.
  * `disks` is optional: unit k has the blocks of disks[k], as vscsi_create_with says, or zeros where it is null. `fault` is
@@ -499,15 +505,17 @@ enum vscsi_answer vscsi_live_create(struct vscsi_live *device, const struct vscs
 
 /* Maps regions, in any order, in place of all that was mapped: after vscsi_live_create, and again between two calls whenever
  * the guest's memory changes. The bytes stay the host's: they must be mapped for as long as the device may be served with
- * them. What isn't in a region is a hole, which reads as zeros and swallows what is written there.
+ * them. What isn't in a region is a hole, which reads as zeros and swallows what is written there. A driver may see a
+ * descriptor, a used entry or an index torn, or in another order, that lies in two regions, or at an address of the host's that is no
+ * multiple of 8, 4 or 2 bytes. None does in regions of whole pages.
  *
  * A queue is mapped where each byte of its descriptors, its driver area and its device area lies in a region.
  * vscsi_live_serve takes no chain of one that isn't, and vscsi_live_ask writes nothing there; vscsi_live_broken tells it by
  * VSCSI_BROKEN_UNMAPPED. It is served on once it is mapped again. What was begun of it is answered wherever its areas are
  * then, so unmap where vscsi_live_serve left nothing (`more`). A queue that the driver never set up may lie at any address
  * that isn't mapped. Since 1.4.
- * VSCSI_NO_DEVICE; VSCSI_OUTSIDE where two regions overlap, one is empty or ends above VSCSI_MOST_ADDRESS, or there are more
- * than VSCSI_MOST_REGIONS; VSCSI_NO_MEMORY. Then what was mapped stays. */
+ * VSCSI_NULL, also where the `host` of one is null; VSCSI_NO_DEVICE; VSCSI_OUTSIDE where two regions overlap, one is empty or ends
+ * above VSCSI_MOST_ADDRESS, or there are more than VSCSI_MOST_REGIONS; VSCSI_NO_MEMORY. Then what was mapped stays. */
 enum vscsi_answer vscsi_map(struct vscsi_live *device, const struct vscsi_region *regions, size_t count);
 
 /* Logs which pages the device writes, for a guest that is migrated (vhost-user: LOG_ALL). Page n is the 4 KiB from guest
@@ -537,8 +545,9 @@ enum vscsi_answer vscsi_live_ask(struct vscsi_live *device, uint16_t queue, bool
 enum vscsi_answer vscsi_live_position(struct vscsi_live *device, uint16_t queue, struct vscsi_position *position);
 
 /* Of a device on live memory what the call of the same name does, but for two. vscsi_live_owed decides by the driver's flag,
- * or its event index, as it stood behind the full barrier behind the used index. So nothing needs to be looked at once more.
- * And vscsi_live_broken also tells a queue that isn't mapped.
+ * or its event index, as it stood behind a full barrier behind the used index or the used descriptor. So nothing needs to be
+ * looked at once more. One barrier may stand behind several chains: then a driver that withdrew its wish meanwhile may be
+ * notified all the same. And vscsi_live_broken also tells a queue that isn't mapped.
  *
  * Where the configuration has `asks`, vscsi_live_serve goes on until no driver made a chain available before it could see that
  * it was asked, or `most` steps were taken: to ask is no step. Where `more` is false then, the driver of each of those queues
@@ -570,20 +579,20 @@ enum vscsi_answer vscsi_live_destroy(struct vscsi_live *device);
  * What the host owes, and nothing checks: what it hands in by vscsi_live_load is what its storage had of the page when the disk
  * was made, or what it last said by vscsi_live_written that it kept. All that is promised of the unit's blocks rests on that.
  * Before vscsi_live_resize of such a unit it waits for its reads and writes to end, and behind it cuts its storage off at the lesser
- * capacity: where the disk grows again, what it reads there is zeros.
+ * capacity: where the disk grows again, what it reads there is zeros, also behind a crash.
  *
  * The host's loop, behind each kick and each read or write of its own that is over:
  * 1. vscsi_live_load, vscsi_live_load_failed, vscsi_live_lost or vscsi_live_written for what is over; if there was any,
  *    vscsi_live_wake.
- * 2. vscsi_live_serve until `more` is false; vscsi_live_owed, and notify.
+ * 2. vscsi_live_serve until `more` is false, of queue 0 last; vscsi_live_owed, and notify.
  * 3. vscsi_live_give of each backed disk until nothing is found: begin these writes. vscsi_live_wanted until nothing is found:
  *    begin these reads.
  * 4. If commands wait, vscsi_live_wake and vscsi_live_serve once more; and again from 2 where fewer wait than before. A command
  *    may wait for room that another had, and then no page that comes wakes it.
  * 5. If commands wait, and the host reads and writes nothing, malloc refused what they need, and no call may have answered so. After
  *    some time again from 4.
- * Before it closes a device the host waits for its reads and writes to end, and writes what vscsi_live_give still finds: pages that
- * were changed stay with the disk, and are lost with it.
+ * Before it closes a device the host waits for its reads and writes to end, and tells of each by step 1: the disk remembers what it
+ * asked for and gave. Then it writes what vscsi_live_give still finds: pages that were changed stay with the disk, and are lost with it.
  *
  * Makes a backed disk of 1 to VSCSI_MOST_BLOCKS blocks, of which at most `most_pages` pages are in memory, VSCSI_LEAST_PAGES or
  * more. None is there yet. Only a `struct vscsi_live` takes such a disk. Since 1.7.

@@ -1,5 +1,6 @@
 /* The calls of vscsi.h. Each tests what C alone can test, that a pointer isn't null and that a length is one, and hands the
- * rest to an export of the device. The exports' names are hidden in the finished library. */
+ * rest to an export of the device. vscsi_live_serve also begins and ends rounds (rounds.c). The exports' names are hidden in
+ * the finished library. */
 #include "vscsi.h"
 
 #include <string.h>
@@ -110,7 +111,11 @@ struct wanted_units {
 };
 
 /* A unit that says nothing of itself (`Identity::PLAIN`, command_model). */
-static const struct wanted_unit plain = {.rotation_rate = 1, .vendor = "VSCSI   ", .product = "TASK SET DISK   ", .revision = "0001"};
+static const struct wanted_unit plain = {
+    .rotation_rate = 1,
+    .vendor = {'V', 'S', 'C', 'S', 'I', ' ', ' ', ' '},
+    .product = {'T', 'A', 'S', 'K', ' ', 'S', 'E', 'T', ' ', 'D', 'I', 'S', 'K', ' ', ' ', ' '},
+    .revision = {'0', '0', '0', '1'}};
 
 /* Returns how long a text is that ends with a 0 or with its field. */
 static size_t length_of(const char *text, size_t size) {
@@ -192,16 +197,6 @@ static void tell_caches(struct wanted_units *wanted, struct vscsi_disk *disks) {
   for (size_t place = 0; place < wanted->count; place++) wanted->items[place].write_cache = vscsi_raw_disk_is_backed(&disks[place]);
 }
 
-/* Returns true if none of the units' disks is backed. Else tells of the first that is. */
-static bool are_in_memory(struct vscsi_disk *disks, size_t count, struct vscsi_fault *fault) {
-  for (size_t place = 0; place < count; place++) {
-    if (!vscsi_raw_disk_is_backed(&disks[place])) continue;
-    *fault = (struct vscsi_fault){.place = place, .cause = VSCSI_CAUSE_UNIT_DISK, .detail = 0};
-    return false;
-  }
-  return true;
-}
-
 /* The sizes of configurations in older headers: without `read_only`, `identities`, `profiles`, and without `asks`. */
 static const size_t size_without_read_only = offsetof(struct vscsi_config, read_only);
 static const size_t live_size_without_read_only = offsetof(struct vscsi_live_config, read_only);
@@ -269,7 +264,6 @@ enum vscsi_answer vscsi_create_with(struct vscsi *device, const struct vscsi_con
   if (device->live) return VSCSI_IN_USE;
   if (!fault) fault = &unread;
   if (!read_units(&units, config->units, config->unit_count, said_of(config), fault)) return VSCSI_BAD_CONFIG;
-  if (disks && !are_in_memory(disks, units.count, fault)) return VSCSI_BAD_CONFIG;
   return (enum vscsi_answer)vscsi_raw_create_with(device, config->pages, config->features, config->queues ? config->queues : &no_queue,
                                                   config->queue_count, units.items, units.count, disks ? disks : &nothing, units.count,
                                                   fault);
@@ -402,15 +396,15 @@ static enum vscsi_answer create_over(struct vscsi_live *device, struct bus_map *
 /* VIRTIO_F_RING_PACKED. */
 #define PACKED (UINT64_C(1) << 34)
 
-/* Tells the bus where the queues lie, so that it can look ahead. */
+/* Tells the bus where the queues lie, so that it can look ahead and note which chains are used. */
 static void tell_rings(struct bus_map *map, const struct vscsi_live_config *config) {
   struct bus_ring rings[BUS_MOST_RINGS];
   size_t count = config->ring_count < BUS_MOST_RINGS ? config->ring_count : BUS_MOST_RINGS;
   for (size_t i = 0; i < count; i++) {
     const struct vscsi_ring *it = &config->rings[i];
-    rings[i] = (struct bus_ring){it->desc, it->driver, it->size, it->first.available, it->first.available_wrapped};
+    rings[i] = (struct bus_ring){it->desc, it->driver, it->device, it->size, it->first.available, it->first.available_wrapped};
   }
-  bus_rings(map, config->features & PACKED, rings, count);
+  bus_rings(map, config->features & PACKED, config->features & VSCSI_F_EVENT_IDX, rings, count);
 }
 
 enum vscsi_answer vscsi_live_create(struct vscsi_live *device, const struct vscsi_live_config *config, struct vscsi_disk *disks,
@@ -464,10 +458,18 @@ _Static_assert(sizeof(struct vscsi_region) == 24 && sizeof(struct bus_region) ==
                    && VSCSI_MOST_REGIONS == BUS_MOST,
                "a region of the bus, and of the device, is a region of the header");
 
+/* Returns true if a region has no bytes of the host's. Of more regions than may be mapped it looks at as many as may. */
+static bool lacks_host(const struct vscsi_region *regions, size_t count) {
+  for (size_t i = 0; i < count && i < VSCSI_MOST_REGIONS; i++)
+    if (!regions[i].host) return true;
+  return false;
+}
+
 /* The bus has the regions, and the device is told which of its queues lie there. */
 enum vscsi_answer vscsi_map(struct vscsi_live *device, const struct vscsi_region *regions, size_t count) {
   if (!device || (!regions && count)) return VSCSI_NULL;
   if (is_long(count, sizeof *regions)) return VSCSI_BAD_LENGTH;
+  if (lacks_host(regions, count)) return VSCSI_NULL;
   if (!vscsi_raw_live_is_there(device)) return VSCSI_NO_DEVICE;
   enum bus_answer answer = bus_remap(device->map, (const struct bus_region *)(const void *)regions, count);
   if (answer != BUS_DONE) return answer == BUS_NO_MEMORY ? VSCSI_NO_MEMORY : VSCSI_OUTSIDE;
@@ -486,20 +488,42 @@ enum vscsi_answer vscsi_live_ask(struct vscsi_live *device, uint16_t queue, bool
   return device ? (enum vscsi_answer)vscsi_raw_live_ask(device, queue, notify) : VSCSI_NULL;
 }
 
+/* Returns whether the driver of a queue, of which chains were used in the round before, wants to be notified of these. */
+static bool wants(struct vscsi_live *device, uint16_t queue) {
+  enum bus_wish wish = bus_wish(device->map, queue);
+  struct vscsi_position next = {0};
+  return wish == BUS_WANTED || (wish == BUS_NAMED && (vscsi_raw_live_position(device, queue, &next) != VSCSI_DONE ||
+                                                      bus_has_passed(device->map, queue, next.used, !next.used_wrapped)));
+}
+
+/* Ends a round, behind which those drivers are owed a notification that want it by now. */
+static void end_round(struct vscsi_live *device) {
+  uint32_t owed = 0;
+  for (uint32_t left = bus_end_round(device->map); left; left &= left - 1) {
+    uint16_t queue = (uint16_t)__builtin_ctz(left);
+    if (wants(device, queue)) owed |= UINT32_C(1) << queue;
+  }
+  bus_owe(device->map, owed);
+}
+
 enum vscsi_answer vscsi_live_serve(struct vscsi_live *device, uint32_t queues, uint64_t most, uint64_t *steps, bool *more) {
   uint64_t taken = 0;
   bool left = false;
   if (!device) return VSCSI_NULL;
-  if (device->map) bus_look_ahead(device->map, queues);
+  bool several = device->map && bus_look_ahead(device->map, queues);
+  if (several) bus_begin_round(device->map);
   enum vscsi_answer answer = (enum vscsi_answer)(device->asks ? vscsi_raw_live_serve_and_ask(device, queues, most, &taken, &left)
                                                               : vscsi_raw_live_serve(device, queues, most, &taken, &left));
+  if (several) end_round(device);
   if (answer == VSCSI_DONE && steps) *steps = taken;
   if (answer == VSCSI_DONE && more) *more = left;
   return answer;
 }
 
 enum vscsi_answer vscsi_live_owed(struct vscsi_live *device, uint32_t *queues) {
-  return device && queues ? (enum vscsi_answer)vscsi_raw_live_owed(device, queues) : VSCSI_NULL;
+  enum vscsi_answer answer = device && queues ? (enum vscsi_answer)vscsi_raw_live_owed(device, queues) : VSCSI_NULL;
+  if (answer == VSCSI_DONE) *queues |= bus_take_owed(device->map);
+  return answer;
 }
 
 enum vscsi_answer vscsi_live_status(struct vscsi_live *device, uint8_t *status) {
@@ -655,7 +679,7 @@ const char *vscsi_cause_text(uint32_t cause) {
       [VSCSI_CAUSE_NO_LUN_0] = "a unit whose target has no LUN 0",
       [VSCSI_CAUSE_UNIT_DISK] = "a unit that is given no disk, one of another capacity, or a backed one that it can't have",
       [VSCSI_CAUSE_UNIT_PROFILE] = "a unit of a profile that the device doesn't know",
-      [VSCSI_CAUSE_UNIT_IDENTITY] = "a unit that says of itself what none may, or a narrow one that says anything",
+      [VSCSI_CAUSE_UNIT_IDENTITY] = "a unit that says of itself what none may, or a narrow one that says anything or is read-only",
       [VSCSI_CAUSE_UNIT_NAA] = "a unit whose NAA designator another has",
   };
   return TEXT_OF(texts, cause, "an unknown cause");
