@@ -13,8 +13,9 @@
 // have.
 enum { FEW_STEPS = 4, MANY_STEPS = 512, MOST_STEPS_BEFORE = 1 << 19 };
 // Milliseconds: how long the device runs before others of the daemon's descriptors are looked at, how long what can't go on
-// waits, and of backend_stop, how long all goes on, and how long the device has for what it began.
-enum { PORTION = 20, LEAST_PAUSE = 50, MOST_PAUSE = 5000, HASTE = 1000, FORCE = 5000 };
+// waits, how long a device that begins waits for the one before it, and of backend_stop, how long all goes on, and how long the device
+// has for what it began.
+enum { PORTION = 20, LEAST_PAUSE = 50, MOST_PAUSE = 5000, BRIEF = 100, HASTE = 1000, FORCE = 5000 };
 static const uint32_t CONTROL = UINT32_C(1) << CONTROL_QUEUE, EVENTS = UINT32_C(1) << EVENT_QUEUE, NO_QUEUES = 0;
 
 // Puts what is refused memory off, each time for twice as long.
@@ -97,10 +98,16 @@ static bool make(struct backend *backend, char *why, size_t room) {
                                            .read_only = read_only};
   memset(backend->noted, 0, sizeof backend->noted);
   memset(backend->idle, 0, sizeof backend->idle);
-  paging_end_rest(backend->disks);
+  // What is under way at a disk that doesn't answer is waited for with messages and signals in between.
+  bool is_free = paging_end_rest(backend->disks, clock_now() + BRIEF) || !paging_is_under_way(backend->disks);
+  if (!is_free) {
+    snprintf(why, room, "pages of disks are under way");
+    // It is tried again soon.
+    backend->pause = 0;
+  }
   // Another daemon may have the files still, or memory is refused, or the system can't read one now.
-  bool has_blocks = images_hold(backend->disks, why, room) && blocks_load(backend->disks, why, room);
-  backend->starved = !has_blocks && !blocks_are_lost(backend->disks);
+  bool has_blocks = is_free && images_hold(backend->disks, why, room) && blocks_load(backend->disks, why, room);
+  backend->starved = !has_blocks && !(is_free && blocks_are_lost(backend->disks));
   bool is_made = has_blocks && device_create(&backend->device, config, rings, backend->disks->stores, &backend->starved, why, room);
   if (is_made) paging_begin(backend->disks);
   return is_made;
@@ -237,10 +244,10 @@ static bool take_pages(struct backend *backend) {
   return true;
 }
 
-void backend_settle(struct backend *backend) {
-  if (!backend->pages) return;
-  paging_settle(backend->disks, &backend->device);
+bool backend_settle(struct backend *backend) {
+  if (!backend->pages) return true;
   backend->came = true;
+  return paging_settle(backend->disks, &backend->device, clock_now() + HASTE);
 }
 
 // Has pages read and written, and commands that wait go on as far as that helps. While reads are under way that isn't known: they are tried
@@ -391,11 +398,10 @@ bool backend_is_busy(const struct backend *backend) {
 
 bool backend_waits(const struct backend *backend) { return backend->pages && backend_is_busy(backend); }
 
-void backend_count(const struct backend *backend, size_t disk, struct vscsi_counts *counts) {
+void backend_count(struct backend *backend, size_t disk, struct vscsi_counts *counts) {
   const struct disk *its = &backend->disks->disks[disk];
-  struct device device = backend->device;
   struct vscsi_counts more = {0};
-  device_counts(&device, its->target, its->lun, &more);
+  device_counts(&backend->device, its->target, its->lun, &more);
   counts->left += more.left;
   counts->full += more.full;
   counts->good += more.good;
@@ -413,16 +419,16 @@ void backend_end(struct backend *backend) {
   backend->phase = IDLE;
   backend->waits = false;
   backend->pause = 0;
-  if (backend->pages && backend->device.live) paging_end(backend->disks, &backend->device);
+  if (backend->pages && backend->device.live) paging_end(backend->disks, &backend->device, UINT64_MAX);
   if (device_end(&backend->device, backend->disks->stores, backend->disks->count)) return;
-  backend->disks->lost = true;
+  blocks_lose(backend->disks);
   for (size_t i = 0; i < backend->disks->count; i++)
     if (backend->disks->disks[i].paging) paging_lose(&backend->disks->disks[i]);
 }
 
 // Waits for a time, or until backend_stop goes on to what it does next.
 static enum served wait_for(struct backend *backend, uint64_t passed) {
-  uint64_t next = clock_now() + (passed < HASTE ? HASTE : FORCE) - passed;
+  uint64_t next = clock_now() + (passed < HASTE ? HASTE - passed : passed < FORCE ? FORCE - passed : HASTE);
   if (backend->due > next) backend->due = next;
   return LATER;
 }
@@ -437,7 +443,8 @@ enum served backend_stop(struct backend *backend, uint64_t passed, uint32_t *owe
     enum ran ran = backend->mapped ? settle_pages(backend) : REFUSED;
     *owed |= device_owed(&backend->device) & (!backend->keeps ? UINT32_MAX : ring_waits(backend, EVENT_QUEUE) ? 0 : EVENTS);
     bool waits = ran == RAN && backend->waits;
-    if ((ran != RAN || waits) && is_late) return snprintf(why, room, "the device doesn't end what it began"), FAILED;
+    // Commands that wait for storage are waited for: their front end would go on behind answers that came in another order.
+    if (ran != RAN && is_late) return snprintf(why, room, "the device doesn't end what it began"), FAILED;
     if (ran == REFUSED) return put_off(backend), wait_for(backend, passed);
     if (ran == RUNS) return BUSY;
     backend->pause = 0;

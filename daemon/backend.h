@@ -114,14 +114,15 @@ bool backend_is_busy(const struct backend *backend);
 enum served backend_stop(struct backend *backend, uint64_t passed, uint32_t *owed, char *why, size_t room);
 
 // Adds what a disk did for this device to what it had counted before.
-void backend_count(const struct backend *backend, size_t disk, struct vscsi_counts *counts);
+void backend_count(struct backend *backend, size_t disk, struct vscsi_counts *counts);
 
 // Returns whether a driver made something available on one of these queues, which have no device yet. Drivers that weren't asked to
 // notify since their queues began are asked first.
 bool backend_has(struct backend *backend, uint32_t queues);
 
-// Waits until nothing of backed disks is under way, for another size of one of them. What waits goes on in the next call.
-void backend_settle(struct backend *backend);
+// Waits until nothing of backed disks is under way, for another size of one of them. What waits goes on in the next call. Returns false where
+// something is for a second.
+bool backend_settle(struct backend *backend);
 
 // Returns whether what a backend waits for may come by paging_wait.
 bool backend_waits(const struct backend *backend);

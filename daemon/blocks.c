@@ -33,13 +33,19 @@ static bool load(struct vscsi_disk *store, const struct disk *disk) {
   return true;
 }
 
+// Returns whether what a guest wrote to a disk is in memory alone.
+static bool is_in_memory(const struct disk *disk) {
+  bool is_snapshot = disk->read_only && !disk->is_protected;
+  return !disk->server && (disk->file < 0 || is_snapshot);
+}
+
 bool blocks_load(struct disks *disks, char *why, size_t room) {
   for (size_t i = 0; i < disks->count; i++) {
     const struct disk *disk = &disks->disks[i];
     struct vscsi_disk *store = &disks->stores[i];
     if (store_stands(store)) continue;
     bool has_file = disk->file >= 0;
-    if (disks->lost && !has_file && !disk->server) return snprintf(why, room, "a disk in memory was lost for want of memory"), false;
+    if (disk->is_lost) return snprintf(why, room, "a disk in memory was lost for want of memory"), false;
     if (disk->is_backed ? store_make_backed(store, disk->blocks, caches_pages(disk))
                         : store_make(store, disk->blocks) && (!has_file || load(store, disk)))
       continue;
@@ -49,9 +55,13 @@ bool blocks_load(struct disks *disks, char *why, size_t room) {
   return true;
 }
 
+void blocks_lose(struct disks *disks) {
+  for (size_t i = 0; i < disks->count; i++) disks->disks[i].is_lost = is_in_memory(&disks->disks[i]);
+}
+
 bool blocks_are_lost(const struct disks *disks) {
-  for (size_t i = 0; disks->lost && i < disks->count; i++)
-    if (disks->disks[i].file < 0 && !disks->disks[i].server && !store_stands(&disks->stores[i])) return true;
+  for (size_t i = 0; i < disks->count; i++)
+    if (disks->disks[i].is_lost && !store_stands(&disks->stores[i])) return true;
   return false;
 }
 

@@ -18,8 +18,8 @@
 #ifdef DAEMON_CONTROL
 #include <jansson.h>
 
-// PATIENCE: milliseconds that a request waits for the end of a round, or for what a file lacks.
-enum { WHY = 300, PATIENCE = 5000 };
+// Milliseconds: how long a request waits for the end of a round, or for what a file lacks; and for the daemon's own device.
+enum { WHY = 300, PATIENCE = 5000, BRIEF = 100 };
 
 bool control_is_built(void) { return true; }
 
@@ -81,7 +81,7 @@ static void add_pages(json_t *told, const struct paging *paging) {
 
 static json_t *stats_of(const struct controlled *controlled, size_t which) {
   const struct disk *disk = &controlled->disks->disks[which];
-  const struct backend *backend = live(controlled);
+  struct backend *backend = live(controlled);
   struct vscsi_counts counts = disk->counts;
   int error = paging_error(disk);
   char name[20];
@@ -113,6 +113,8 @@ static json_t *no_disk(const struct controlled *controlled, json_t *arguments, s
   return find(controlled->disks, words, which) ? NULL : error("NoDisk", words);
 }
 
+static const char under_way[] = "pages of disks are under way";
+
 static json_t *resize(const struct controlled *controlled, json_t *arguments) {
   char why[WHY];
   json_int_t bytes;
@@ -133,8 +135,11 @@ static json_t *resize(const struct controlled *controlled, json_t *arguments) {
   if (disk->is_direct && bytes % PAGE_BYTES) return error("BadSize", "with direct=on a size is a multiple of 4096 bytes");
   if (must_wait(controlled) || (backend ? disk->backlog.count > 0 : lacks(disk))) return error("Busy", "what the guest wrote isn't on the file yet");
   // No write of what the disk loses comes behind it, and no read of that is handed in.
-  if (backend && disk->is_backed) backend_settle(backend);
+  // What comes in meanwhile may have others go on.
   if (backend) controlled->session->more = true;
+  if (backend && disk->is_backed && !backend_settle(backend)) return error("Busy", under_way);
+  if (!backend && disk->is_backed && !paging_end_rest(controlled->disks, clock_now() + BRIEF))
+    return paging_is_under_way(controlled->disks) ? error("Busy", under_way) : error("NoMemory", "memory was refused");
   // A file is longer before the disk is, and shorter behind it.
   if (!shrinks && !image_resize(disk, blocks, why, sizeof why)) return error("File", why);
   if (backend && !device_resize(&backend->device, disk->target, disk->lun, blocks)) {
@@ -158,15 +163,23 @@ static json_t *reset(const struct controlled *controlled, json_t *arguments) {
   return done();
 }
 
-// Returns the answer of a request that waited in vain, or NULL, by which it waits.
-static json_t *wait_or(bool is_late, const char *text) { return is_late ? error("Busy", text) : NULL; }
+// The answer of a request that waits.
+static json_t later;
 
-static const char under_way[] = "pages of disks are under way";
+static json_t *wait_or(bool is_late, const char *text) { return is_late ? error("Busy", text) : &later; }
 
-// Adds a disk. Returns NULL where that has to wait for what is under way, and it isn't late.
+// Takes the disks back that the daemon's own device has. Returns false, and the answer, where it can't be now.
+static bool end_rest(struct disks *disks, bool is_late, json_t **came) {
+  if (paging_end_rest(disks, clock_now() + BRIEF)) return true;
+  *came = paging_is_under_way(disks) ? wait_or(is_late, under_way) : error("NoMemory", "memory was refused");
+  return false;
+}
+
+// Adds a disk, unless that has to wait for what is under way, and it isn't late.
 static json_t *attach(const struct controlled *controlled, json_t *arguments, int *file, bool is_late) {
   char why[WHY];
   const char *words, *naa = NULL;
+  json_t *came;
   struct disks *disks = controlled->disks;
   size_t which;
   if (json_unpack(arguments, "{s:s,s?s}", "disk", &words, "naa", &naa))
@@ -174,7 +187,7 @@ static json_t *attach(const struct controlled *controlled, json_t *arguments, in
   if (controlled->session) return error("InUse", "a front end is there");
   // Those that are there get other places.
   if (paging_is_under_way(disks)) return wait_or(is_late, under_way);
-  if (!paging_end_rest(disks)) return error("NoMemory", "memory was refused");
+  if (!end_rest(disks, is_late, &came)) return came;
   if (!disks_add(disks, words, why, sizeof why)) return error("BadDisk", why);
   disks_find(disks, words, &which);
   struct disk *disk = &disks->disks[which];
@@ -194,8 +207,8 @@ static json_t *attach(const struct controlled *controlled, json_t *arguments, in
   return error("BadDisk", why);
 }
 
-// Takes a disk away. Returns NULL where that has to wait for what its file lacks, which is written meanwhile, or for what is under way, and it
-// isn't late.
+// Takes a disk away, unless that has to wait for what its file lacks, which is written meanwhile, or for what is under way, and it isn't
+// late.
 static json_t *detach(const struct controlled *controlled, json_t *arguments, bool is_late) {
   struct disks *disks = controlled->disks;
   size_t which;
@@ -207,7 +220,8 @@ static json_t *detach(const struct controlled *controlled, json_t *arguments, bo
   if (is_needed || disks->count == 1) return error("BadDisk", "each target has a LUN 0, and there is a disk");
   if (lacks(disk)) return wait_or(is_late, "its file can't be written");
   if (paging_is_under_way(disks)) return wait_or(is_late, under_way);
-  if (!paging_end_rest(disks) || lacks(disk)) return error("Busy", "its file can't be written");
+  if (!end_rest(disks, is_late, &missing)) return missing;
+  if (lacks(disk)) return error("Busy", "its file can't be written");
   disks_remove(disks, which);
   return done();
 }
@@ -223,8 +237,8 @@ static json_t *answer(struct control *control, const struct controlled *controll
     came = error("BadRequest", fault.text);
   else if (!strcmp(command, "stats")) came = stats(controlled, arguments);
   else if (!strcmp(command, "reset")) came = reset(controlled, arguments);
-  else if (!strcmp(command, "attach")) control->waits = !(came = attach(controlled, arguments, &control->file, is_late)) && !is_late;
-  else if (!strcmp(command, "detach")) control->waits = !(came = detach(controlled, arguments, is_late)) && !is_late;
+  else if (!strcmp(command, "attach")) control->waits = (came = attach(controlled, arguments, &control->file, is_late)) == &later;
+  else if (!strcmp(command, "detach")) control->waits = (came = detach(controlled, arguments, is_late)) == &later;
   else if (strcmp(command, "resize")) came = error("NoCommand", command);
   else if (!(control->waits = must_wait(controlled) && !is_late)) came = resize(controlled, arguments);
   json_decref(request);

@@ -59,6 +59,7 @@ struct disk {
   unsigned pause;   // milliseconds between two tries then, and the time of the next one
   uint64_t due;
   uint64_t told;    // when it was last said that it can't be written, or 0
+  bool is_lost;     // what a guest wrote to it was in memory alone, and a device couldn't give it back
   struct vscsi_counts counts;  // what it did for devices that ended
   struct backlog backlog;
 };
@@ -67,7 +68,6 @@ struct disks {
   struct disk disks[DEVICE_MOST_UNITS];
   struct vscsi_disk stores[DEVICE_MOST_UNITS];
   size_t count;
-  bool lost;   // a device couldn't give its disks back
   bool moves;  // images are locked and loaded only while a queue is started, since the guest may move to another host
   bool held;   // they are
   struct storage *storage;  // of backed disks, or NULL

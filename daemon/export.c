@@ -13,9 +13,9 @@
 #include "kind.h"
 #include "signals.h"
 
-// Milliseconds: for how long a connection may take to be made, in which portions the first one is looked at, and between two tries to
-// connect again.
-enum { MAKING = 10000, PORTION = 50, LEAST_PAUSE = 50, MOST_PAUSE = 5000 };
+// Milliseconds: for how long a connection may take to be made, and the server to keep what it has, in which portions the first one is
+// looked at, and between two tries to connect again.
+enum { MAKING = 10000, FLUSHING = 60000, PORTION = 50, LEAST_PAUSE = 50, MOST_PAUSE = 5000 };
 
 struct export {
   struct server server;
@@ -59,15 +59,30 @@ static bool suits(struct export *export) {
 
 static bool is_gone(const struct export *export) { return nbd_aio_is_dead(export->nbd) || nbd_aio_is_closed(export->nbd); }
 
+// Waits a little for what the server sends. Returns false, and notes why, where nothing comes any more, or not until that time.
+static bool await(struct export *export, uint64_t until) {
+  if (is_gone(export)) return server_note_fault(&export->server, closed), false;
+  if (signals_end_waits() || clock_now() >= until) return server_note_fault(&export->server, silent), false;
+  return nbd_poll(export->nbd, PORTION) >= 0 || (server_note_fault(&export->server, nbd_get_error()), false);
+}
+
 // Waits for the first connection. Returns false, and notes why, where there is none.
-static bool await(struct export *export) {
+static bool await_ready(struct export *export) {
   uint64_t until = clock_now() + MAKING;
-  while (!nbd_aio_is_ready(export->nbd)) {
-    if (is_gone(export)) return server_note_fault(&export->server, closed), false;
-    if (signals_end_waits() || clock_now() >= until) return server_note_fault(&export->server, silent), false;
-    if (nbd_poll(export->nbd, PORTION) < 0) return server_note_fault(&export->server, nbd_get_error()), false;
-  }
+  while (!nbd_aio_is_ready(export->nbd))
+    if (!await(export, until)) return false;
   return true;
+}
+
+// Has the server keep what a daemon that was killed wrote: that is what is read from here on. Returns false, and notes why, where it
+// doesn't.
+static bool flush(struct export *export) {
+  uint64_t until = clock_now() + FLUSHING;
+  int64_t cookie = nbd_aio_flush(export->nbd, NBD_NULL_COMPLETION, 0);
+  int over = cookie < 0 ? -1 : nbd_aio_command_completed(export->nbd, (uint64_t)cookie);
+  for (; !over; over = nbd_aio_command_completed(export->nbd, (uint64_t)cookie))
+    if (!await(export, until)) return false;
+  return over > 0 || (server_note_fault(&export->server, nbd_get_error()), false);
 }
 
 // Keeps what connects again. A socket's path stands in the URI.
@@ -184,7 +199,7 @@ struct server *export_open(const char *uri, char *why, size_t room) {
   export->uri = strdup(uri);
   bool begun = export->uri && make(export) && !nbd_aio_connect_uri(export->nbd, uri);
   if (!begun) server_note_fault(server, nbd_get_error());
-  server->is_there = begun && await(export) && suits(export) && keep(export);
+  server->is_there = begun && await_ready(export) && suits(export) && flush(export) && keep(export);
   if (server->is_there) return server;
   snprintf(why, room, "%s: %s", uri, server->fault);
   return server_close(server), NULL;

@@ -82,12 +82,26 @@ static bool measure(struct disk *disk, char *why, size_t room) {
   return true;
 }
 
-// Has an image read and written with no cache of the system's, where its words say so. Whole pages alone can be, then.
-static bool make_direct(const struct disk *disk, char *why, size_t room) {
-  if (!disk->is_direct || disk->file < 0) return true;
-  if (disk->blocks * DEVICE_BLOCK % PAGE_BYTES) return refuse(disk, "direct=on: the disk has no multiple of 4096 bytes", why, room);
-  if (!fcntl(disk->file, F_SETFL, O_DIRECT | fcntl(disk->file, F_GETFL))) return true;
-  return refuse(disk, errno == EINVAL ? "direct=on: its file system has no O_DIRECT" : NULL, why, room);
+// Has an image read and written as its words say: with no cache of the system's, perhaps. Whole pages alone can be, then. O_NONBLOCK was
+// for opening: with it io_uring gives up at once where what lies below can't be asked without waiting, as dm-crypt.
+static bool set_flags(const struct disk *disk, char *why, size_t room) {
+  if (disk->file < 0) return true;
+  if (disk->is_direct && disk->blocks * DEVICE_BLOCK % PAGE_BYTES)
+    return refuse(disk, "direct=on: the disk has no multiple of 4096 bytes", why, room);
+  int flags = (fcntl(disk->file, F_GETFL) & ~O_NONBLOCK) | (disk->is_direct ? O_DIRECT : 0);
+  if (!fcntl(disk->file, F_SETFL, flags)) return true;
+  return refuse(disk, disk->is_direct && errno == EINVAL ? "direct=on: its file system has no O_DIRECT" : NULL, why, room);
+}
+
+// Waits until an image that was locked has what was written to it before. What a daemon that was killed wrote may stand in the system's
+// memory alone, and is what is read from here on.
+static bool sync_image(const struct disk *disk, char *why, size_t room) {
+  return disk->read_only || !fdatasync(disk->file) || refuse(disk, NULL, why, room);
+}
+
+static bool is_device(const struct disk *disk) {
+  struct stat stat;
+  return !fstat(disk->file, &stat) && S_ISBLK(stat.st_mode);
 }
 
 // Tests that an image is as long as its disk, or can be made so. A disk without a size gets the image's.
@@ -101,7 +115,9 @@ static bool fits(struct disk *disk, char *why, size_t room) {
   }
   if (disk->length > wanted) return refuse(disk, "longer than the disk", why, room);
   if (disk->length == wanted) return true;
-  if (!disk->grows) return refuse(disk, "shorter than the disk; the word grow makes it longer", why, room);
+  // An empty one is as one that isn't there: a daemon that was killed as it made it leaves that.
+  bool grows = disk->grows || (!disk->length && !disk->read_only);
+  if (!grows) return refuse(disk, "shorter than the disk; the word grow makes it longer", why, room);
   return (!fstat(disk->file, &stat) && S_ISREG(stat.st_mode)) || refuse(disk, "shorter than the disk, and no file that grows", why, room);
 }
 
@@ -118,7 +134,8 @@ static bool open_image(struct disk *disk, bool is_locked_now, char *why, size_t 
   bool is_barred = disk->file < 0 && (errno == EACCES || errno == EPERM || errno == EROFS);
   if (is_barred && !disk->read_only) return refuse_writing(disk, why, room);
   if (disk->file < 0) return refuse(disk, NULL, why, room);
-  return measure(disk, why, room) && (!is_locked_now || lock_first(disk, why, room)) && fits(disk, why, room) && make_direct(disk, why, room);
+  bool is_had = measure(disk, why, room) && (!is_locked_now || (lock_first(disk, why, room) && sync_image(disk, why, room)));
+  return is_had && fits(disk, why, room) && set_flags(disk, why, room);
 }
 
 // Connects to the server of a disk, and tests that its export or its image is as long as the disk.
@@ -142,10 +159,16 @@ bool images_open(struct disks *disks, char *why, size_t room) {
   return true;
 }
 
-// Locks an image that another daemon may have had, and tests that it left it as long as it was.
+// Locks an image that another daemon may have had, and tests that it left it as long as it was. Another host may have written what this
+// system has in its memory.
 static bool hold(struct disk *disk, char *why, size_t room) {
-  if (!lock(disk, why, room) || !measure(disk, why, room)) return false;
-  return disk->length == disk->blocks * DEVICE_BLOCK || refuse(disk, "not as long as it was", why, room);
+  uint64_t wanted = disk->blocks * DEVICE_BLOCK, before = disk->length;
+  if (!lock(disk, why, room) || !measure(disk, why, room) || !sync_image(disk, why, room)) return false;
+  errno = posix_fadvise(disk->file, 0, 0, POSIX_FADV_DONTNEED);
+  if (errno) return refuse(disk, NULL, why, room);
+  // A block device stays as long as it is where its disk gets shorter.
+  bool is_whole = disk->length == wanted || (disk->length > wanted && disk->length == before && is_device(disk));
+  return is_whole || refuse(disk, "not as long as it was", why, room);
 }
 
 bool images_hold(struct disks *disks, char *why, size_t room) {
@@ -168,6 +191,18 @@ static bool grow(const struct disks *disks, struct disk *disk, char *why, size_t
   return stands;
 }
 
+// Returns whether another disk has the file of this one, and one of them writes it. Locks don't tell where one descriptor came twice.
+static bool is_taken(const struct disks *disks, const struct disk *disk) {
+  struct stat its, other;
+  if (fstat(disk->file, &its)) return false;
+  for (size_t i = 0; i < disks->count; i++) {
+    const struct disk *it = &disks->disks[i];
+    if (it == disk || it->file < 0 || (it->read_only && disk->read_only) || fstat(it->file, &other)) continue;
+    if (its.st_dev == other.st_dev && its.st_ino == other.st_ino) return true;
+  }
+  return false;
+}
+
 bool image_take(const struct disks *disks, struct disk *disk, char *why, size_t room) {
   int flags = fcntl(disk->file, F_GETFL), wanted = disk->read_only ? O_RDONLY : O_RDWR;
   bool suits = (flags & O_ACCMODE) == wanted || (flags & O_ACCMODE) == O_RDWR;
@@ -175,8 +210,9 @@ bool image_take(const struct disks *disks, struct disk *disk, char *why, size_t 
   // What is written goes to the end of the file by the one, and has to be aligned by the other.
   if (flags & O_APPEND) return refuse(disk, "its descriptor has O_APPEND", why, room);
   if (flags & O_DIRECT && !disk->is_direct) return refuse(disk, "its descriptor has O_DIRECT, and its disk no direct=on", why, room);
-  if (!measure(disk, why, room) || (!is_loose(disks) && !lock_first(disk, why, room))) return false;
-  if (!fits(disk, why, room) || !make_direct(disk, why, room)) return false;
+  if (is_taken(disks, disk)) return refuse(disk, "in use, by another disk of this daemon", why, room);
+  if (!measure(disk, why, room) || (!is_loose(disks) && !(lock_first(disk, why, room) && sync_image(disk, why, room)))) return false;
+  if (!fits(disk, why, room) || !set_flags(disk, why, room)) return false;
   return disk->length == disk->blocks * DEVICE_BLOCK || grow(disks, disk, why, room);
 }
 
@@ -187,10 +223,16 @@ bool image_resize(struct disk *disk, uint64_t blocks, char *why, size_t room) {
   if (disk->file < 0 || disk->read_only) return true;
   if (disk->is_direct && bytes % PAGE_BYTES) return refuse(disk, "direct=on: no multiple of 4096 bytes", why, room);
   if (fstat(disk->file, &stat) || !measure(disk, why, room)) return refuse(disk, NULL, why, room);
-  if (S_ISREG(stat.st_mode)) return (!ftruncate(disk->file, (off_t)bytes) && !fdatasync(disk->file)) || refuse(disk, NULL, why, room);
+  if (S_ISREG(stat.st_mode)) {
+    // A file that is longer than its disk has what an earlier resize couldn't cut off.
+    uint64_t now = disk->blocks * DEVICE_BLOCK;
+    bool is_cut = bytes <= now || disk->length <= now || !ftruncate(disk->file, (off_t)now);
+    return (is_cut && !ftruncate(disk->file, (off_t)bytes) && !fdatasync(disk->file)) || refuse(disk, NULL, why, room);
+  }
   if (bytes > disk->length) return refuse(disk, "the block device is shorter", why, room);
   off_t from = (off_t)(disk->blocks * DEVICE_BLOCK);
-  bool zeroed = blocks <= disk->blocks || !fallocate(disk->file, FALLOC_FL_ZERO_RANGE | FALLOC_FL_KEEP_SIZE, from, (off_t)bytes - from);
+  bool zeroed = blocks <= disk->blocks || (!fallocate(disk->file, FALLOC_FL_ZERO_RANGE | FALLOC_FL_KEEP_SIZE, from, (off_t)bytes - from) &&
+                                           !fdatasync(disk->file));
   return zeroed || refuse(disk, NULL, why, room);
 }
 
@@ -217,7 +259,7 @@ static bool make(struct disk *disk, bool is_locked_now, uid_t user, gid_t group,
   if (disk->file < 0) return refuse(disk, NULL, why, room);
   disk->made = true;
   if (fchown(disk->file, user, group)) return refuse(disk, NULL, why, room);
-  if (!make_direct(disk, why, room)) return false;
+  if (!set_flags(disk, why, room)) return false;
   if (is_locked_now && !lock(disk, why, room)) return false;
   bool stands = !ftruncate(disk->file, (off_t)(disk->blocks * DEVICE_BLOCK)) && !fsync(disk->file) && sync_folder(disk->path);
   return stands || refuse(disk, NULL, why, room);
@@ -247,6 +289,7 @@ void images_undo(struct disks *disks) {
     // One that isn't locked may be another daemon's by now.
     if (is_loose(disks) && !lock(disk, NULL, 0)) continue;
     if (disk->made) take_away(disk);
+    else if (is_loose(disks) && !disk->length) continue;  // another may have taken it for its own
     else if (ftruncate(disk->file, (off_t)disk->length)) continue;  // it stays longer: zeros that nobody wrote
     disk->made = disk->grown = false;
   }

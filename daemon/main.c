@@ -106,6 +106,8 @@ static void take_front_end(struct daemon *daemon) {
 static void take_client(struct daemon *daemon) {
   if (daemon->control.client >= 0) return;
   int fd = accept4(daemon->operators.fd, NULL, NULL, SOCK_CLOEXEC | SOCK_NONBLOCK);
+  // As above.
+  if (fd < 0 && errno != EAGAIN && errno != EINTR) poll(NULL, 0, 10);
   if (fd < 0) return;
   control_take(&daemon->control, fd);
   epoll_ctl(daemon->epoll, EPOLL_CTL_DEL, daemon->operators.fd, NULL);
@@ -128,8 +130,10 @@ static void serve_client(struct daemon *daemon) {
 static int write_rest(struct daemon *daemon) {
   struct device none = {0};
   struct disks *disks = &daemon->disks;
-  bool has_device = daemon->connected && daemon->session.backend.device.live;
-  if (has_device || !blocks_are_left(disks)) return -1;
+  const struct backend *backend = daemon->connected ? &daemon->session.backend : NULL;
+  // A device that begins waits for what is under way: nothing more is begun meanwhile.
+  bool is_awaited = backend && backend->pause && paging_is_under_way(disks);
+  if ((backend && backend->device.live) || is_awaited || !blocks_are_left(disks)) return -1;
   enum kept kept = blocks_keep(&none, disks, false);
   bool is_left = paging_write_rest(disks);
   blocks_tell(disks);

@@ -53,7 +53,7 @@ bool paging_open(struct disks *disks, bool comes, char *why, size_t room) {
 
 void paging_close(struct disks *disks) {
   if (!disks->storage) return;
-  paging_end_rest(disks);
+  paging_end_rest(disks, UINT64_MAX);
   for (size_t i = 0; i < disks->count; i++) paging_leave(disks, &disks->disks[i]);
   storage_end(disks->storage);
   disks->storage = NULL;
@@ -348,7 +348,8 @@ static bool begin_reads(struct disks *disks, size_t which, struct device *device
   bool handed_in = false, is_first = true, comes;
   // Beside one that can't be read others may be.
   struct gathering gathering = {disks, which, paging->reading.error ? 1 : MOST_TRANSFERRED, NULL, NULL};
-  if (is_away(disk) || (paging->reading.error && clock_now() < paging->reading.due)) return false;
+  // No command of the daemon's own device wants a page.
+  if (device == &disks->rest || is_away(disk) || (paging->reading.error && clock_now() < paging->reading.due)) return false;
   while (has_room(&gathering, TRANSFER_READ)) {
     uint8_t *buffer = storage_buffer(disks->storage, TRANSFER_READ, last_of(&gathering));
     uint64_t page;
@@ -459,7 +460,8 @@ bool paging_give(struct disks *disks, struct device *device, enum wait waits) {
     if (is_sync_due(&disks->disks[i], waits)) begin_sync(disks, i);
     passes = passes || is_put_off(&disks->disks[i]);
   }
-  if (passes) storage_pass(disks->storage);
+  // Commands that wait while nothing is under way were refused memory, and no kick may come.
+  if (passes || (waits == WAITS_SURELY && !paging_is_under_way(disks))) storage_pass(disks->storage);
   storage_send(disks->storage);
   return handed_in;
 }
@@ -478,15 +480,20 @@ bool paging_is_under_way(const struct disks *disks) {
 
 void paging_wait(struct disks *disks, unsigned milliseconds) { storage_wait(disks->storage, milliseconds); }
 
-void paging_settle(struct disks *disks, struct device *device) {
+bool paging_settle(struct disks *disks, struct device *device, uint64_t until) {
   size_t reads = 0;
   for (unsigned turn = 0; turn < 2; turn++) {
     for (size_t i = 0; turn && i < disks->count; i++)
       if (disks->disks[i].paging) begin_sync(disks, i);
-    for (storage_send(disks->storage); paging_is_under_way(disks); paging_take(disks, device, &reads)) storage_wait(disks->storage, LAST);
+    for (storage_send(disks->storage); paging_is_under_way(disks); paging_take(disks, device, &reads)) {
+      uint64_t now = clock_now();
+      if (now >= until) return false;
+      storage_wait(disks->storage, until - now < LAST ? (unsigned)(until - now) : LAST);
+    }
   }
   for (size_t i = 0; i < disks->count; i++)
     if (disks->disks[i].paging) ahead_forget(&disks->disks[i].paging->ahead);
+  return true;
 }
 
 // Finds whether memory has something of a disk that its file lacks.
@@ -500,13 +507,14 @@ static bool find_left(struct disks *disks, struct paging *paging, struct device 
   return given != GIVEN_NONE || paging->run_count;
 }
 
-void paging_end(struct disks *disks, struct device *device) {
-  paging_settle(disks, device);
+bool paging_end(struct disks *disks, struct device *device, uint64_t until) {
+  if (!paging_settle(disks, device, until)) return false;
   for (size_t i = 0; i < disks->count; i++) {
     struct paging *paging = disks->disks[i].paging;
     // What the device was never told of a run is told to the next one.
     if (paging) paging->is_left = paging->run_count || find_left(disks, paging, device);
   }
+  return true;
 }
 
 static RARE void tell(struct disk *disk) {
@@ -598,10 +606,10 @@ void paging_lose(struct disk *disk) {
   paging->run_count = 0;
 }
 
-bool paging_end_rest(struct disks *disks) {
+bool paging_end_rest(struct disks *disks, uint64_t until) {
   struct vscsi_disk stores[DEVICE_MOST_UNITS] = {{0}};
   if (!disks->rest.live) return true;
-  paging_end(disks, &disks->rest);
+  if (!paging_end(disks, &disks->rest, until)) return false;
   bool ended = device_end(&disks->rest, stores, disks->rest_count);
   for (size_t n = 0; n < disks->rest_count; n++) {
     struct disk *disk = &disks->disks[disks->rest_disks[n]];
@@ -614,7 +622,8 @@ bool paging_end_rest(struct disks *disks) {
 // Finds whether a disk's file has all, behind paging_give for the daemon's own device: nothing is changed there any more.
 static bool note_written(struct disk *disk) {
   struct paging *paging = disk->paging;
-  if (!paging) return true;
+  // Nothing is changed here any more of one that has all, whether its server is there or not.
+  if (!paging || !paging->is_left) return true;
   bool is_written = paging->gave_all && !paging->transfers && !paging->run_count;
   if (is_written) paging->is_left = false;
   return is_written;
@@ -625,6 +634,8 @@ bool paging_write_rest(struct disks *disks) {
   bool is_done = true;
   if (!disks->storage || (!disks->rest.live && !paging_are_left(disks))) return false;
   if (!disks->rest.live && !make_rest(disks)) {
+    // The pass before this one is over, perhaps.
+    paging_take(disks, &disks->rest, &reads);
     storage_pass(disks->storage);
     return storage_send(disks->storage), true;
   }
@@ -632,7 +643,7 @@ bool paging_write_rest(struct disks *disks) {
   paging_give(disks, &disks->rest, WAITS_SURELY);
   paging_tell(disks);
   for (size_t i = 0; i < disks->count; i++) is_done = note_written(&disks->disks[i]) && is_done;
-  return !is_done || !paging_end_rest(disks) || paging_are_left(disks);
+  return !is_done || !paging_end_rest(disks, UINT64_MAX) || paging_are_left(disks);
 }
 
 // Returns whether a file couldn't be written when that was last tried.
@@ -652,7 +663,7 @@ bool paging_finish(struct disks *disks, char *why, size_t room) {
     if (clock_now() >= until) break;
     paging_wait(disks, LEAST_PAUSE);
   }
-  paging_end_rest(disks);
+  paging_end_rest(disks, UINT64_MAX);
   for (size_t i = 0; i < disks->count; i++) {
     const struct disk *disk = &disks->disks[i];
     const char *cause = paging_error(disk) ? strerror(paging_error(disk)) : "memory was refused";

@@ -100,11 +100,12 @@ bool paging_is_under_way(const struct disks *disks);
 // Waits until something is over, for so many milliseconds at most.
 void paging_wait(struct disks *disks, unsigned milliseconds);
 
-// Waits until nothing is under way, and syncs what was written. No write of a disk is under way behind this, and none is begun.
-void paging_settle(struct disks *disks, struct device *device);
+// Waits until nothing is under way, and syncs what was written. No write of a disk is under way behind this, and none is begun. Returns false
+// where something is at that time, in milliseconds of the clock: then it is called again.
+bool paging_settle(struct disks *disks, struct device *device, uint64_t until);
 
-// Settles, and finds of which disks memory has something that the file lacks, before the device ends.
-void paging_end(struct disks *disks, struct device *device);
+// Settles, and finds of which disks memory has something that the file lacks, before the device ends. Returns false as paging_settle does.
+bool paging_end(struct disks *disks, struct device *device, uint64_t until);
 
 // Notes that a disk couldn't be had back from its device for want of memory: it begins anew, as its file is.
 void paging_lose(struct disk *disk);
@@ -122,8 +123,8 @@ bool paging_are_left(const struct disks *disks);
 // Writes what devices that ended left, while there is none. Returns whether more is left: then it is called again behind the next event.
 bool paging_write_rest(struct disks *disks);
 
-// Takes the disks back that paging_write_rest has. Returns false where memory was refused.
-bool paging_end_rest(struct disks *disks);
+// Takes the disks back that paging_write_rest has. Returns false where memory was refused, or as paging_settle does.
+bool paging_end_rest(struct disks *disks, uint64_t until);
 
 // Writes what is left as the daemon ends, until a second has passed in which nothing more stands on a file. Returns false, and names a disk
 // and why, where one lacks something.

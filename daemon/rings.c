@@ -144,8 +144,9 @@ static void put(uint64_t *into, uint64_t number) { __atomic_store_n(into, number
 bool ring_recall(const struct backend *backend, unsigned q, uint32_t *base) {
   const struct backend_queue *queue = &backend->queues[q];
   const struct place *place = place_of(backend, q);
-  if (!place || !(place->now & IS_NOTED)) return false;
-  uint32_t now = (uint32_t)place->now;
+  uint64_t noted = place ? __atomic_load_n(&place->now, __ATOMIC_ACQUIRE) : 0;
+  if (!(noted & IS_NOTED)) return false;
+  uint32_t now = (uint32_t)noted;
   uint16_t slot = now >> 16 & 0x7fff;
   if (!backend->packed) *base = load(queue->device_at + 2);
   // Whether the descriptor whose turn it was is still the driver's.
@@ -216,10 +217,12 @@ static bool find_used(const struct backend_queue *queue, const struct position *
 // Shows the used descriptors of a packed ring. Returns whether there were any.
 static bool show_packed(struct backend *backend, unsigned q) {
   struct backend_queue *queue = &backend->queues[q];
-  struct place *place = place_of(backend, q);
   const struct position end = behind(backend, q);
   uint16_t slot = queue->ring.first.used;
   bool wrapped = queue->ring.first.used_wrapped, shown = false;
+  // Where commands wait for pages, chains end in any order, of which one place doesn't tell: there is none until all are shown.
+  struct place *place = backend->pages ? NULL : place_of(backend, q);
+  if (backend->pages) ring_forget(backend, q);
   for (bool more = find_used(queue, &end, &slot, &wrapped); more; shown = true) {
     uint16_t at = slot;
     step(queue, &slot, &wrapped);
@@ -228,12 +231,15 @@ static bool show_packed(struct backend *backend, unsigned q) {
     const struct position next = more ? (struct position){slot, slot, wrapped, wrapped} : end;
     const uint8_t *its = queue->descriptors + (size_t)at * DESCRIPTOR;
     if (place) put(&place->next, IS_NOTED | base_of(backend, &next));
-    memcpy(slot_at(queue, at) + USED_AT, its + USED_AT, FLAGS_AT - USED_AT);
-    store(slot_at(queue, at) + FLAGS_AT, load(its + FLAGS_AT));
+    // Length, id and flags at once: a daemon that is killed leaves the driver's descriptor, or the used one.
+    uint64_t used;
+    memcpy(&used, its + USED_AT, sizeof used);
+    __atomic_store_n((uint64_t *)(void *)(slot_at(queue, at) + USED_AT), used, __ATOMIC_RELEASE);
     if (backend->logs) memory_mark(&backend->memory, queue->ring.desc + (uint64_t)DESCRIPTOR * at, DESCRIPTOR);
     if (place) put(&place->now, IS_NOTED | base_of(backend, &next));
   }
   queue->ring.first = end;
+  if (backend->pages) ring_note(backend, q);
   return shown;
 }
 

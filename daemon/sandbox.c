@@ -132,7 +132,7 @@ static const int calls[] = {
     SCMP_SYS(epoll_ctl), SCMP_SYS(epoll_wait), SCMP_SYS(epoll_pwait), SCMP_SYS(poll), SCMP_SYS(ppoll), SCMP_SYS(restart_syscall),
     SCMP_SYS(accept4), SCMP_SYS(recvmsg), SCMP_SYS(sendmsg), SCMP_SYS(sendto), SCMP_SYS(memfd_create), SCMP_SYS(ftruncate), SCMP_SYS(close), SCMP_SYS(read), SCMP_SYS(write), SCMP_SYS(writev),
     SCMP_SYS(pread64), SCMP_SYS(preadv2), SCMP_SYS(pwrite64), SCMP_SYS(lseek), SCMP_SYS(fcntl), SCMP_SYS(fstat), SCMP_SYS(fstatfs), SCMP_SYS(newfstatat),
-    SCMP_SYS(fallocate), SCMP_SYS(fdatasync), SCMP_SYS(io_uring_enter), SCMP_SYS(flock), SCMP_SYS(rt_sigaction), SCMP_SYS(rt_sigprocmask), SCMP_SYS(rt_sigpending),
+    SCMP_SYS(fallocate), SCMP_SYS(fadvise64), SCMP_SYS(fdatasync), SCMP_SYS(io_uring_enter), SCMP_SYS(flock), SCMP_SYS(rt_sigaction), SCMP_SYS(rt_sigprocmask), SCMP_SYS(rt_sigpending),
     SCMP_SYS(rt_sigreturn), SCMP_SYS(getpid), SCMP_SYS(gettid), SCMP_SYS(exit), SCMP_SYS(exit_group)};
 
 // Allows one call where an argument has these bits, of those of a mask.

@@ -23,8 +23,7 @@
 // What QEMU may have a driver agree to by itself: events of disks that come or go (VIRTIO 1.2, 5.6.3). The device tells none of
 // these.
 #define IGNORED (UINT64_C(1) << 1)
-#define OFFERED_PROTOCOL \
-  (P_MQ | P_LOG_SHMFD | P_REPLY_ACK | P_CONFIG | P_RESET_DEVICE | P_INFLIGHT_SHMFD | P_CONFIGURE_MEM_SLOTS | P_STATUS)
+#define OFFERED_PROTOCOL (P_MQ | P_LOG_SHMFD | P_REPLY_ACK | P_CONFIG | P_RESET_DEVICE | P_CONFIGURE_MEM_SLOTS | P_STATUS)
 
 // How many messages of a session are taken before others of the daemon's descriptors are looked at.
 enum { MOST_MESSAGES = 64, WHY = 200, REGION_BYTES = 32, LOG_BYTES = 16, SPACE_HEAD = 12, MOST_SPACE = 256 };
@@ -34,6 +33,11 @@ enum { MOST_MESSAGES = 64, WHY = 200, REGION_BYTES = 32, LOG_BYTES = 16, SPACE_H
 // long a session that ends has for a round. Nanoseconds: of a millisecond, and for how long rings are looked at first, where that
 // pays; and behind which others get the processor in between, the guest perhaps.
 enum { POLL = 1, LONGEST = 20, LEAVING = 200, MILLISECOND = 1000000, FIRST_WINDOW = 4000, POLITE = 50000 };
+
+// It is noted where rings stand where answers wait for files alone.
+static uint64_t offered_protocol(const struct session *session) {
+  return OFFERED_PROTOCOL | (session->backend.keeps ? P_INFLIGHT_SHMFD : 0);
+}
 
 static void say(const struct session *session, const char *what, const char *why) {
   if (!session->quiet) log_say(LOG_NOTE, NULL, "%s: %s", what, why);
@@ -89,7 +93,8 @@ static bool set_features(struct session *session, const struct message *message)
 
 static bool set_protocol(struct session *session, const struct message *message) {
   uint64_t features = little_get(message->payload, 8);
-  if (message->size != 8 || features & ~OFFERED_PROTOCOL) return false;
+  // A front end may say once more what it said to a daemon that offered it.
+  if (message->size != 8 || features & ~(OFFERED_PROTOCOL | P_INFLIGHT_SHMFD)) return false;
   session->protocol = features;
   return true;
 }
@@ -256,7 +261,7 @@ static bool take(struct session *session, struct message *message) {
     case SET_VRING_KICK: return queue_set_kick(session, message);
     case SET_VRING_CALL: return queue_set_call(session, message);
     case SET_VRING_ERR: return queue_set_err(session, message);
-    case GET_PROTOCOL_FEATURES: return reply_number(session, message, OFFERED_PROTOCOL);
+    case GET_PROTOCOL_FEATURES: return reply_number(session, message, offered_protocol(session));
     case SET_PROTOCOL_FEATURES: return set_protocol(session, message);
     case GET_QUEUE_NUM: return reply_number(session, message, session->backend.count);
     case SET_VRING_ENABLE: return queue_set_enable(session, message);
@@ -412,8 +417,15 @@ static inline bool note_served(struct session *session, enum served served) {
 static RARE bool stop(struct session *session) {
   char why[WHY] = "";
   uint32_t owed = 0;
-  enum served served = backend_stop(&session->backend, clock_now() - session->waiting_since, &owed, why, sizeof why);
+  struct backend *backend = &session->backend;
+  struct pollfd gone = {.fd = session->socket, .events = POLLRDHUP};
+  // Nobody takes the reply any more.
+  if (poll(&gone, 1, 0) == 1) return false;
+  if (!session->is_torn && !backend->mapped) backend_map(backend);
+  enum served served = backend_stop(backend, clock_now() - session->waiting_since, &owed, why, sizeof why);
   notify(session, owed);
+  // What waits for storage has all the time that it needs, and what comes behind that has its own.
+  if (!backend->keeps && served == LATER && backend->waits && !backend->pause) session->waiting_since = clock_now();
   if (served == FAILED) tell_end(why);
   if (!note_served(session, served)) return false;
   if (must_wait(session, &session->waiting)) return true;
@@ -485,13 +497,19 @@ static bool serve(struct session *session) {
 
 bool session_serve(struct session *session) { return is_whole(serve(session)); }
 
+// Returns whether a session that ends waits for what the device began. It ends only behind pages that are under way.
+static bool may_wait(const struct session *session, uint64_t passed) {
+  return passed < LEAVING || (backend_waits(&session->backend) && paging_is_under_way(session->backend.disks));
+}
+
 // Answers what the device has run: a front end that comes back goes on behind it.
 static void leave(struct session *session) {
   char why[WHY] = "";
   uint32_t owed = 0;
   uint64_t begun = clock_now();
   enum served served = BUSY;
-  while (served == BUSY && clock_now() - begun < LEAVING) {
+  if (!session->is_torn && !session->backend.mapped) backend_map(&session->backend);
+  while (served == BUSY && may_wait(session, clock_now() - begun)) {
     served = backend_stop(&session->backend, 0, &owed, why, sizeof why);
     if (served != LATER || !backend_waits(&session->backend)) continue;
     paging_wait(session->backend.disks, (unsigned)(LEAVING / 10));

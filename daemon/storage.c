@@ -202,7 +202,8 @@ static void take_out(struct storage *storage, struct transfer *transfer) {
 static bool is_left(struct transfer *transfer, int result, int *error) {
   bool moves = is_read(transfer) || transfer->kind == TRANSFER_WRITE || transfer->fills;
   *error = 0;
-  if (result == -EINTR || result == -EAGAIN) return true;
+  // EAGAIN is an error, which is put off: where it would come each time, to go on at once would never end.
+  if (result == -EINTR) return true;
   if (result < 0) return *error = -result, false;
   if (!moves) return false;
   transfer->done += (uint64_t)result;

@@ -345,8 +345,12 @@ void test_backed_stops(void) {
     // The driver of each queue is asked for what comes behind those that wait.
     for (unsigned i = 0; i < 10; i++) MUST(is_ready(&front, Q) && is_ready(&front, 3));
     front_say(&front, GET_VRING_BASE, Q);
-    go_on(&front, 20);
-    MUST(!front_reply(&front, payload, sizeof payload) && front.alive);
+    // However long they wait the front end doesn't go on behind others.
+    for (unsigned second = 0; second < 12; second++) {
+      MUST(!front_reply(&front, payload, sizeof payload) && front.alive);
+      pass(&front, 1);
+      go_on(&front, 5);
+    }
     clear_faults(&front);
     MUST(await(&front, Q, HELD_READS, PATIENCE) == HELD_READS);
     go_on(&front, 20);
@@ -419,7 +423,7 @@ static void go_ahead(unsigned number, bool fails) {
   MUST(await(&front, Q, 1, PATIENCE) == 1 && is_good(&front, 0) && is_filled(buffer_of(&front, 0), page_at(FIRST + 3 * WRITTEN), 1));
   MUST(read_from(&front, FIRST, WRITTEN, 2) && read_from(&front, FIRST + WRITTEN, ROW - FIRST - WRITTEN, 1));
   // Of another size of the disk nothing that was read before comes.
-  paging_settle(&disks, &front.session.backend.device);
+  MUST(paging_settle(&disks, &front.session.backend.device, UINT64_MAX));
   MUST(!paging->ahead.seen && sync_disk(&front));
   load_end(&front, &disks);
 }

@@ -310,6 +310,11 @@ def test_lengths(room):
     assert disk.stat().st_size == 2 * MIB and disk.read_bytes()[:MIB] == b"\x5a" * MIB
     for size in (0, 513):
         room.refuses("--disk", f"0:0=file={room.file('odd.img', size)}", says="odd.img: ")
+    # What a daemon leaves that is killed as it makes an image is as no image.
+    empty = room.file("empty.img", 0)
+    room.refuses("--disk", f"0:0=1M,file={empty},snapshot", says="empty.img: shorter")
+    with room.runs("--disk", f"0:0=1M,file={empty}"):
+        assert empty.stat().st_size == MIB
 
 
 def test_commas(room):
@@ -1831,6 +1836,66 @@ def test_nbd_left(room):
     return None
 
 
+def test_nbd_silent(room):
+    """Beside a server that doesn't answer another disk goes on, and another size of it is refused soon. Beside one that is gone it gets one,
+    also once its front end is gone, and the next front end has it.
+    """
+    if not has_servers(room) or not room.client:
+        return NO_SERVER
+    at, path, disk = room.folder / "nbd", room.folder / "control", room.file("disk.img", 16 * MIB)
+    words = ["--disk", f"0:0=16M,file={disk}{CACHED}", "--disk", f"0:1={export_of(at)}", "--control", path]
+
+    def size(bytes_):
+        return asking.ask("resize", disk="0:0", size=bytes_)
+
+    with nbdkit(at, "memory", "64M") as server, driven(room, *words, ends=0) as (run, front, _), Asking(path) as asking:
+        # io_uring would give up at once, with a file that was opened so, on dm-crypt and its like.
+        opened = [fd for fd in os.listdir(f"/proc/{run.pid}/fd") if os.readlink(f"/proc/{run.pid}/fd/{fd}") == str(disk)]
+        flags = [int(re.search(r"flags:\t0(\d+)", Path(f"/proc/{run.pid}/fdinfo/{fd}").read_text())[1], 8) for fd in opened]
+        assert opened and not any(it & os.O_NONBLOCK for it in flags), flags
+        run_cached(front, [("write", 1, 1)])
+        server.send_signal(signal.SIGSTOP)
+        front.read(8 * 5, 4096, lun=1)
+        time.sleep(0.2)
+        began = time.monotonic()
+        assert size(32 * MIB) == "Busy" and time.monotonic() - began < 5
+        front.write(8 * 3, stamped(3, 1))
+        wait_for(lambda: front.answered() == 2, "a WRITE beside it")
+        assert front.asks()
+        server.send_signal(signal.SIGCONT)
+        wait_for(lambda: front.answered() == 3, "the READ")
+        assert size(32 * MIB) == {} and disk.stat().st_size == 32 * MIB
+    words[1] = words[1].replace("16M", "32M")
+    with nbdkit(at, "memory", "64M") as server, room.runs(*words) as run, Asking(path) as asking:
+        with FrontEnd(connected(room.socket)) as front:
+            # So that something is left as the front end goes.
+            limit_files(run, 4096)
+            run_cached(front, [("write", 1, 2)])
+            end_server(server, at)
+            front.read(8 * 5, 4096, lun=1)
+            time.sleep(0.2)
+        wait_for(lambda: not asking.ask("stats")["front-end"], "the end of the session", 20)
+        limit_files(run, resource.RLIM_INFINITY)
+        wait_for(lambda: has(disk, 4096, stamped(1, 2)), "what was left")
+        wait_for(lambda: size(48 * MIB) == {}, "another size")
+        with FrontEnd(connected(room.socket)) as front:
+            numbers = run_cached(front, [("read", 1, 0), ("write", 12287, 5), ("read", 12287, 0)])
+            assert [front.data(number, 4096) for number in numbers[::2]] == [stamped(1, 2), stamped(12287, 5)]
+    return None
+
+
+def test_places(room):
+    """It is noted where rings stand where answers wait for files, and that is offered then alone."""
+    kept, cached = room.file("kept.img"), room.file("cached.img")
+    disks = {"0:0=1M": False, f"0:0=1M,file={kept},snapshot": False, f"0:0=1M,file={kept}": True}
+    if has_ring(room):
+        disks[f"0:0=1M,file={cached}{CACHED}"] = False
+    for disk, offers in disks.items():
+        with room.runs("--disk", disk), connected(room.socket) as front:
+            front.sendall(message(15))  # GET_PROTOCOL_FEATURES
+            assert (struct.unpack("<IIIQ", front.recv(20))[3] >> 12 & 1) == offers, disk
+
+
 def test_nbd_detached(room):
     """A disk on a server that is detached lets go of its connection, and others go on."""
     if not has_servers(room) or not room.client:
@@ -2539,6 +2604,17 @@ def test_control_disks(room):
             assert asking.ask("attach", disk=f"0:4=file={one}") == "BadDisk"
             assert asking.ask("attach", disk=f"0:4=file={one}", files=[file.fileno()]) == "BadDisk"
         four = room.file("four.img")
+        # Of one descriptor that comes twice no lock tells, nor of two that only read.
+        with Asking(path) as asking, four.open("r+b") as file:
+            assert asking.ask("attach", disk=f"0:4=file={four}", files=[file.fileno()]) == {}
+            for words in ("", ",snapshot"):
+                assert asking.ask("attach", disk=f"0:6=file={four}{words}", files=[file.fileno()]) == "BadDisk", words
+            assert asking.ask("detach", disk="0:4") == {}
+        with Asking(path) as asking, four.open("rb") as file:
+            for lun in (4, 6):
+                assert asking.ask("attach", disk=f"0:{lun}=file={four},snapshot", files=[file.fileno()]) == {}
+            for lun in (4, 6):
+                assert asking.ask("detach", disk=f"0:{lun}") == {}
         for flag in (os.O_APPEND, os.O_DIRECT):
             descriptor = os.open(four, os.O_RDWR | flag)
             with Asking(path) as asking:

@@ -1,6 +1,7 @@
 """A Linux guest in QEMU whose disk is the daemon's: what it boots, the daemon, and the machine, told by QMP what happens to it."""
 
 import json
+import os
 import re
 import shutil
 import signal
@@ -13,6 +14,7 @@ from pathlib import Path
 
 ROOT = Path(__file__).resolve().parent.parent.parent
 DAEMON = ROOT / "out/daemon/vscsi-vhost-user"
+QEMU = os.environ.get("QEMU", "qemu-system-x86_64")
 MODULES = ("virtio_pci", "virtio_scsi", "sd_mod", "crc32c_generic", "ext4")
 PACKAGES = "qemu-system-x86 linux-image-amd64 busybox-static e2fsprogs cpio"
 # A processor without these has a /dev/kvm at most in which a guest hangs.
@@ -50,12 +52,18 @@ fi
 def wanted(*programs):
     """The kernel, or an end that says what to install."""
     kernels = sorted(Path("/boot").glob("vmlinuz-*"))
-    lacks = [name for name in ("qemu-system-x86_64", "busybox", "mkfs.ext4", "e2fsck", "cpio", *programs) if not shutil.which(name)]
+    lacks = [name for name in (QEMU, "busybox", "mkfs.ext4", "e2fsck", "cpio", *programs) if not shutil.which(name)]
     if lacks or not kernels:
         sys.exit(f"{Path(sys.argv[0]).name}: wants {', '.join(lacks) or 'a kernel'}: apt-get install {PACKAGES}")
     if not DAEMON.is_file():
         sys.exit(f"{Path(sys.argv[0]).name}: wants the daemon: tools/build/daemon")
     return kernels[-1]
+
+
+def moves_running():
+    """Whether a guest may run while it is moved. Without KVM QEMU 7.2 loses pages that its processors write, whatever the disk; 10.0 lost none."""
+    said = subprocess.run([QEMU, "--version"], capture_output=True, text=True, check=True).stdout
+    return ACCELERATOR != "tcg" or int(re.search(r"version (\d+)", said)[1]) >= 10
 
 
 def ordered(folder):
@@ -139,7 +147,7 @@ class Machine:
     def __init__(self, room, name, socket_path, form, queues, memory, *words):
         device = f"vhost-user-scsi-pci,chardev=c,num_queues={queues},disable-legacy=on" + (",packed=on" if form == "packed" else "")
         self.control = room / f"{name}.qmp"
-        started = ["qemu-system-x86_64", "-M", f"pc,accel={ACCELERATOR},memory-backend=memory", "-smp", str(queues), "-nodefaults", "-display", "none"]
+        started = [QEMU, "-M", f"pc,accel={ACCELERATOR},memory-backend=memory", "-smp", str(queues), "-nodefaults", "-display", "none"]
         started += ["-object", f"memory-backend-memfd,id=memory,size={memory}M,share=on", "-chardev", f"socket,id=c,path={socket_path}"]
         started += ["-device", device, "-serial", "stdio", "-qmp", f"unix:{self.control},server=on,wait=off", *map(str, words)]
         if "-m" not in words:
