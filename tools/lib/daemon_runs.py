@@ -31,6 +31,17 @@ MIB = 1 << 20
 GET_FEATURES, SET_OWNER, SET_VRING_CALL = 1, 3, 13
 # QEMU's bytes: a permission that is used is 100 and its bit, one that isn't shared 200 and its bit.
 READS, WRITES, RESIZES = 0, 1, 3
+# Seconds that a test waits for what comes soon where the machine has nothing else to do: a disk may have much to write before.
+LATE = 60
+
+
+def fill_file(path, size, fill):
+    """Makes a file of so many bytes. Zeros are a hole, which is nothing for the system to write."""
+    if fill != b"\0":
+        path.write_bytes(fill * size)
+        return
+    with path.open("wb") as file:
+        file.truncate(size)
 
 
 class Room:
@@ -45,12 +56,12 @@ class Room:
     def file(self, name, size=MIB, fill=b"\x5a"):
         """Makes a file of so many bytes."""
         path = self.folder / name
-        path.write_bytes(fill * size)
+        fill_file(path, size, fill)
         return path
 
     def ends(self, *words, status, says="", **more):
         """Runs the daemon to its end, which comes by itself, with this status and a text on standard error. Gives its standard output."""
-        run = subprocess.run([self.program, *words], capture_output=True, text=True, timeout=20, **more)
+        run = subprocess.run([self.program, *words], capture_output=True, text=True, timeout=LATE, **more)
         assert run.returncode == status, f"{words}: status {run.returncode}, {run.stderr}"
         assert says in run.stderr and (status == 0) == (not run.stderr), f"{words}: {run.stderr!r}"
         return run.stdout
@@ -85,10 +96,18 @@ class Room:
                 run.stderr.close()
 
 
-def wait_for(is_so, what, seconds=10, pause=0.02):
+def load():
+    """What else the machine does, of which a wait that ended in vain may come."""
+    stalls = Path("/proc/pressure/io")
+    lines = [Path("/proc/loadavg").read_text(), *re.findall(r"(?:Dirty|Writeback): *.*", Path("/proc/meminfo").read_text())]
+    return "; ".join(" ".join(line.split()) for line in lines + (stalls.read_text().splitlines() if stalls.exists() else []))
+
+
+def wait_for(is_so, what, seconds=LATE, pause=0.02):
+    """Waits until it is so. `what` says what for, or is called for that in the end."""
     end = time.monotonic() + seconds
     while not is_so():
-        assert time.monotonic() < end, f"waited for {what}"
+        assert time.monotonic() < end, f"waited for {what() if callable(what) else what} ({load()})"
         time.sleep(pause)
 
 
@@ -170,7 +189,7 @@ def test_socket_of_another_stays(room):
         room.socket.unlink()
         with room.runs("--disk", "0:0=1M"):
             first.terminate()
-            assert first.wait(10) == 0
+            assert first.wait(LATE) == 0
             assert serves(room.socket)
     assert not room.socket.exists()
 
@@ -192,7 +211,7 @@ def test_one_of_many_gets_a_path(room):
         finally:
             for run in runs:
                 run.terminate()
-                run.wait(10)
+                run.wait(LATE)
 
 
 # Words and statuses.
@@ -241,7 +260,7 @@ def test_socket_path_is_socket(room):
         wait_for(lambda: listens(room.socket), "the daemon to listen")
         assert serves(room.socket)
         run.send_signal(signal.SIGINT)
-        assert run.wait(10) == 0 and not room.socket.exists()
+        assert run.wait(LATE) == 0 and not room.socket.exists()
 
 
 def test_read_only_is_refused(room):
@@ -392,7 +411,7 @@ def test_loads_before_it_listens(room):
         assert not room.socket.exists() and run.poll() is None
         run.terminate()
         began = time.monotonic()
-        assert run.wait(10) == 0 and time.monotonic() - began < room.late
+        assert run.wait(LATE) == 0 and time.monotonic() - began < room.late
         assert not room.socket.exists() and not new.exists()
     finally:
         run.kill()
@@ -406,12 +425,15 @@ def test_unreadable(room):
         return "needs a program without sanitizers"
     disk = room.file("disk.img", 8 * MIB)
     words = [room.program, "--socket", room.socket, "--disk", "3:0=1M", "--disk", f"3:9=file={disk}", "--quiet"]
-    run = subprocess.Popen(words, stderr=subprocess.PIPE, text=True, env={"LD_PRELOAD": str(room.shim), "SLOW": "1"})
+    # It isn't read before it is cut.
+    cut = room.folder / "cut"
+    run = subprocess.Popen(words, stderr=subprocess.PIPE, text=True, env={"LD_PRELOAD": str(room.shim), "READS_BEHIND": str(cut)})
     try:
         with disk.open("r+b") as file:
             wait_for(lambda: is_locked(file, 100 + RESIZES), "the lock")
             file.truncate(512)
-        assert run.wait(10) == 1 and not room.socket.exists()
+        cut.touch()
+        assert run.wait(LATE) == 1 and not room.socket.exists()
         assert f"disk 3:9 ({disk}): it can't be read: Input/output error" in run.stderr.read()
     finally:
         run.kill()
@@ -608,7 +630,7 @@ def test_closed_descriptors(room):
             flood(front, 100)
         assert all(os.readlink(f"/proc/{run.pid}/fd/{i}") == "/dev/null" for i in range(3))
         run.terminate()
-        assert run.wait(10) == 0 and disk.read_bytes() == b"\0" * MIB
+        assert run.wait(LATE) == 0 and disk.read_bytes() == b"\0" * MIB
     finally:
         run.kill()
         run.wait()
@@ -1003,7 +1025,7 @@ def test_naa_of_a_start_that_fails(room):
     if os.geteuid() or not shutil.which(weak[0]):
         left_out = "the user, which wants root and setpriv"
     else:
-        run = subprocess.run([*weak, room.program, "--socket", room.socket, *words, "--user", "1"], capture_output=True, text=True, timeout=20)
+        run = subprocess.run([*weak, room.program, "--socket", room.socket, *words, "--user", "1"], capture_output=True, text=True, timeout=LATE)
         assert run.returncode == 1 and "the user or the group can't be taken" in run.stderr, run
     assert not [it.name for it in made if it.exists()] and not list(room.folder.glob("*.naa*"))
     return left_out
@@ -1083,7 +1105,8 @@ def run_cached(front, requests):
             front.read(8 * page, 4096)
         else:
             front.flush()
-    wait_for(lambda: front.answered() == front.count & 0xFFFF, "requests of a disk with a cache", pause=0.0005)
+    wait_for(lambda: front.answered() == front.count & 0xFFFF, lambda: f"{front.count - numbers[0]} requests from {requests[0]} on, of which "
+             f"{(front.answered() - numbers[0]) & 0xFFFF} are answered", pause=0.0005)
     assert not any(front.status(number) for number in numbers), [front.status(number) for number in numbers]
     return numbers
 
@@ -1937,7 +1960,7 @@ class Cluster:
         self.folder, self.conf = room.folder / "ceph", room.folder / "ceph.conf"
         self.image = self.folder / name
         self.image.parent.mkdir(parents=True, exist_ok=True)
-        self.image.write_bytes(fill * size)
+        fill_file(self.image, size, fill)
         self.faults = self.image.with_name(f"{self.image.name}.faults")
         self.faults.write_bytes(bytes(4 * len(FAULTS)))
         self.conf.write_text(f"{self.folder}\n")
@@ -2043,7 +2066,7 @@ def test_rbd_refused(room):
         assert run.poll() is None and not room.socket.exists()
         run.terminate()
         began = time.monotonic()
-        assert run.wait(10) == 0 and time.monotonic() - began < room.late and "ended before it served" in run.stderr.read()
+        assert run.wait(LATE) == 0 and time.monotonic() - began < room.late and "ended before it served" in run.stderr.read()
     return None
 
 
@@ -2208,7 +2231,7 @@ def test_rbd_left(room):
         time.sleep(2)
         assert run.poll() is None and not has(cluster.image, 4096 * 3, stamped(3, 3))
         cluster.hold()
-        assert run.wait(10) == 0
+        assert run.wait(LATE) == 0
     assert has(cluster.image, 4096 * 3, stamped(3, 3))
     log.unlink()
     with room.runs("--log", log, "--disk", disk, env=cluster.env):
@@ -2267,7 +2290,7 @@ def test_rbd_limits(room):
             assert len(told) > 5 and set(told) == {"2"}, told
             assert re.search(r"Max open files +(\d+) ", Path(f"/proc/{run.pid}/limits").read_text())[1] != "1024"
     words = [room.program, "--socket", room.socket, "--disk", f"0:0={cluster.words}"]
-    run = subprocess.run(words, env={**cluster.env, "LD_PRELOAD": str(room.shim), "ADD": str(other)}, capture_output=True, timeout=20)
+    run = subprocess.run(words, env={**cluster.env, "LD_PRELOAD": str(room.shim), "ADD": str(other)}, capture_output=True, timeout=LATE)
     assert run.returncode == 100 + errno.ENOSYS, run.returncode
     if os.geteuid():
         return None
@@ -2338,7 +2361,7 @@ def test_handed_in(room):
     def ended(run, by):
         if by:
             run.terminate()
-        assert run.wait(10) == 0, run.returncode
+        assert run.wait(LATE) == 0, run.returncode
 
     with socket.socket(socket.AF_UNIX) as listener:
         listener.bind(str(room.socket))
@@ -2374,7 +2397,7 @@ def test_other_calls_kill(room):
     calls = {"x86_64": (41, 59, 257, 101, 56, 272), "aarch64": (198, 221, 56, 117, 220, 97)}.get(os.uname().machine, ())
     for call in calls:
         environment = {"LD_PRELOAD": str(room.shim), "CALL": str(call)}
-        run = subprocess.run([room.program, "--socket", room.socket, "--disk", "0:0=1M"], env=environment, capture_output=True, timeout=20)
+        run = subprocess.run([room.program, "--socket", room.socket, "--disk", "0:0=1M"], env=environment, capture_output=True, timeout=LATE)
         assert run.returncode == -signal.SIGSYS, (call, run.returncode)
         with room.runs("--disk", "0:0=1M", "--seccomp", "off", env=environment):
             assert serves(room.socket)
@@ -2394,7 +2417,7 @@ def test_files_are_limited(room):
         """The status by which the shim ends the daemon: 100 and the error number of what it tried, or 100."""
         path.touch()
         environment = {"LD_PRELOAD": str(room.shim), what: str(path)}
-        return subprocess.run([*words, *more], env=environment, timeout=20).returncode
+        return subprocess.run([*words, *more], env=environment, timeout=LATE).returncode
 
     tries("ADD", logs / "file")
     if not re.search("files (and system calls )?are limited", (logs / "log").read_text()):
@@ -2448,7 +2471,7 @@ def test_serves_within_its_limits(room):
                 assert os.pread(memory, 12, ANSWER)[10:] == b"\0\0"  # GOOD, and response OK
                 os.ftruncate(memory, 0)
                 os.eventfd_write(kick, 1)
-                assert is_over(front, 10)
+                assert is_over(front, LATE)
             assert serves(room.socket)
         os.close(memory)
         os.close(kick)
@@ -2875,6 +2898,8 @@ int fsync(int fd) {
 }
 
 ssize_t pread(int fd, void *to, size_t count, off_t at) {
+  const char *path = getenv("READS_BEHIND");
+  while (path && access(path, F_OK)) usleep(1000);
   if (getenv("SLOW")) usleep(20000);
   return syscall(SYS_pread64, fd, to, count, at);
 }
