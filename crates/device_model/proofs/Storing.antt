@@ -14,7 +14,6 @@ use Rattle.command_model.specs.Statuses.{good}
 use Rattle.command_model.specs.Waiting.{is_flush}
 use Rattle.unit_model.specs.Tasks.{Entry, task_of}
 use Rattle.unit_model.specs.Steps.{alive}
-use Rattle.unit_model.specs.Seen.{entered_at}
 use Rattle.unit_model.specs.Flushing.{HasBeen, is_in_flush}
 use Rattle.unit_model.specs.Jobs.{PlainJob}
 use Rattle.unit_model.proofs.Flushing.{durable}
@@ -250,7 +249,7 @@ kept_then w place p u v at now =
 pub flush_kept : (w : PlainWorld) (k : ℕ) (x : PlainJob) (r : PlainReply) (u : PlainUnit) (e : Entry) (l : Ledger) (left : Blocks) (b : ℕ)
     → Happens (Transition.Commit k x r) w → UnitIs w x.unit u → r.status ≡ good → task_of x.entry.ticket (alive u.steps) ≡ Some e
     → is_flush e.command ≡ true → u.storage ≡ Some l → IsLeft l left → is_in_flush e.command b ≡ true
-    → HasBeen u.opening u.steps (entered_at e.ticket u.steps) b (left b)
+    → HasBeen u.opening u.steps e b (left b)
 flush_kept w k x r u e l left b h at ends there flush has leaves named =
     let one : h.holds.unit ≡ u = same (sym h.holds.there ∙ at) in
     durable u x.entry.ticket e r l left b (subst (λ v. MayCommit v x.entry.ticket r) one h.may) ends there flush has leaves named

@@ -9,7 +9,6 @@ ghost use Rattle.command_model.specs.Statuses.{good};
 ghost use Rattle.command_model.specs.Waiting.{is_flush};
 ghost use Rattle.unit_model.specs.Tasks.{Entry, task_of};
 ghost use Rattle.unit_model.specs.Steps.{alive};
-ghost use Rattle.unit_model.specs.Seen.{entered_at};
 ghost use Rattle.unit_model.specs.Flushing.{HasBeen, is_in_flush};
 ghost use Rattle.unit_model.specs.Jobs.{PlainJob};
 ghost use Rattle.unit_model.specs.Unit.{PlainUnit, is_backed, dealing};
@@ -49,11 +48,11 @@ pub fn a_storage_changes_by_its_host()
 {}
 
 /// A flush ends with GOOD only once the host's storage has what it names: where the command of a SYNCHRONIZE CACHE may run so, a
-/// crash at that moment leaves each block that it names as the block was when the command came, or later. So each WRITE is left
-/// that was answered before it came, unless the block was written over since.
+/// crash at that moment leaves each block that it names as the block was once the command might run (SAM-5 §8.5), or later. So each
+/// WRITE is left that was answered before the command came, or that it waited for, unless the block was written over since.
 pub fn a_flush_ends_once_it_is_kept()
     ensures { (w : PlainWorld) (k : ℕ) (x : PlainJob) (r : PlainReply) (u : PlainUnit) (e : Entry) (l : Ledger) (left : Blocks) (b : ℕ) →
         Happens (Transition.Commit k x r) w → UnitIs w x.unit u → r.status ≡ good → task_of x.entry.ticket (alive u.steps) ≡ Some e →
         is_flush e.command ≡ true → u.storage ≡ Some l → IsLeft l left → is_in_flush e.command b ≡ true →
-        HasBeen u.opening u.steps (entered_at e.ticket u.steps) b (left b) }
+        HasBeen u.opening u.steps e b (left b) }
 {}

@@ -23,6 +23,7 @@ use Rattle.request_intake.specs.declared.attribute.TaskAttribute.{TaskAttribute}
 use Rattle.request_intake.specs.declared.attribute.TaskAttribute.TheVariants.{Simple, Ordered, HeadOfQueue}
 use Rattle.unit_model.specs.Tasks.{Entry, blocks, is_blocked}
 use Rattle.unit_model.specs.Steps.{Step, next_number}
+use Rattle.unit_model.specs.Enabling.{enabled}
 use Rattle.unit_model.specs.Seen.{Seen, finished, freed}
 use Rattle.unit_model.specs.Base.{most_before}
 use Rattle.command_model.specs.Effects.{block_after, given}
@@ -186,7 +187,8 @@ module _ (o : Opening) (past : List Step) (block_at : Blocks) (pending : List Co
 
     -- all of it
     pub serves : (storage : Option Ledger) (answers : Ending → Type 0) → j.address ≡ unit_address o
-        → ((r : PlainReply) → r.status ≡ good → is_flush j.entry.command ≡ true → IfSome storage (λ l. IsDurable o (Step.Enter j.entry ∷ past) l j.entry))
+        → (enabled j.entry (Step.Enter j.entry ∷ past) ≡ true → (r : PlainReply) → r.status ≡ good → is_flush j.entry.command ≡ true
+        → IfSome storage (λ l. IsDurable o (Step.Enter j.entry ∷ past) l j.entry))
         → answers (ending_of (outcome_for (unit_address o) (length (Step.Enter j.entry ∷ past)) j.entry.ticket p))
         → j.chain.ticket ≡ j.entry.ticket
         → ServesAlone answers (unit_with o past [] false storage) j
@@ -199,7 +201,7 @@ module _ (o : Opening) (past : List Step) (block_at : Blocks) (pending : List Co
           enters = enters storage named;
           commits = commits_run (kept_entered room1 reserve) j j.entry false storage storage facts p block_at' pending' refl
               (is_of (kept_entered room1 reserve) j (task_of_job (length past) j false false) (is_found (length past) j false) refl)
-              ready as_told (performed_comes false facts (IsLostIn storage) j.entry.command j.entry.data_out p block_at block_at' pending pending' ran) durable;
+              ready as_told (performed_comes false facts (IsLostIn storage) j.entry.command j.entry.data_out p block_at block_at' pending pending' ran) (durable ready.is_enabled);
           answered = answered;
           leaves = subst (λ t. Steps (unit_with o (step_for j.entry.ticket p ∷ Step.Enter j.entry ∷ past) [] false storage) (Step.Leave t)
               (unit_with o (Step.Leave j.entry.ticket ∷ step_for j.entry.ticket p ∷ Step.Enter j.entry ∷ past) [] false storage))
@@ -261,7 +263,8 @@ module _ (o : Opening) (past : List Step) (block_at : Blocks) (pending : List Co
   pub serves_alone : (answers : Ending → Type 0) (keeps keeps' : Bool) (storage storage' : Option Ledger) → storage' ≡ storage → j.address ≡ unit_address o → keeps ≡ false → keeps' ≡ false
       → answers (ending_of (outcome_for (unit_address o) (length (Step.Enter j.entry ∷ past)) j.entry.ticket p))
       → j.chain.ticket ≡ j.entry.ticket
-      → ((r : PlainReply) → r.status ≡ good → is_flush j.entry.command ≡ true → IfSome storage (λ l. IsDurable o (Step.Enter j.entry ∷ past) l j.entry))
+      → (enabled j.entry (Step.Enter j.entry ∷ past) ≡ true → (r : PlainReply) → r.status ≡ good → is_flush j.entry.command ≡ true
+      → IfSome storage (λ l. IsDurable o (Step.Enter j.entry ∷ past) l j.entry))
       → ServesAlone answers (unit_with o past (parked_of tasks) keeps storage) j (unit_with o steps' (parked_of tasks) keeps' storage')
   serves_alone answers keeps keeps' storage storage' kind named a b answered own durable =
       subst (λ x. ServesAlone answers (unit_with o past (parked_of tasks) keeps storage) j (unit_with o steps' (parked_of tasks) keeps' x)) (sym kind)

@@ -1,5 +1,5 @@
 -- What the storage of a unit's disk has of its blocks, since the task of a flush entered.
-use Rattle.std.proofs.Common.{◌≡◌, ◌⊎◌, ℕ, ◌+◌, ◌*◌, ◌/◌, ◌==◌, ◌<◌, ◌≤◌, ◌||◌, nat_le, nat_lt, min, Bool, true, false, cond, inl, inr, List, [], ◌∷◌, ◌++◌, length, Option, Some, None, is_some, IfSome, IfNone, IfOk, OnErr, IsTrue, IsFalse, Result, Ok, Err, if◌then◌else◌, refl, sym, ◌∙◌, ap, subst, arith}
+use Rattle.std.proofs.Common.{◌≡◌, ◌⊎◌, ℕ, ◌+◌, ◌*◌, ◌/◌, ◌==◌, ◌<◌, ◌≤◌, ◌||◌, nat_le, nat_lt, min, Bool, true, false, cond, inl, inr, List, [], ◌∷◌, ◌++◌, length, Option, Some, None, not, is_some, IfSome, IfNone, IfOk, OnErr, IsTrue, IsFalse, Result, Ok, Err, if◌then◌else◌, refl, sym, ◌∙◌, ap, subst, arith}
 use Rattle.std.proofs.lemmas.Bool.Decides.{nat_tests}
 use Rattle.std.specs.Option.{option_map}
 use Rattle.block_store.specs.Blocks.{Blocks, zero_block}
@@ -12,11 +12,15 @@ use Rattle.backed_store.specs.declared.disk.Disk.{Disk}
 use Rattle.backed_store.specs.declared.disk.Disk.TheVariants.{Whole, Backed}
 use Rattle.ring_core.specs.declared.log.Ticket.{Ticket}
 use Rattle.unit_model.specs.Tasks.{Entry, same_ticket}
-use Rattle.unit_model.specs.Steps.{Step, as_of}
+use Rattle.unit_model.specs.Steps.{Step, alive, as_of}
 use Rattle.unit_model.specs.Seen.{entered_at}
+use Rattle.unit_model.specs.Enabling.{enabled}
+use Rattle.unit_model.specs.Lawful.{IsReady}
+use Rattle.unit_model.proofs.Leaving.{task_ticket}
 use Rattle.unit_model.specs.Contents.{Opening, blocks_of, capacity_of}
 use Rattle.unit_model.specs.Flushing.{HasBeen, IsDurable}
-use Rattle.unit_history.specs.Inner.Flushes.{HaveBeen, AreSince, AreFenced, without}
+use Rattle.unit_history.specs.Inner.Flushes.{HasBeenSince, HaveBeen, AreSince, EnteredAs, Might, HasBegun, AreFenced, without}
+use Rattle.unit_history.proofs.Begun.{StandsAs, enabled_since, might_more, might_now, entered_as}
 use Rattle.unit_history.specs.declared.flushing.Fence.{Fence}
 use Rattle.backed_store.specs.declared.dealing.GivenPage.{GivenPage}
 use Rattle.foundation.specs.declared.NoMemory.{NoMemory}
@@ -61,27 +65,10 @@ ledger_then d new old is =
     sym (ledger_hosted new) ∙ ap (λ (x : Option Hosted). option_map (λ (h : Hosted). h.ledger) x) is
     ∙ ledger_after d (disks.hosted_of old) ∙ ap (λ (x : Option Ledger). option_map (and_then d) x) (ledger_hosted old)
 
--- No task enters behind what is past
-entered_here : (b : Bool) (n m : ℕ) → m ≤ n → (if b then n else m) ≤ n + 1
-entered_here true n m le = omega arith
-entered_here false n m le = omega (arith, le)
-
-pub entered_past : (t : Ticket) (h : List Step) → entered_at t h ≤ length h
-entered_past t [] = omega arith
-entered_past t (Step.Enter e ∷ past) =
-    let le = entered_here (same_ticket e.ticket t) (length past) (entered_at t past) (entered_past t past) in omega (arith, le)
-entered_past t (Step.Full u ∷ past) = let le = entered_past t past in omega (arith, le)
-entered_past t (Step.Commit u r ∷ past) = let le = entered_past t past in omega (arith, le)
-entered_past t (Step.Busy u ∷ past) = let le = entered_past t past in omega (arith, le)
-entered_past t (Step.Abort rule ∷ past) = let le = entered_past t past in omega (arith, le)
-entered_past t (Step.Reset c ∷ past) = let le = entered_past t past in omega (arith, le)
-entered_past t (Step.Resize n ∷ past) = let le = entered_past t past in omega (arith, le)
-entered_past t (Step.Leave u ∷ past) = let le = entered_past t past in omega (arith, le)
-
 -- What has been stays so
 
-pub been_more : (o : Opening) (s : Step) (steps : List Step) (since b : ℕ) (x : List ℕ) → HasBeen o steps since b x
-    → HasBeen o (s ∷ steps) since b x
+pub been_more : (o : Opening) (s : Step) (steps : List Step) (since b : ℕ) (x : List ℕ) → HasBeenSince o steps since b x
+    → HasBeenSince o (s ∷ steps) since b x
 been_more o s steps since b x was =
     record {
       place = was.place;
@@ -92,7 +79,7 @@ been_more o s steps since b x was =
 
 -- it is so now
 pub been_now : (o : Opening) (steps : List Step) (since b : ℕ) (x : List ℕ) → since ≤ length steps → x ≡ blocks_of o steps b
-    → HasBeen o steps since b x
+    → HasBeenSince o steps since b x
 been_now o steps since b x before is =
     record {
       place = length steps;
@@ -101,7 +88,7 @@ been_now o steps since b x before is =
       is = is ∙ ap (λ w. blocks_of o w b) (sym (as_of-now (length steps) steps (omega arith)));
     }
 
-been_as : {o : Opening} {steps : List Step} {since b : ℕ} {x y : List ℕ} → HasBeen o steps since b x → y ≡ x → HasBeen o steps since b y
+been_as : {o : Opening} {steps : List Step} {since b : ℕ} {x y : List ℕ} → HasBeenSince o steps since b x → y ≡ x → HasBeenSince o steps since b y
 been_as was same = record { place = was.place; later = was.later; past = was.past; is = same ∙ was.is }
 
 since_more : (o : Opening) (s : Step) (steps : List Step) (since : ℕ) (x : Option Hosted) → AreSince o steps since x
@@ -109,13 +96,30 @@ since_more : (o : Opening) (s : Step) (steps : List Step) (since : ℕ) (x : Opt
 since_more o s steps since None was = was
 since_more o s steps since (Some h) was = λ b. (λ is. been_more o s steps since b _ ((was b).0 is), λ is. been_more o s steps since b _ ((was b).1 is))
 
+-- with this storage after one more step
+begun_more : (o : Opening) (s : Step) (steps : List Step) (place : ℕ) (x y : Option Hosted) (was : HasBegun o steps place x)
+    → AreSince o (s ∷ steps) was.since y → HasBegun o (s ∷ steps) place y
+begun_more o s steps place x y was has =
+    record {
+      since = was.since;
+      before = (let lt = was.before in omega (arith, lt));
+      past = (let le = was.past in omega (arith, le));
+      might = might_more place was.since s steps was.before was.past was.might;
+      has = has;
+    }
+
+-- with this storage
+begun_with : (o : Opening) (steps : List Step) (place : ℕ) (x y : Option Hosted) (was : HasBegun o steps place x)
+    → AreSince o steps was.since y → HasBegun o steps place y
+begun_with o steps place x y was has =
+    record { since = was.since; before = was.before; past = was.past; might = was.might; has = has }
+
 -- after one more step
 pub fenced_more : (o : Opening) (s : Step) (steps steps' : List Step) (f : Option Fence) (x : Option Hosted) → AreFenced o steps f x
     → steps' ≡ s ∷ steps → AreFenced o steps' f x
 fenced_more o s steps steps' None x was is = tt
 fenced_more o s steps steps' (Some f) x was is =
-    subst (λ w. AreFenced o w (Some f) x) (sym is)
-    ((let below = was.0 in omega (arith, below)), since_more o s steps f.place x was.1)
+    subst (λ w. AreFenced o w (Some f) x) (sym is) (begun_more o s steps f.place x x was (since_more o s steps was.since x was.has))
 
 -- the storage has the same
 pub fenced_same : (o : Opening) (steps : List Step) (f : Option Fence) (x y : Option Hosted) → AreFenced o steps f x → y ≡ x
@@ -134,37 +138,52 @@ fenced_without o steps (Some f) t x was = by_test (same_ticket f.ticket t)
 
 -- A flush begins, and is over
 
-pub begun_since : (o : Opening) (steps : List Step) (since : ℕ) (d : Disk) → since ≤ length steps
-    → ((b : ℕ) → disks.blocks_of d b ≡ blocks_of o steps b) → IsBegun d → AreSince o steps since (disks.hosted_of d)
-begun_since o steps since (Whole s) before stored begun = tt
-begun_since o steps since (Backed s) before stored begun =
-    λ b. (λ is. been_now o steps since b _ before ((begun b).0 is ∙ stored b), λ is. been_now o steps since b _ before ((begun b).1 is ∙ stored b))
+since_now : (o : Opening) (steps : List Step) (d : Disk) → ((b : ℕ) → disks.blocks_of d b ≡ blocks_of o steps b) → IsBegun d
+    → AreSince o steps (length steps) (disks.hosted_of d)
+since_now o steps (Whole s) stored begun = tt
+since_now o steps (Backed s) stored begun = λ b. (
+  λ is. been_now o steps (length steps) b _ (omega arith) ((begun b).0 is ∙ stored b),
+  λ is. been_now o steps (length steps) b _ (omega arith) ((begun b).1 is ∙ stored b),
+)
 
-pub kept_since : (o : Opening) (steps : List Step) (since : ℕ) (d : Disk) → since ≤ length steps
-    → ((b : ℕ) → disks.blocks_of d b ≡ blocks_of o steps b) → IsKeptWhole d → AreSince o steps since (disks.hosted_of d)
-kept_since o steps since (Whole s) before stored kept = tt
-kept_since o steps since (Backed s) before stored kept =
-    λ b. (λ _. been_now o steps since b _ before ((kept b).0 ∙ stored b), λ _. been_now o steps since b _ before ((kept b).1 ∙ stored b))
+pub begun_now : (o : Opening) (steps : List Step) (place : ℕ) (d : Disk) → place < length steps → Might place (length steps) steps
+    → ((b : ℕ) → disks.blocks_of d b ≡ blocks_of o steps b) → IsBegun d → HasBegun o steps place (disks.hosted_of d)
+begun_now o steps place d before might stored begun =
+    record { since = length steps; before = before; past = omega arith; might = might; has = since_now o steps d stored begun }
+
+-- of a disk that isn't backed it has all that it waits for
+pub begun_whole : (o : Opening) (steps : List Step) (place : ℕ) (d : Disk) → place < length steps → Might place (length steps) steps
+    → not (disks.is_backed d) ≡ true → HasBegun o steps place (disks.hosted_of d)
+begun_whole o steps place (Whole s) before might whole =
+    record { since = length steps; before = before; past = omega arith; might = might; has = tt }
+begun_whole o steps place (Backed s) before might never = let no : false ≡ true = never in absurd (cc)
 
 -- whatever is left then is durable
-left_been : (o : Opening) (steps : List Step) (e : Entry) (since b : ℕ) (kept given left : List ℕ) → since ≡ entered_at e.ticket steps
-    → HasBeen o steps since b kept → HasBeen o steps since b given → (left ≡ kept) ⊎ (left ≡ given)
-    → HasBeen o steps (entered_at e.ticket steps) b left
-left_been o steps e since b kept given left is one two (inl same) = subst (λ n. HasBeen o steps n b left) is (been_as one same)
-left_been o steps e since b kept given left is one two (inr same) = subst (λ n. HasBeen o steps n b left) is (been_as two same)
+left_been : (o : Opening) (steps : List Step) (e : Entry) (since b : ℕ) (kept given left : List ℕ) → enabled e (as_of since steps) ≡ true
+    → HasBeenSince o steps since b kept → HasBeenSince o steps since b given → (left ≡ kept) ⊎ (left ≡ given) → HasBeen o steps e b left
+left_been o steps e since b kept given left might one two leaves = elim leaves [ inl same ↦ been kept one same | inr same ↦ been given two same ]
+  where
+    been : (x : List ℕ) → HasBeenSince o steps since b x → left ≡ x → HasBeen o steps e b left
+    been x was same =
+        record {
+          place = was.place;
+          past = was.past;
+          might = enabled_since e since was.place steps was.later might;
+          is = same ∙ was.is;
+        }
 
-pub over_durable : (o : Opening) (steps : List Step) (since : ℕ) (e : Entry) (d : Disk) → since ≡ entered_at e.ticket steps
-    → AreSince o steps since (disks.hosted_of d) → IsOver d → IfSome (disks.storage_of d) (λ l. IsDurable o steps l e)
-over_durable o steps since e (Whole s) is was over = tt
-over_durable o steps since e (Backed s) is was over = λ left leaves b named.
-    left_been o steps e since b _ _ (left b) is ((was b).0 (over (b / 8)).0) ((was b).1 (over (b / 8)).1) (leaves b)
+pub over_durable : (o : Opening) (steps : List Step) (place : ℕ) (e : Entry) (d : Disk) → EnteredAs e place steps
+    → HasBegun o steps place (disks.hosted_of d) → IsOver d → IfSome (disks.storage_of d) (λ l. IsDurable o steps l e)
+over_durable o steps place e (Whole s) at was over = tt
+over_durable o steps place e (Backed s) at was over = λ left leaves b named.
+    left_been o steps e was.since b _ _ (left b) (was.might e at) ((was.has b).0 (over (b / 8)).0) ((was.has b).1 (over (b / 8)).1) (leaves b)
 
-pub kept_durable : (o : Opening) (steps : List Step) (e : Entry) (d : Disk) → entered_at e.ticket steps ≤ length steps
+pub kept_durable : (o : Opening) (steps : List Step) (e : Entry) (d : Disk) → enabled e steps ≡ true
     → ((b : ℕ) → disks.blocks_of d b ≡ blocks_of o steps b) → IsKeptWhole d → IfSome (disks.storage_of d) (λ l. IsDurable o steps l e)
-kept_durable o steps e (Whole s) before stored kept = tt
-kept_durable o steps e (Backed s) before stored kept = λ left leaves b named.
-    left_been o steps e (entered_at e.ticket steps) b _ _ (left b) refl
-    (been_now o steps _ b _ before ((kept b).0 ∙ stored b)) (been_now o steps _ b _ before ((kept b).1 ∙ stored b)) (leaves b)
+kept_durable o steps e (Whole s) might stored kept = tt
+kept_durable o steps e (Backed s) might stored kept = λ left leaves b named.
+    left_been o steps e (length steps) b _ _ (left b) (ap (λ w. enabled e w) (as_of-now (length steps) steps (omega arith)) ∙ might)
+    (been_now o steps _ b _ (omega arith) ((kept b).0 ∙ stored b)) (been_now o steps _ b _ (omega arith) ((kept b).1 ∙ stored b)) (leaves b)
 
 -- The host says something
 
@@ -174,13 +193,12 @@ pub said_fenced : (o : Opening) (steps : List Step) (f : Option Fence) (d : Deal
     → AreFenced o steps f x → AreFenced o steps f (option_map (hosted_after d) x)
 said_fenced o steps None d x same still was = tt
 said_fenced o steps (Some f) d None same still was = was
-said_fenced o steps (Some f) d (Some h) same still was = (
-  was.0,
-  λ b. (
-    λ is. been_as ((was.1 b).0 (ap (λ (p : Progress). p.kept (b / 8)) (sym (still h.progress)) ∙ is)) (ap (λ (s : Storage). s.kept b) (storage_then d h.ledger ∙ same (storage_by h.ledger))),
-    λ is. been_as ((was.1 b).1 (ap (λ (p : Progress). p.given (b / 8)) (sym (still h.progress)) ∙ is)) (ap (λ (s : Storage). s.given b) (storage_then d h.ledger ∙ same (storage_by h.ledger))),
-  ),
-)
+said_fenced o steps (Some f) d (Some h) same still was = begun_with o steps f.place (Some h) (Some (hosted_after d h)) was (
+    λ b. (
+      λ is. been_as ((was.has b).0 (ap (λ (p : Progress). p.kept (b / 8)) (sym (still h.progress)) ∙ is)) (ap (λ (s : Storage). s.kept b) (storage_then d h.ledger ∙ same (storage_by h.ledger))),
+      λ is. been_as ((was.has b).1 (ap (λ (p : Progress). p.given (b / 8)) (sym (still h.progress)) ∙ is)) (ap (λ (s : Storage). s.given b) (storage_then d h.ledger ∙ same (storage_by h.ledger))),
+    )
+    )
 
 -- it takes a page
 pub gave_fenced : (o : Opening) (steps : List Step) (f : Option Fence) (page : ℕ) (bytes : List ℕ) (x : Option Hosted)
@@ -188,35 +206,33 @@ pub gave_fenced : (o : Opening) (steps : List Step) (f : Option Fence) (page : �
     → AreFenced o steps f x → AreFenced o steps f (option_map (hosted_after (Dealing.Give page bytes)) x)
 gave_fenced o steps None page bytes x now was = tt
 gave_fenced o steps (Some f) page bytes None now was = was
-gave_fenced o steps (Some f) page bytes (Some h) now was = (
-  was.0,
-  λ b.
-      (λ is. been_as ((was.1 b).0 is) (ap (λ (s : Storage). s.kept b) (storage_then (Dealing.Give page bytes) h.ledger)), λ is. by_test b (b / 8 == page) refl is),
-)
+gave_fenced o steps (Some f) page bytes (Some h) now was = begun_with o steps f.place (Some h) (Some (hosted_after (Dealing.Give page bytes) h)) was (
+    λ b.
+    (λ is. been_as ((was.has b).0 is) (ap (λ (s : Storage). s.kept b) (storage_then (Dealing.Give page bytes) h.ledger)), λ is. by_test b (b / 8 == page) refl is)
+    )
   where
     by_test : (b : ℕ) (t : Bool) → (b / 8 == page) ≡ t → (b / 8 == page || h.progress.given (b / 8)) ≡ true
-        → HasBeen o steps f.place b ((storage_by (and_then (Dealing.Give page bytes) h.ledger)).given b)
-    by_test b true here is = been_now o steps f.place b _ was.0 (now b (grind (arith, nat_tests, here)))
+        → HasBeenSince o steps was.since b ((storage_by (and_then (Dealing.Give page bytes) h.ledger)).given b)
+    by_test b true here is = been_now o steps was.since b _ was.past (now b (grind (arith, nat_tests, here)))
     by_test b false apart is =
-        been_as ((was.1 b).1 (rw apart at is)) (ap (λ (s : Storage). s.given b) (storage_then (Dealing.Give page bytes) h.ledger) ∙ rw apart refl)
+        been_as ((was.has b).1 (rw apart at is)) (ap (λ (s : Storage). s.given b) (storage_then (Dealing.Give page bytes) h.ledger) ∙ rw apart refl)
 
 -- it has written a page
 pub kept_fenced : (o : Opening) (steps : List Step) (f : Option Fence) (page : ℕ) (x : Option Hosted)
     → AreFenced o steps f x → AreFenced o steps f (option_map (hosted_after (Dealing.Keep page)) x)
 kept_fenced o steps None page x was = tt
 kept_fenced o steps (Some f) page None was = was
-kept_fenced o steps (Some f) page (Some h) was = (
-  was.0,
-  λ b.
-      (λ is. by_test b (b / 8 == page) refl is, λ is. been_as ((was.1 b).1 is) (ap (λ (s : Storage). s.given b) (storage_then (Dealing.Keep page) h.ledger))),
-)
+kept_fenced o steps (Some f) page (Some h) was = begun_with o steps f.place (Some h) (Some (hosted_after (Dealing.Keep page) h)) was (
+    λ b.
+    (λ is. by_test b (b / 8 == page) refl is, λ is. been_as ((was.has b).1 is) (ap (λ (s : Storage). s.given b) (storage_then (Dealing.Keep page) h.ledger)))
+    )
   where
     by_test : (b : ℕ) (t : Bool) → (b / 8 == page) ≡ t → (if b / 8 == page then h.progress.given (b / 8) else h.progress.kept (b / 8)) ≡ true
-        → HasBeen o steps f.place b ((storage_by (and_then (Dealing.Keep page) h.ledger)).kept b)
+        → HasBeenSince o steps was.since b ((storage_by (and_then (Dealing.Keep page) h.ledger)).kept b)
     by_test b true here is =
-        been_as ((was.1 b).1 (rw here at is)) (ap (λ (s : Storage). s.kept b) (storage_then (Dealing.Keep page) h.ledger) ∙ rw here refl)
+        been_as ((was.has b).1 (rw here at is)) (ap (λ (s : Storage). s.kept b) (storage_then (Dealing.Keep page) h.ledger) ∙ rw here refl)
     by_test b false apart is =
-        been_as ((was.1 b).0 (rw apart at is)) (ap (λ (s : Storage). s.kept b) (storage_then (Dealing.Keep page) h.ledger) ∙ rw apart refl)
+        been_as ((was.has b).0 (rw apart at is)) (ap (λ (s : Storage). s.kept b) (storage_then (Dealing.Keep page) h.ledger) ∙ rw apart refl)
 
 -- it is resized
 pub cut_fenced : (o : Opening) (steps steps' : List Step) (f : Option Fence) (blocks : ℕ) (x : Option Hosted)
@@ -224,18 +240,21 @@ pub cut_fenced : (o : Opening) (steps steps' : List Step) (f : Option Fence) (bl
     → AreFenced o steps f x
     → AreFenced o steps' f (option_map (hosted_after (Dealing.Cut (min (capacity_of o steps) blocks))) x)
 cut_fenced o steps steps' None blocks x is was = tt
-cut_fenced o steps steps' (Some f) blocks None is was = subst (λ w. AreFenced o w (Some f) None) (sym is) ((let below = was.0 in omega (arith, below)), tt)
+cut_fenced o steps steps' (Some f) blocks None is was =
+    subst (λ w. AreFenced o w (Some f) None) (sym is) (begun_more o (Step.Resize blocks) steps f.place None None was tt)
 cut_fenced o steps steps' (Some f) blocks (Some h) is was =
-    subst (λ w. AreFenced o w (Some f) (Some (hosted_after (Dealing.Cut end) h))) (sym is) (below, λ b. (λ so. kept_at b (nat_lt b end) refl so, λ so. given_at b (nat_lt b end) refl so))
+    subst (λ w. AreFenced o w (Some f) (Some (hosted_after (Dealing.Cut end) h))) (sym is)
+    (begun_more o (Step.Resize blocks) steps f.place (Some h) (Some (hosted_after (Dealing.Cut end) h)) was
+    (λ b. (λ so. kept_at b (nat_lt b end) refl so, λ so. given_at b (nat_lt b end) refl so)))
   where
     end : ℕ
     end = min (capacity_of o steps) blocks
 
-    below : f.place ≤ length (Step.Resize blocks ∷ steps)
-    below = let before = was.0 in omega (arith, before)
+    below : was.since ≤ length (Step.Resize blocks ∷ steps)
+    below = let before = was.past in omega (arith, before)
 
-    zero_now : (b : ℕ) (y : List ℕ) → nat_lt b end ≡ false → y ≡ zero_block → HasBeen o (Step.Resize blocks ∷ steps) f.place b y
-    zero_now b y past is = been_now o (Step.Resize blocks ∷ steps) f.place b y below (is ∙ sym (rw past refl))
+    zero_now : (b : ℕ) (y : List ℕ) → nat_lt b end ≡ false → y ≡ zero_block → HasBeenSince o (Step.Resize blocks ∷ steps) was.since b y
+    zero_now b y past is = been_now o (Step.Resize blocks ∷ steps) was.since b y below (is ∙ sym (rw past refl))
 
     inside : (b : ℕ) (t : Bool) → nat_lt b end ≡ true → (nat_le end (8 * (b / 8)) || t) ≡ true → t ≡ true
     inside b t short is =
@@ -243,16 +262,16 @@ cut_fenced o steps steps' (Some f) blocks (Some h) is was =
         rw test at is
 
     kept_at : (b : ℕ) (t : Bool) → nat_lt b end ≡ t → (nat_le end (8 * (b / 8)) || h.progress.kept (b / 8)) ≡ true
-        → HasBeen o (Step.Resize blocks ∷ steps) f.place b ((storage_by (and_then (Dealing.Cut end) h.ledger)).kept b)
+        → HasBeenSince o (Step.Resize blocks ∷ steps) was.since b ((storage_by (and_then (Dealing.Cut end) h.ledger)).kept b)
     kept_at b true short is =
-        been_as (been_more o (Step.Resize blocks) steps f.place b _ ((was.1 b).0 (inside b _ short is)))
+        been_as (been_more o (Step.Resize blocks) steps was.since b _ ((was.has b).0 (inside b _ short is)))
         (ap (λ (s : Storage). s.kept b) (storage_then (Dealing.Cut end) h.ledger) ∙ rw short refl)
     kept_at b false past is = zero_now b _ past (ap (λ (s : Storage). s.kept b) (storage_then (Dealing.Cut end) h.ledger) ∙ rw past refl)
 
     given_at : (b : ℕ) (t : Bool) → nat_lt b end ≡ t → (nat_le end (8 * (b / 8)) || h.progress.given (b / 8)) ≡ true
-        → HasBeen o (Step.Resize blocks ∷ steps) f.place b ((storage_by (and_then (Dealing.Cut end) h.ledger)).given b)
+        → HasBeenSince o (Step.Resize blocks ∷ steps) was.since b ((storage_by (and_then (Dealing.Cut end) h.ledger)).given b)
     given_at b true short is =
-        been_as (been_more o (Step.Resize blocks) steps f.place b _ ((was.1 b).1 (inside b _ short is)))
+        been_as (been_more o (Step.Resize blocks) steps was.since b _ ((was.has b).1 (inside b _ short is)))
         (ap (λ (s : Storage). s.given b) (storage_then (Dealing.Cut end) h.ledger) ∙ rw short refl)
     given_at b false past is = zero_now b _ past (ap (λ (s : Storage). s.given b) (storage_then (Dealing.Cut end) h.ledger) ∙ rw past refl)
 
@@ -270,8 +289,23 @@ pub task_place : {o : Opening} {past : List Step} {block_at : Blocks} {pending :
     (t : Ticket) (x : PlainTask) → task_at t tasks ≡ Some x → x.seen.place ≡ entered_at x.seen.entry.ticket past
 task_place k t x at = ap (λ (s : Seen). s.place) (task_at_alive k t x at).1
 
-pub place_past : (n m : ℕ) (t : Ticket) (past : List Step) → n ≡ m → m ≡ entered_at t past → n ≤ length past
-place_past n m t past one two = let le = entered_past t past in let is = one ∙ two in omega (arith, le, is)
+-- it stands there, and its flush may begin where it may run
+pub stands_at : {o : Opening} {past : List Step} {block_at : Blocks} {pending : List Code} {tasks : List PlainTask}
+    {last_tickets : List (Option ℕ)} {room : ℕ} (k : AreKept o past block_at pending tasks last_tickets room)
+    (t : Ticket) (x : PlainTask) (place : ℕ) → task_at t tasks ≡ Some x → place ≡ x.seen.place → StandsAs x.seen.entry place past
+stands_at {o} {past} k t x place at is =
+    let there = (task_at_alive k t x at).0 in
+    subst (λ n. StandsAs x.seen.entry n past)
+    (ap (λ u. entered_at u past) (task_ticket t (alive past) x.seen.entry there) ∙ sym (task_place k t x at) ∙ sym is)
+    (entered_as o t x.seen.entry past k.lawful there)
+
+pub may_begin : {o : Opening} {past : List Step} {block_at : Blocks} {pending : List Code} {tasks : List PlainTask}
+    {last_tickets : List (Option ℕ)} {room : ℕ} (k : AreKept o past block_at pending tasks last_tickets room)
+    (t : Ticket) (x : PlainTask) (place : ℕ) → task_at t tasks ≡ Some x → place ≡ x.seen.place → IsReady t x.seen.entry past
+    → (place < length past) × Might place (length past) past
+may_begin {o} {past} k t x place at is ready =
+    let stands = stands_at k t x place at is in
+    (stands.before, might_now x.seen.entry place past stands.entered ready.is_enabled)
 
 pub came_on : (keeps : Bool) (facts : Facts) (storage storage' : Option Ledger) (command : Command) (bytes : List ℕ) (p : Option PlainPerformed)
     (blocks blocks' : Blocks) (pending pending' : List Code) → storage' ≡ storage

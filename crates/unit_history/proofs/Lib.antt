@@ -14,6 +14,7 @@ pub mod Handing
 pub mod Stepping
 pub mod Entering
 pub mod Noting
+pub mod Begun
 pub mod Durable
 pub mod Committing
 pub mod Losing

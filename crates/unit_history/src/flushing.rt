@@ -1,11 +1,11 @@
 //! A flush that waits until the host's storage has what was changed before it.
 
-ghost use Rattle.std.specs.Prelude.{◌≡◌, ◌≢◌, ℕ, ◌≤◌, List, length, is_some, true, false, None, IsTrue, IsFalse, IfSome};
+ghost use Rattle.std.specs.Prelude.{◌≡◌, ◌≢◌, ℕ, ◌<◌, List, length, is_some, true, false, None, IsTrue, IsFalse, IfSome};
 ghost use Rattle.backed_store.specs.Disks.{is_backed, size_of, blocks_of, hosted_of, storage_of, owes, IsOver, IsKeptWhole};
 ghost use Rattle.command_model.specs.Waiting.{is_flush as flushes};
 ghost use Rattle.unit_model.specs.Steps.{Step};
 ghost use Rattle.unit_model.specs.Contents.{Opening, blocks_of as unit_blocks};
-ghost use Rattle.unit_history.specs.Inner.Flushes.{AreSince, AreFenced, without};
+ghost use Rattle.unit_history.specs.Inner.Flushes.{Might, HasBegun, AreFenced, without};
 
 use backed_store::Disk;
 use cdb::Command;
@@ -30,12 +30,15 @@ fn is_flush(command: &Command) -> bool
     }
 }
 
-/// Has the flush of a task that entered at a place be the latest of its disk, where no other waits. Returns true if it is.
+/// Has the flush of a task that entered at a place be the latest of its disk, where no other waits. Returns true if it is. The task
+/// may run now.
 fn take_turn(fence: &mut Option<Fence>, disk: &mut Disk, ticket: Ticket, place: u64) -> bool
-    ensures fenced { (o : Opening) (steps : List Step) → place ≤ length steps → ((b : ℕ) → blocks_of disk.old b ≡ unit_blocks o steps b) →
-        AreFenced o steps fence.old (hosted_of disk.old) → AreFenced o steps fence.new (hosted_of disk.new) }
-    ensures since { (o : Opening) (steps : List Step) → place ≤ length steps → ((b : ℕ) → blocks_of disk.old b ≡ unit_blocks o steps b) →
-        AreFenced o steps fence.old (hosted_of disk.old) → IsTrue result → AreSince o steps place (hosted_of disk.new) }
+    ensures fenced { (o : Opening) (steps : List Step) → place < length steps → Might place (length steps) steps →
+        ((b : ℕ) → blocks_of disk.old b ≡ unit_blocks o steps b) → AreFenced o steps fence.old (hosted_of disk.old) →
+        AreFenced o steps fence.new (hosted_of disk.new) }
+    ensures since { (o : Opening) (steps : List Step) → place < length steps → Might place (length steps) steps →
+        ((b : ℕ) → blocks_of disk.old b ≡ unit_blocks o steps b) → AreFenced o steps fence.old (hosted_of disk.old) → IsTrue result →
+        HasBegun o steps place (hosted_of disk.new) }
     ensures stands { IsTrue (is_some fence.new) }
     ensures own { IsTrue result → IfSome fence.new (λ f. f.place ≡ place) }
     ensures another { IsFalse result → IfSome fence.new (λ f. f.place ≢ place) }
@@ -55,7 +58,7 @@ fn take_turn(fence: &mut Option<Fence>, disk: &mut Disk, ticket: Ticket, place: 
 }
 
 /// Returns true if a command of a ticket, whose task entered at a place, waits for the host's storage: it is a flush, and a change
-/// is owed that was made before it came, or another flush waits. Then its fence is kept until it is over. Nothing waits on a disk
+/// is owed that was made before it began, or another flush waits. Then its fence is kept until it is over. Nothing waits on a disk
 /// that isn't backed.
 #[inline(always)]
 pub(crate) fn has_to_wait(
@@ -67,11 +70,12 @@ pub(crate) fn has_to_wait(
 ) -> bool
     ensures backed { IsTrue result → is_backed disk.old ≡ true }
     ensures flush { IsTrue result → IsTrue (flushes command.now) }
-    ensures fenced { (o : Opening) (steps : List Step) → place ≤ length steps → ((b : ℕ) → blocks_of disk.old b ≡ unit_blocks o steps b) →
-        AreFenced o steps fence.old (hosted_of disk.old) → AreFenced o steps fence.new (hosted_of disk.new) }
-    ensures since { (o : Opening) (steps : List Step) → place ≤ length steps → ((b : ℕ) → blocks_of disk.old b ≡ unit_blocks o steps b) →
-        AreFenced o steps fence.old (hosted_of disk.old) → IsFalse result → IsTrue (flushes command.now) →
-        AreSince o steps place (hosted_of disk.new) }
+    ensures fenced { (o : Opening) (steps : List Step) → place < length steps → Might place (length steps) steps →
+        ((b : ℕ) → blocks_of disk.old b ≡ unit_blocks o steps b) → AreFenced o steps fence.old (hosted_of disk.old) →
+        AreFenced o steps fence.new (hosted_of disk.new) }
+    ensures since { (o : Opening) (steps : List Step) → place < length steps → Might place (length steps) steps →
+        ((b : ℕ) → blocks_of disk.old b ≡ unit_blocks o steps b) → AreFenced o steps fence.old (hosted_of disk.old) →
+        IsFalse result → IsTrue (flushes command.now) → HasBegun o steps place (hosted_of disk.new) }
     ensures over { IsFalse result → IsTrue (flushes command.now) → IsOver disk.new }
     // The own flush waits for what is owed, and is kept; that of another stays as it is.
     ensures owed { IsTrue result → IfSome fence.new (λ f. f.place ≡ place → (p : ℕ) × IsTrue (owes disk.new p)) }

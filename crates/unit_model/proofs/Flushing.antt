@@ -9,7 +9,7 @@ use Rattle.command_model.specs.Statuses.{good}
 use Rattle.command_model.specs.Waiting.{is_flush}
 use Rattle.unit_model.specs.Tasks.{Entry, task_of}
 use Rattle.unit_model.specs.Steps.{Step, alive, as_of}
-use Rattle.unit_model.specs.Seen.{entered_at}
+use Rattle.unit_model.specs.Enabling.{enabled}
 use Rattle.unit_model.specs.Contents.{Opening, blocks_of}
 use Rattle.unit_model.specs.Flushing.{HasBeen, is_in_flush, IsDurable}
 use Rattle.unit_model.specs.Unit.{PlainUnit, MayCommit, Replies}
@@ -27,12 +27,12 @@ replies_durably u e r l (inr (p, unread, lost)) ends flush at =
 
 pub durable : (u : PlainUnit) (t : Ticket) (e : Entry) (r : PlainReply) (l : Ledger) (left : Blocks) (b : ℕ) → MayCommit u t r
     → r.status ≡ good → task_of t (alive u.steps) ≡ Some e → is_flush e.command ≡ true → u.storage ≡ Some l → IsLeft l left → is_in_flush e.command b ≡ true
-    → HasBeen u.opening u.steps (entered_at e.ticket u.steps) b (left b)
+    → HasBeen u.opening u.steps e b (left b)
 durable u t e r l left b (d, ready, replies) ends there flush at leaves named =
     let same : d ≡ e = same_entry (task_of t (alive u.steps)) d e ready.is_there there in
     let kept : IsDurable u.opening u.steps l e = subst (λ x. IsDurable u.opening u.steps l x) same (replies_durably u d r l replies ends (ap (λ (x : Entry). is_flush x.command) same ∙ flush) at) in
     kept left leaves b named
 
-pub written : (o : Opening) (steps : List Step) (since b : ℕ) (left bytes : List ℕ) → HasBeen o steps since b left
-    → ((p : ℕ) → since ≤ p → p ≤ length steps → blocks_of o (as_of p steps) b ≡ bytes) → left ≡ bytes
-written o steps since b left bytes was same = was.is ∙ same was.place was.later was.past
+pub written : (o : Opening) (steps : List Step) (e : Entry) (b : ℕ) (left bytes : List ℕ) → HasBeen o steps e b left
+    → ((p : ℕ) → p ≤ length steps → enabled e (as_of p steps) ≡ true → blocks_of o (as_of p steps) b ≡ bytes) → left ≡ bytes
+written o steps e b left bytes was same = was.is ∙ same was.place was.past was.might

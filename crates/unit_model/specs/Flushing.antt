@@ -6,7 +6,7 @@ use Rattle.cdb.specs.declared.commands.Command.{Command}
 use Rattle.cdb.specs.declared.commands.Command.TheVariants.{SynchronizeCache}
 use Rattle.unit_model.specs.Tasks.{Entry}
 use Rattle.unit_model.specs.Steps.{Step, as_of}
-use Rattle.unit_model.specs.Seen.{entered_at}
+use Rattle.unit_model.specs.Enabling.{enabled}
 use Rattle.unit_model.specs.Contents.{Opening, blocks_of}
 
 -- block b is one that a flush names: one of the count blocks from lba on, or any from there on where count is 0 (SBC-3 §5.26,
@@ -15,15 +15,15 @@ abbrev pub is_in_flush : Command → ℕ → Bool
 is_in_flush (SynchronizeCache lba count) b = if count == 0 then nat_le lba b else is_within lba count b
 is_in_flush _ b = false
 
--- own: block b of a unit had these bytes once so many steps stood, or later
-pub record HasBeen (o : Opening) (steps : List Step) (since b : ℕ) (bytes : List ℕ) : Type 0 where
+-- own: block b of a unit had these bytes at a moment from which on the task might run (SAM-5 §8.5)
+pub record HasBeen (o : Opening) (steps : List Step) (e : Entry) (b : ℕ) (bytes : List ℕ) : Type 0 where
   pub place : ℕ
-  pub later : since ≤ place
   pub past : place ≤ length steps
+  pub might : enabled e (as_of place steps) ≡ true
   pub is : bytes ≡ blocks_of o (as_of place steps) b
 
--- whatever a crash leaves, it leaves of each block that the command of a task flushes what the block was when the task entered,
--- or later
+-- whatever a crash leaves, it leaves of each block that the command of a task flushes what the block was once the task might run,
+-- or later: so all that ran before the task entered, and all that it had to wait for
 abbrev pub IsDurable : Opening → List Step → Ledger → Entry → Type 0
 IsDurable o steps l e =
-    (left : Blocks) → IsLeft l left → (b : ℕ) → is_in_flush e.command b ≡ true → HasBeen o steps (entered_at e.ticket steps) b (left b)
+    (left : Blocks) → IsLeft l left → (b : ℕ) → is_in_flush e.command b ≡ true → HasBeen o steps e b (left b)

@@ -14,7 +14,7 @@ use Rattle.unit_history.proofs.Keeping.{has_room, is_ready, told_is, task_at_ali
 use Rattle.unit_history.proofs.Committing.{cannot_none, cannot_turn, is_of, is_aborted, keep_run, commits_run, waits_for, or-left, or-right}
 use Rattle.unit_history.proofs.Noting.{recorded_run}
 use Rattle.unit_model.specs.Flushing.{IsDurable}
-use Rattle.unit_history.proofs.Durable.{fenced_more, fenced_same, hosted_ledger, over_durable, task_place, place_past, kept_on, came_on, backed_on}
+use Rattle.unit_history.proofs.Durable.{fenced_more, fenced_same, hosted_ledger, over_durable, stands_at, may_begin, kept_on, came_on, backed_on}
 use Rattle.unit_history.proofs.unit.UnitState.commit_ready.Goals as goal
 
 pub returns-in_default-clause-step : goal.returns-in_default-clause-step
@@ -30,14 +30,16 @@ pub invariant_of-self : goal.invariant_of-self
 invariant_of-self c =
     let at = sym c.task.ensures ∙ ap option_copied c.in-Some.is in
     let u = c.self.inside in
-    let place = task_place c.self.invariant.kept c.ticket-ticket.result c.in-Some.task.now at in
+    let turn = c.in-Ready.ensures in
+    let begins = may_begin c.self.invariant.kept c.ticket-ticket.result c.in-Some.task.now _ at c.place.ensures
+    (is_ready c.self.invariant.kept c.ticket-ticket.result c.in-Some.task.now at turn.1 turn.2 turn.3) in
     record {
       kept = kept_on (opening_of u) u.log.steps _ _ u.attentions u.tasks u.last_tickets u.log.room c.self.invariant.kept c.has_to_wait.ensures.blocks;
       based = c.self.invariant.based;
       sized = c.has_to_wait.ensures.size ∙ c.self.invariant.sized;
       noted = c.self.invariant.noted;
       flushing =
-          c.has_to_wait.ensures.fenced (opening_of u) u.log.steps (place_past _ _ _ u.log.steps c.place.ensures place) c.self.invariant.kept.stored
+          c.has_to_wait.ensures.fenced (opening_of u) u.log.steps begins.0 begins.1 c.self.invariant.kept.stored
           c.self.invariant.flushing;
     }
 
@@ -45,7 +47,9 @@ pub invariant_of-self-in_default-perform_if_ready : goal.invariant_of-self-in_de
 invariant_of-self-in_default-perform_if_ready c =
     let at = sym c.task.ensures ∙ ap option_copied c.in-Some.is in
     let u = c.self.inside in
-    let place = task_place c.self.invariant.kept c.ticket-ticket.result c.in-Some.task.now at in
+    let turn = c.in-Ready.ensures in
+    let begins = may_begin c.self.invariant.kept c.ticket-ticket.result c.in-Some.task.now _ at c.place.ensures
+    (is_ready c.self.invariant.kept c.ticket-ticket.result c.in-Some.task.now at turn.1 turn.2 turn.3) in
     let waits = c.in_default-perform_if_ready.ensures.waits in
     record {
       kept =
@@ -57,7 +61,7 @@ invariant_of-self-in_default-perform_if_ready c =
       flushing =
           rw (c.perform_if_ready.ensures.facts)
           (fenced_same (opening_of u) u.log.steps _ _ _
-          (c.has_to_wait.ensures.fenced (opening_of u) u.log.steps (place_past _ _ _ u.log.steps c.place.ensures place) c.self.invariant.kept.stored
+          (c.has_to_wait.ensures.fenced (opening_of u) u.log.steps begins.0 begins.1 c.self.invariant.kept.stored
           c.self.invariant.flushing)
           c.perform_if_ready.ensures.storage);
     }
@@ -71,7 +75,9 @@ invariant_of-self-in-Ready c =
     let store = c.has_to_wait.new.disk in
     let kept = kept_on (opening_of u) u.log.steps _ _ u.attentions u.tasks u.last_tickets u.log.room c.self.invariant.kept c.has_to_wait.ensures.blocks in
     let sized = c.has_to_wait.ensures.size ∙ c.self.invariant.sized in
-    let place = task_place c.self.invariant.kept c.ticket-ticket.result c.in-Some.task.now at in
+    let turn = c.in-Ready.ensures in
+    let begins = may_begin c.self.invariant.kept c.ticket-ticket.result c.in-Some.task.now _ at c.place.ensures
+    (is_ready c.self.invariant.kept c.ticket-ticket.result c.in-Some.task.now at turn.1 turn.2 turn.3) in
     record {
       kept =
           rw (c.record_run.ensures.tasks, c.record_run.ensures.steps, c.perform_if_ready.ensures.facts)
@@ -96,7 +102,7 @@ invariant_of-self-in-Ready c =
           rw (c.perform_if_ready.ensures.facts)
           (fenced_more _ (step_for c.ticket-ticket.result (option_map performed_of c.in-Ok.performed)) u.log.steps _ _ _
           (fenced_same _ _ _ _ _
-          (c.has_to_wait.ensures.fenced (opening_of u) u.log.steps (place_past _ _ _ u.log.steps c.place.ensures place) c.self.invariant.kept.stored c.self.invariant.flushing)
+          (c.has_to_wait.ensures.fenced (opening_of u) u.log.steps begins.0 begins.1 c.self.invariant.kept.stored c.self.invariant.flushing)
           c.perform_if_ready.ensures.storage) c.record_run.ensures.steps);
     }
 
@@ -124,7 +130,10 @@ returns-in-Ok-clause-step c =
     let store = c.has_to_wait.new.disk in
     let e = c.in-Some.task.now.seen.entry in
     let kept = kept_on (opening_of u) u.log.steps _ _ u.attentions u.tasks u.last_tickets u.log.room c.self.invariant.kept c.has_to_wait.ensures.blocks in
-    let place = task_place c.self.invariant.kept c.args.job.now.entry.ticket c.in-Some.task.now at in
+    let t = c.args.job.now.entry.ticket in
+    let stands = stands_at c.self.invariant.kept t c.in-Some.task.now _ at c.place.ensures in
+    let begins = may_begin c.self.invariant.kept t c.in-Some.task.now _ at c.place.ensures
+    (is_ready c.self.invariant.kept t c.in-Some.task.now at turns.1 turns.2 turns.3) in
     let keeps : c.self.inside.log.keeps ≡ c.keeps_replies-keeps.result = sym c.keeps_replies-keeps.ensures in
     rw (
       ← c.self.view_is,
@@ -145,8 +154,8 @@ returns-in-Ok-clause-step c =
     (λ r ends flush.
     let is = rw (← c.command-command.ensures) at flush in
     subst (λ x. IfSome x (λ l. IsDurable (opening_of u) u.log.steps l e)) c.has_to_wait.ensures.storage
-    (over_durable (opening_of u) u.log.steps _ e store (c.place.ensures ∙ place)
-    (c.has_to_wait.ensures.since (opening_of u) u.log.steps (place_past _ _ _ u.log.steps c.place.ensures place) c.self.invariant.kept.stored c.self.invariant.flushing c.if-has_to_wait.false is)
+    (over_durable (opening_of u) u.log.steps _ e store stands.entered
+    (c.has_to_wait.ensures.since (opening_of u) u.log.steps begins.0 begins.1 c.self.invariant.kept.stored c.self.invariant.flushing c.if-has_to_wait.false is)
     (c.has_to_wait.ensures.over c.if-has_to_wait.false is))))
 
 pub returns-in_default-perform_if_ready-clause-waits : goal.returns-in_default-perform_if_ready-clause-waits

@@ -8,7 +8,7 @@ use Rattle.unit_history.specs.Fields.{opening_of}
 use Rattle.unit_history.specs.Inner.Performing.{told, step_for, unkept}
 use Rattle.block_store.specs.Storage.{Ledger}
 use Rattle.unit_model.specs.Flushing.{IsDurable}
-use Rattle.unit_history.proofs.Durable.{fenced_more, fenced_same, hosted_ledger, entered_past, kept_durable}
+use Rattle.unit_history.proofs.Durable.{fenced_more, fenced_same, hosted_ledger, kept_durable}
 use Rattle.unit_history.proofs.Alone.{no_tasks, ends_as, all_steps, based_served, kept_served, recorded_served, serves_alone}
 use Rattle.unit_history.proofs.Entering.{not_stale, came_then}
 use Rattle.unit_history.proofs.Keeping.{CameTo, told_is}
@@ -118,11 +118,10 @@ returns-clause-serves g c =
     (c.push_three.ensures.keeps ∙ c.in-Ok-make_way.ensures.keeps ∙ keeps)
     (subst answers (ends_as _ _ _ c.run_and_answer-ran.result) c.run_and_answer-ran.ensures.answered)
     (sym c.ticket-ticket.ensures.chain ∙ own)
-    (λ r ends flush.
+    (λ on r ends flush.
     subst (λ (x : Option Ledger). IfSome x (λ l. IsDurable (opening_of u) (Step.Enter c.args.arrival.now.entry ∷ u.log.steps) l c.args.arrival.now.entry))
     (hosted_ledger c.may_run.new.store u.store c.may_run.ensures.storage)
-    (kept_durable (opening_of u) (Step.Enter c.args.arrival.now.entry ∷ u.log.steps) c.args.arrival.now.entry c.may_run.new.store
-    (entered_past c.args.arrival.now.entry.ticket (Step.Enter c.args.arrival.now.entry ∷ u.log.steps))
+    (kept_durable (opening_of u) (Step.Enter c.args.arrival.now.entry ∷ u.log.steps) c.args.arrival.now.entry c.may_run.new.store on
     (λ b. ap (λ f. f b) blocks ∙ c.self.invariant.kept.stored b) (c.may_run.ensures.flushed (c.if-not-may_run.false) flush))))
 
 pub invariant_of-self-in_default : goal.invariant_of-self-in_default
