@@ -1,10 +1,12 @@
 -- How far a flush is, as its store changes.
-use Rattle.std.proofs.Common.{◌≡◌, ◌≢◌, ℕ, ◌+◌, ◌*◌, ◌/◌, ◌==◌, ◌<◌, ◌≤◌, ◌&&◌, ◌||◌, not, nat_le, nat_lt, Bool, true, false, IsTrue, IsFalse, IfOk, OnOk, OnErr, IfSome, IfNone, Result, Ok, Err, List, [], ◌∷◌, ◌++◌, length, drop, Option, Some, None, if◌then◌else◌, refl, sym, ◌∙◌, ap, subst, arith}
+use Rattle.std.proofs.Common.{◌≡◌, ◌≢◌, ℕ, ◌+◌, ◌*◌, ◌/◌, ◌%◌, ◌==◌, ◌<◌, ◌≤◌, ◌&&◌, ◌||◌, not, nat_le, nat_lt, Bool, true, false, IsTrue, IsFalse, IfOk, OnOk, OnErr, IfSome, IfNone, Result, Ok, Err, List, [], ◌∷◌, ◌++◌, All, length, drop, Option, Some, None, if◌then◌else◌, refl, sym, ◌∙◌, ap, subst, arith}
 use Rattle.std.proofs.lemmas.Bool.Decides.{nat_tests}
 use Rattle.std.proofs.lemmas.List.{drop-append-le, length-append}
+use Rattle.std.proofs.lemmas.List.Elements.{All-nil, All-cons}
 use Rattle.std.proofs.Math.Seq.{drop-length}
 use Rattle.block_store.specs.Blocks.{Blocks, zero_block}
-use Rattle.block_store.specs.Storage.{Storage, Ledger, Dealing, with_page, cut, and_then, storage_by}
+use Rattle.block_store.specs.Pages.{blocks_in}
+use Rattle.block_store.specs.Storage.{Storage, Ledger, Dealing, with_page, cut, dealt, and_then, storage_by}
 use Rattle.block_store.specs.Progress.{Progress, progress_after, all_progress}
 use Rattle.block_store.specs.Inner.Hosted.{Hosted, hosted_after}
 use Rattle.backed_store.specs.Marks.{state_of, has_room}
@@ -17,7 +19,7 @@ use Rattle.backed_store.specs.declared.mark.Mark.{Mark}
 use Rattle.backed_store.specs.declared.backed.BackedStore.{BackedStore}
 use Rattle.backed_store.specs.declared.dealing.GivenPage.{GivenPage}
 use Rattle.foundation.specs.declared.NoMemory.{NoMemory}
-use Rattle.backed_store.proofs.Dealt.{by-ledger}
+use Rattle.backed_store.proofs.Dealt.{by-ledger, dealt-by}
 use Rattle.backed_store.proofs.Fenced.{contents-kept}
 use Rattle.backed_store.proofs.Flushing.{contents-given, writing-room}
 
@@ -82,6 +84,11 @@ given-was n old new p owed writing due = by_test (is_writing old p) refl
     by_test true writes = rewritten writes (is_rewritten old p) refl
     by_test false idle = dirty idle (is_dirty old p) refl
 
+-- all else that the storage may have of a block is the same
+unkept-as : {x y : List ℕ} {l m : List (List ℕ)} → All (λ z. z ≡ x) l → m ≡ l → y ≡ x → All (λ z. z ≡ y) m
+unkept-as {x} {y} {l} {m} was same is =
+    subst (λ k. All (λ z. z ≡ y) k) (sym same) (subst (λ w. All (λ z. z ≡ w) l) (sym is) was)
+
 -- A store of which nothing was done that counts
 
 pub stays : (n : ℕ) (began : List BackedStore) (old new : BackedStore) → done_by began ≤ length (ledger_of new).dealings →
@@ -98,6 +105,9 @@ stays n began old new behind kept given storage owed writing was =
           ap (λ (s : Storage). s.given b) storage
           ∙ was.idle b (was-clean old new (b / 8) (owed (b / 8)) clean) (sym (writing (b / 8)) ∙ idle)
           ∙ sym (ap (λ (s : Storage). s.kept b) storage);
+      unkept = λ b clean.
+          unkept-as (was.unkept b (was-clean old new (b / 8) (owed (b / 8)) clean)) (ap (λ (s : Storage). s.unkept b) storage)
+          (ap (λ (s : Storage). s.kept b) storage);
     }
 
 pub same-ledger : (n : ℕ) (began : List BackedStore) (old new : BackedStore) → ledger_of new ≡ ledger_of old →
@@ -153,6 +163,23 @@ module _ (n : ℕ) (began : List BackedStore) (old new : BackedStore) (page : �
       given b ∙ rw apart refl
       ∙ was.idle b (was-clean old new (b / 8) (owed (b / 8)) clean) (sym (others (b / 8) other) ∙ idle) ∙ sym (kept b)
 
+  storage_given : storage_of new ≡ dealt (Dealing.Give page bytes) (storage_of old)
+  storage_given = dealt-by old new (Dealing.Give page bytes) ledger
+
+  unkept_by_give : (b : ℕ) → is_dirty new (b / 8) ≡ false → (t : Bool) → (b / 8 == page) ≡ t →
+      All (λ x. x ≡ backing_of new b) ((storage_of new).unkept b)
+  unkept_by_give b clean true here =
+      let clean' = was-clean old new (b / 8) (owed (b / 8)) clean in
+      let bytes_now : blocks_in bytes (b % 8) ≡ contents old b =
+      sym (ap (λ (s : Storage). s.given b) storage_given ∙ rw here refl) ∙ given b ∙ rw here refl in
+      unkept-as {x = backing_of old b} {l = blocks_in bytes (b % 8) ∷ (storage_of old).unkept b}
+      (All-cons (λ z. z ≡ backing_of old b) (blocks_in bytes (b % 8)) ((storage_of old).unkept b) (bytes_now ∙ contents-kept old b clean')
+      (was.unkept b clean'))
+      (ap (λ (s : Storage). s.unkept b) storage_given ∙ rw here refl) (kept b)
+  unkept_by_give b clean false apart =
+      unkept-as (was.unkept b (was-clean old new (b / 8) (owed (b / 8)) clean))
+      (ap (λ (s : Storage). s.unkept b) storage_given ∙ rw apart refl) (kept b)
+
   pub gave : IsFenced n began new
   gave =
       record {
@@ -160,6 +187,7 @@ module _ (n : ℕ) (began : List BackedStore) (old new : BackedStore) (page : �
         kept = λ p due. ap (λ (x : Progress). x.kept p) now_given ∙ was.kept p (kept-was n old new p (owed p) due);
         given = λ p due. ap (λ (x : Progress). x.given p) now_given ∙ given_by_give p due (p == page) refl;
         idle = λ b clean idle. idle_by_give b clean idle (b / 8 == page) refl;
+        unkept = λ b clean. unkept_by_give b clean (b / 8 == page) refl;
       }
 
 -- The host said what became of a write
@@ -224,6 +252,19 @@ module _ (n : ℕ) (began : List BackedStore) (old new : BackedStore) (page : �
       ∙ was.idle b (was-clean old new (b / 8) (others (b / 8) other) clean) (sym (still (b / 8) other) ∙ idle)
       ∙ sym (kept b ∙ rw apart refl)
 
+  storage_kept : storage_of new ≡ dealt (Dealing.Keep page) (storage_of old)
+  storage_kept = dealt-by old new (Dealing.Keep page) ledger
+
+  unkept_by_keep : (b : ℕ) → is_dirty new (b / 8) ≡ false → (t : Bool) → (b / 8 == page) ≡ t →
+      All (λ x. x ≡ backing_of new b) ((storage_of new).unkept b)
+  unkept_by_keep b clean true here =
+      let none : (storage_of new).unkept b ≡ [] = ap (λ (s : Storage). s.unkept b) storage_kept ∙ rw here refl in
+      subst (λ l. All (λ x. x ≡ backing_of new b) l) (sym none) (All-nil (λ x. x ≡ backing_of new b))
+  unkept_by_keep b clean false apart =
+      let other : b / 8 ≢ page = λ same. never-both (b / 8 == page) (rw same (same-test page)) apart in
+      unkept-as (was.unkept b (was-clean old new (b / 8) (others (b / 8) other) clean))
+      (ap (λ (s : Storage). s.unkept b) storage_kept ∙ rw apart refl) (kept b ∙ rw apart refl)
+
   pub kept-page : IsFenced n began new
   kept-page =
       record {
@@ -231,6 +272,7 @@ module _ (n : ℕ) (began : List BackedStore) (old new : BackedStore) (page : �
         kept = λ p due. ap (λ (x : Progress). x.kept p) now_kept ∙ kept_by_keep p due (p == page) refl;
         given = λ p due. ap (λ (x : Progress). x.given p) now_kept ∙ given_by_keep p due (p == page) refl;
         idle = λ b clean idle. idle_by_keep b clean idle (b / 8 == page) refl;
+        unkept = λ b clean. unkept_by_keep b clean (b / 8 == page) refl;
       }
 
 -- The host couldn't write a page
@@ -297,6 +339,16 @@ module _ (n : ℕ) (began : List BackedStore) (old new : BackedStore) (page : �
       let other : b / 8 ≢ page = λ same. never-both (b / 8 == page) (rw same (same-test page)) apart in
       was.idle b (was-clean old new (b / 8) (others (b / 8) other) clean) (sym (still (b / 8) other) ∙ idle)
 
+  unkept_by_fail : (b : ℕ) → is_dirty new (b / 8) ≡ false → (t : Bool) → (b / 8 == page) ≡ t →
+      All (λ x. x ≡ backing_of old b) ((storage_of old).unkept b)
+  unkept_by_fail b clean true here =
+      let same : b / 8 ≡ page = grind (arith, nat_tests, here) in
+      let clean' : is_dirty new page ≡ false = ap (λ p. is_dirty new p) (sym same) ∙ clean in
+      was.unkept b (ap (λ p. is_dirty old p) same ∙ was_clean_fail clean' (is_dirty old page) refl)
+  unkept_by_fail b clean false apart =
+      let other : b / 8 ≢ page = λ same. never-both (b / 8 == page) (rw same (same-test page)) apart in
+      was.unkept b (was-clean old new (b / 8) (others (b / 8) other) clean)
+
   pub unkept-page : IsFenced n began new
   unkept-page =
       record {
@@ -304,6 +356,9 @@ module _ (n : ℕ) (began : List BackedStore) (old new : BackedStore) (page : �
         kept = λ p due. ap (λ (l : Ledger). (progress_by n began l).kept p) ledger ∙ was.kept p (kept_by_fail p due (p == page) refl);
         given = λ p due. ap (λ (l : Ledger). (progress_by n began l).given p) ledger ∙ was.given p (given_by_fail p due (p == page) refl);
         idle = λ b clean idle. storage b ∙ idle_by_fail b clean idle (b / 8 == page) refl ∙ sym (kept b);
+        unkept = λ b clean.
+            unkept-as (unkept_by_fail b clean (b / 8 == page) refl)
+            (ap (λ (s : Storage). s.unkept b) (by-ledger new ∙ ap storage_by ledger ∙ sym (by-ledger old))) (kept b);
       }
 
 -- The storage was cut off
@@ -351,6 +406,20 @@ module _ (n : ℕ) (began : List BackedStore) (old new : BackedStore) (end : ℕ
       let idle' : is_writing old (b / 8) ≡ false = subst (λ (m : Option Mark). marks.is_writing (state_of m) ≡ false) same idle in
       given b ∙ rw short refl ∙ was.idle b clean' idle' ∙ sym (kept b ∙ rw short refl)
 
+  storage_cut : storage_of new ≡ dealt (Dealing.Cut end) (storage_of old)
+  storage_cut = dealt-by old new (Dealing.Cut end) ledger
+
+  unkept_by_cut : (b : ℕ) → is_dirty new (b / 8) ≡ false → (t : Bool) → nat_lt b end ≡ t →
+      All (λ x. x ≡ backing_of new b) ((storage_of new).unkept b)
+  unkept_by_cut b clean false past =
+      let none : (storage_of new).unkept b ≡ [] = ap (λ (s : Storage). s.unkept b) storage_cut ∙ rw past refl in
+      subst (λ l. All (λ x. x ≡ backing_of new b) l) (sym none) (All-nil (λ x. x ≡ backing_of new b))
+  unkept_by_cut b clean true short =
+      let test : nat_le end (8 * (b / 8)) ≡ false = grind (arith, nat_tests, short) in
+      let same = same_mark (b / 8) test in
+      let clean' : is_dirty old (b / 8) ≡ false = subst (λ (m : Option Mark). marks.is_dirty (state_of m) ≡ false) same clean in
+      unkept-as (was.unkept b clean') (ap (λ (s : Storage). s.unkept b) storage_cut ∙ rw short refl) (kept b ∙ rw short refl)
+
   pub cut-off : IsFenced n began new
   cut-off =
       record {
@@ -358,19 +427,22 @@ module _ (n : ℕ) (began : List BackedStore) (old new : BackedStore) (end : ℕ
         kept = λ p due. ap (λ (x : Progress). x.kept p) now_cut ∙ kept_by_cut p due (nat_le end (8 * p)) refl;
         given = λ p due. ap (λ (x : Progress). x.given p) now_cut ∙ given_by_cut p due (nat_le end (8 * p)) refl;
         idle = λ b clean idle. idle_by_cut b clean idle (nat_lt b end) refl;
+        unkept = λ b clean. unkept_by_cut b clean (nat_lt b end) refl;
       }
 
 -- A flush begins
 
 pub begins-fenced : (n : ℕ) (s : BackedStore) →
     ((b : ℕ) → is_dirty s (b / 8) ≡ false → is_writing s (b / 8) ≡ false → (storage_of s).given b ≡ backing_of s b) →
+    ((b : ℕ) → is_dirty s (b / 8) ≡ false → All (λ x. x ≡ backing_of s b) ((storage_of s).unkept b)) →
     IsFenced n (s ∷ []) s
-begins-fenced n s idle =
+begins-fenced n s idle unkept =
     record {
       behind = omega arith;
       kept = λ p due. ap (λ (x : Progress). x.kept p) none ∙ rw due refl;
       given = λ p due. ap (λ (x : Progress). x.given p) none ∙ rw due refl;
       idle = idle;
+      unkept = unkept;
     }
   where
     none : progress_by n (s ∷ []) (ledger_of s) ≡ begun n (s ∷ [])
@@ -396,6 +468,14 @@ pub kept-at : (s : BackedStore) (b : ℕ) → (progress_by (latest_of s) (s ∷ 
 kept-at s b is =
     let due = not-false _ (sym (ap (λ (x : Progress). x.kept (b / 8)) (none-done (latest_of s) s)) ∙ is) in
     sym (contents-kept s b (clean-at s (b / 8) due (is_dirty s (b / 8)) refl))
+
+pub unkept-at : (s : BackedStore) (b : ℕ) →
+    ((b : ℕ) → is_dirty s (b / 8) ≡ false → All (λ x. x ≡ backing_of s b) ((storage_of s).unkept b)) →
+    (progress_by (latest_of s) (s ∷ []) (ledger_of s)).kept (b / 8) ≡ true → All (λ x. x ≡ contents s b) ((storage_of s).unkept b)
+unkept-at s b unkept is =
+    let due = not-false _ (sym (ap (λ (x : Progress). x.kept (b / 8)) (none-done (latest_of s) s)) ∙ is) in
+    let clean = clean-at s (b / 8) due (is_dirty s (b / 8)) refl in
+    unkept-as (unkept b clean) refl (contents-kept s b clean)
 
 pub given-at : (s : BackedStore) (b : ℕ) →
     ((b : ℕ) → is_dirty s (b / 8) ≡ false → is_writing s (b / 8) ≡ false → (storage_of s).given b ≡ backing_of s b) →
@@ -428,26 +508,9 @@ kept-paid s n p paid true is =
     let later = rw room at paid in
     rw is later
 
-given-paid : (s : BackedStore) (n p : ℕ) → owes s n p ≡ false → (t : Bool) → is_writing s p ≡ t → is_given_due s n p ≡ false
-given-paid s n p paid false is = let kept = kept-paid s n p paid (is_dirty s p) refl in rw is kept
-given-paid s n p paid true is = by_test (is_rewritten s p) refl
-  where
-    by_test : (t : Bool) → is_rewritten s p ≡ t → is_given_due s n p ≡ false
-    by_test false same = rw (is, same) refl
-    by_test true changed =
-        let room : has_room (mark_at s.cache p) ≡ true = writing-room (mark_at s.cache p) is in
-        let later : nat_le (number_of s p) n ≡ false = rw room at paid in
-        let order = number-again s p changed in
-        let test : nat_le (again_of s p) n ≡ false = grind (arith, nat_tests, later, order) in
-        rw (is, changed, test) refl
-
 pub kept-over : (n : ℕ) (began : List BackedStore) (s : BackedStore) → IsFenced n began s → IsFlushed s n →
     (p : ℕ) → (progress_by n began (ledger_of s)).kept p ≡ true
 kept-over n began s was flushed p = was.kept p (kept-paid s n p (flushed p) (is_dirty s p) refl)
-
-pub given-over : (n : ℕ) (began : List BackedStore) (s : BackedStore) → IsFenced n began s → IsFlushed s n →
-    (p : ℕ) → (progress_by n began (ledger_of s)).given p ≡ true
-given-over n began s was flushed p = was.given p (given-paid s n p (flushed p) (is_writing s p) refl)
 
 -- The storage has each block as it is
 
@@ -462,28 +525,20 @@ unwritten s p paid = by_test (has_room (mark_at s.cache p)) refl
         let bad : true ≡ false = rw (is, test) at paid in
         never-both true refl bad
 
+clean-now : (s : BackedStore) → IsFlushed s (latest_of s) → (b : ℕ) → (t : Bool) → is_dirty s (b / 8) ≡ t → is_dirty s (b / 8) ≡ false
+clean-now s flushed b false is = is
+clean-now s flushed b true is =
+    never-both (has_room (mark_at s.cache (b / 8))) (s.cache.indexed.dirty (b / 8) is) (unwritten s (b / 8) (flushed (b / 8)))
+
 pub kept-now : (s : BackedStore) → IsFlushed s (latest_of s) → (b : ℕ) → backing_of s b ≡ contents s b
-kept-now s flushed b = sym (contents-kept s b (by_test (is_dirty s (b / 8)) refl))
-  where
-    by_test : (t : Bool) → is_dirty s (b / 8) ≡ t → is_dirty s (b / 8) ≡ false
-    by_test false is = is
-    by_test true is = never-both (has_room (mark_at s.cache (b / 8))) (s.cache.indexed.dirty (b / 8) is) (unwritten s (b / 8) (flushed (b / 8)))
+kept-now s flushed b = sym (contents-kept s b (clean-now s flushed b (is_dirty s (b / 8)) refl))
 
-pub given-now : (s : BackedStore) →
-    ((b : ℕ) → is_dirty s (b / 8) ≡ false → is_writing s (b / 8) ≡ false → (storage_of s).given b ≡ backing_of s b) →
-    IsFlushed s (latest_of s) → (b : ℕ) → (storage_of s).given b ≡ contents s b
-given-now s idle flushed b = idle b (clean (is_dirty s (b / 8)) refl) (still (is_writing s (b / 8)) refl) ∙ kept-now s flushed b
-  where
-    none : has_room (mark_at s.cache (b / 8)) ≡ false
-    none = unwritten s (b / 8) (flushed (b / 8))
-
-    clean : (t : Bool) → is_dirty s (b / 8) ≡ t → is_dirty s (b / 8) ≡ false
-    clean false is = is
-    clean true is = never-both (has_room (mark_at s.cache (b / 8))) (s.cache.indexed.dirty (b / 8) is) none
-
-    still : (t : Bool) → is_writing s (b / 8) ≡ t → is_writing s (b / 8) ≡ false
-    still false is = is
-    still true is = never-both (has_room (mark_at s.cache (b / 8))) (writing-room (mark_at s.cache (b / 8)) is) none
+pub unkept-now : (s : BackedStore) →
+    ((b : ℕ) → is_dirty s (b / 8) ≡ false → All (λ x. x ≡ backing_of s b) ((storage_of s).unkept b)) →
+    IsFlushed s (latest_of s) → (b : ℕ) → All (λ x. x ≡ contents s b) ((storage_of s).unkept b)
+unkept-now s unkept flushed b =
+    let clean = clean-now s flushed b (is_dirty s (b / 8)) refl in
+    unkept-as (unkept b clean) refl (contents-kept s b clean)
 
 both-true : (x y : Bool) → (x && y) ≡ true → (x ≡ true) × (y ≡ true)
 both-true true true is = (refl, refl)
@@ -578,6 +633,12 @@ pub idle-at-opening : (s : BackedStore) (content : List ℕ) → ledger_of s ≡
 idle-at-opening s content is b =
     let same = by-ledger s ∙ ap storage_by is in
     ap (λ (h : Storage). h.given b) same ∙ sym (ap (λ (h : Storage). h.kept b) same)
+
+pub unkept-at-opening : (s : BackedStore) (content : List ℕ) → ledger_of s ≡ record { content = content; dealings = [] } →
+    (b : ℕ) → All (λ x. x ≡ backing_of s b) ((storage_of s).unkept b)
+unkept-at-opening s content is b =
+    let none : (storage_of s).unkept b ≡ [] = ap (λ (h : Storage). h.unkept b) (by-ledger s ∙ ap storage_by is) in
+    subst (λ l. All (λ x. x ≡ backing_of s b) l) (sym none) (All-nil (λ x. x ≡ backing_of s b))
 
 pub gave-now : (r : Result (Option GivenPage) NoMemory) (old new : BackedStore) →
     IfOk r (λ given. IfSome given (λ g. (b : ℕ) → (storage_of new).given b ≡ with_page g.page (contents old) (storage_of old).given b)) →

@@ -1,5 +1,5 @@
 -- A disk, whether its pages may go or not.
-use Rattle.std.specs.Prelude.{◌≡◌, ℕ, ◌/◌, ◌%◌, Bool, true, false, List, [], length, Option, Some, None, is_some, IfSome}
+use Rattle.std.specs.Prelude.{◌≡◌, ℕ, ◌/◌, ◌%◌, Bool, true, false, List, [], All, length, Option, Some, None, is_some, IfSome}
 use Rattle.block_store.specs.Blocks.{Blocks}
 use Rattle.block_store.specs.Storage.{Ledger, storage_by}
 use Rattle.block_store.specs.Inner.Hosted.{Hosted}
@@ -56,20 +56,23 @@ abbrev pub owes : Disk → ℕ → Bool
 owes (Whole s) p = false
 owes (Backed s) p = flushes.owes s.store s.fence p
 
--- own: what the storage keeps of each block for which that counts, and what the host was given of it, is as the block is
+-- own: block b is as it is in what the storage keeps, and in all else that it may have of it
+abbrev pub IsKeptAs : Ledger → Blocks → ℕ → Type 0
+IsKeptAs l blocks b = ((storage_by l).kept b ≡ blocks b) × All (λ x. x ≡ blocks b) ((storage_by l).unkept b)
+
+-- own: what the storage may have of each block for which that counts, and what the host was given of it, is as the block is
 abbrev pub IsBegun : Disk → Type 0
 IsBegun d =
-    IfSome (hosted_of d) (λ h. (b : ℕ) → (h.progress.kept (b / 8) ≡ true → (storage_by h.ledger).kept b ≡ blocks_of d b)
+    IfSome (hosted_of d) (λ h. (b : ℕ) → (h.progress.kept (b / 8) ≡ true → IsKeptAs h.ledger (blocks_of d) b)
     × (h.progress.given (b / 8) ≡ true → (storage_by h.ledger).given b ≡ blocks_of d b))
 
 -- own: its latest flush has all that it waits for
 abbrev pub IsOver : Disk → Type 0
-IsOver d = IfSome (hosted_of d) (λ h. (p : ℕ) → (h.progress.kept p ≡ true) × (h.progress.given p ≡ true))
+IsOver d = IfSome (hosted_of d) (λ h. (p : ℕ) → h.progress.kept p ≡ true)
 
 -- own: the storage has each block as it is
 abbrev pub IsKeptWhole : Disk → Type 0
-IsKeptWhole d =
-    IfSome (storage_of d) (λ l. (b : ℕ) → ((storage_by l).kept b ≡ blocks_of d b) × ((storage_by l).given b ≡ blocks_of d b))
+IsKeptWhole d = IfSome (storage_of d) (λ l. (b : ℕ) → IsKeptAs l (blocks_of d) b)
 
 -- the latest pages that the host said it can't read, the oldest first; none of one that isn't backed
 abbrev pub noted : Disk → List ℕ

@@ -1,5 +1,5 @@
 -- How far the latest flush of a backed store is.
-use Rattle.std.specs.Prelude.{ℕ, ◌≡◌, ◌≤◌, ◌/◌, ◌&&◌, not, Bool, true, false, nat_le, List, [], ◌∷◌, length, drop, if◌then◌else◌}
+use Rattle.std.specs.Prelude.{ℕ, ◌≡◌, ◌≤◌, ◌/◌, ◌&&◌, not, Bool, true, false, nat_le, List, [], ◌∷◌, All, length, drop, if◌then◌else◌}
 use Rattle.block_store.specs.Storage.{Ledger}
 use Rattle.block_store.specs.Progress.{Progress, all_progress}
 use Rattle.block_store.specs.Inner.Hosted.{Hosted}
@@ -37,9 +37,11 @@ abbrev pub hosted_by : ℕ → List BackedStore → Ledger → Hosted
 hosted_by n began l = hosted_as l (progress_by n began l)
 
 -- a store that a flush of the changes up to n waits for, which began when the store was so: where nothing is due of a page, the
--- flush has what it waits for; and what the host was given of a page that is as the storage keeps it is the same
+-- flush has what it waits for; and what the host was given of a page that is as the storage keeps it is the same, as is all else
+-- that the storage may have of it
 pub record IsFenced (n : ℕ) (began : List BackedStore) (s : BackedStore) : Type 0 where
   pub behind : done_by began ≤ length (ledger_of s).dealings
   pub kept : (p : ℕ) → is_kept_due s n p ≡ false → (progress_by n began (ledger_of s)).kept p ≡ true
   pub given : (p : ℕ) → is_given_due s n p ≡ false → (progress_by n began (ledger_of s)).given p ≡ true
   pub idle : (b : ℕ) → is_dirty s (b / 8) ≡ false → is_writing s (b / 8) ≡ false → (storage_of s).given b ≡ backing_of s b
+  pub unkept : (b : ℕ) → is_dirty s (b / 8) ≡ false → All (λ x. x ≡ backing_of s b) ((storage_of s).unkept b)

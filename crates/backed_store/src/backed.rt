@@ -42,7 +42,6 @@ pub struct BackedStore {
 impl BackedStore {
     ghost use Rattle.std.specs.Prelude.{◌*◌, ◌&&◌, nat_lt, false, min, [], None, if◌then◌else◌};
     ghost use Rattle.block_store.specs.Pages.{blocks_in};
-    ghost use Rattle.backed_store.specs.Flushes.{KeepsFlushes};
     ghost use Rattle.backed_store.specs.Caches.{mark_at};
     ghost use Rattle.backed_store.specs.Stores.{contents, backing_of, storage_of, ledger_of, holds, is_noted as notes, OwesNoMore};
     ghost use Rattle.block_store.specs.Storage.{cut, and_then, Dealing as ADealing};
@@ -85,7 +84,6 @@ impl BackedStore {
             ≡ (if nat_lt (8 * p) (min self.old.capacity blocks) then mark_at self.old.cache p else None) }
         ensures given { (b : ℕ) → (storage_of self.new).given b ≡ cut (min self.old.capacity blocks) (storage_of self.old).given b }
         ensures owing { OwesNoMore self.old self.new }
-        ensures flushes { KeepsFlushes self.old self.new }
     {
         let left = self.capacity.min(blocks);
         self.cache.cut(left);

@@ -25,7 +25,7 @@ pub struct BackedDisk {
 }
 
 impl BackedDisk {
-    ghost use Rattle.std.specs.Prelude.{◌≡◌, ℕ, ◌/◌, ◌^◌, ◌<◌, [], true, false, IsTrue, IsFalse, IfOk, OnErr, IfSome, IfNone, length, min};
+    ghost use Rattle.std.specs.Prelude.{◌≡◌, ℕ, ◌/◌, ◌^◌, ◌<◌, [], All, true, false, IsTrue, IsFalse, IfOk, OnErr, IfSome, IfNone, length, min};
     ghost use Rattle.backed_store.specs.Stores.{contents, holds, backing_of, storage_of, ledger_of, latest_of};
     ghost use Rattle.block_store.specs.Pages.{blocks_in};
     ghost use Rattle.backed_store.specs.Flushes.{owes};
@@ -59,6 +59,8 @@ impl BackedDisk {
         ensures fence { self.new.fence ≡ latest_of self.old.store }
         ensures kept { (b : ℕ) → (progress_of self.new).kept (b / 8) ≡ true →
             backing_of self.new.store b ≡ contents self.new.store b }
+        ensures unkept { (b : ℕ) → (progress_of self.new).kept (b / 8) ≡ true →
+            All (λ x. x ≡ contents self.new.store b) ((storage_of self.new.store).unkept b) }
         ensures given { (b : ℕ) → (progress_of self.new).given (b / 8) ≡ true →
             (storage_of self.new.store).given b ≡ contents self.new.store b }
     {
@@ -70,7 +72,6 @@ impl BackedDisk {
     /// change alone.
     pub(crate) fn is_flush_over(&self) -> bool
         ensures kept { IsTrue result → (p : ℕ) → (progress_of self.now).kept p ≡ true }
-        ensures given { IsTrue result → (p : ℕ) → (progress_of self.now).given p ≡ true }
         ensures no { IsFalse result → (p : ℕ) × IsTrue (owes self.now.store self.now.fence p) }
     {
         self.store.is_flushed(self.fence)
@@ -79,7 +80,8 @@ impl BackedDisk {
     /// Returns true if the host's storage has each block as it is. It looks at the oldest change alone.
     pub(crate) fn is_kept(&self) -> bool
         ensures kept { IsTrue result → (b : ℕ) → backing_of self.now.store b ≡ contents self.now.store b }
-        ensures given { IsTrue result → (b : ℕ) → (storage_of self.now.store).given b ≡ contents self.now.store b }
+        ensures unkept { IsTrue result → (b : ℕ) →
+            All (λ x. x ≡ contents self.now.store b) ((storage_of self.now.store).unkept b) }
     {
         self.store.is_flushed(self.store.latest_change())
     }

@@ -12,11 +12,11 @@
 //! The host is asked only for pages below the capacity. Each page that is noted as lost is one of which the host said that it
 //! can't read it. At most 64 are noted: one more drops the oldest. A page that is loaded, kept or cut off isn't noted any longer.
 //!
-//! A flush waits for the changes that were made before it. Once none of these is owed, a crash leaves each block as it was
-//! when the flush began, or later (`a_crash_leaves_what_was_flushed`). No call makes it wait for more, unless a write of the
-//! host failed; each page that the host is given and keeps makes it wait for less (`what_is_owed_is_due`). Where no page is
-//! left to give, each that is owed is being written. [`BackedDisk`] keeps how far the latest flush is by what the host was given
-//! and kept since it began.
+//! A flush waits for the changes that were made before it. No call makes it wait for more, unless a write of the host failed;
+//! each page that the host is given and keeps makes it wait for less (`what_is_owed_is_due`). Where no page is left to give,
+//! each that is owed is being written. [`BackedDisk`] keeps how far the latest flush is by what the host was given and kept since
+//! it began: once none of these changes is owed, the storage keeps each page as it was then, or later. Whatever the host was given
+//! of a page that isn't dirty, and didn't say that it kept, is as the storage keeps it.
 #![tactic(auto)]
 
 mod backed;
@@ -54,8 +54,6 @@ pub use backed_disk::BackedDisk;
 pub use dealing::{Dealing, GivenPage};
 pub use disk::Disk;
 pub use in_place::BlocksInPlace;
-pub use laws::{
-    a_crash_leaves_what_was_flushed, a_flush_begins, a_flush_goes_on, what_is_owed_is_due,
-};
+pub use laws::what_is_owed_is_due;
 pub use numbers::{PAGE_BLOCKS, PAGE_BYTES};
 pub use page_range::PageRange;

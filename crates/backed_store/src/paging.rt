@@ -3,7 +3,7 @@
 ghost use Rattle.std.specs.Prelude.{◌≡◌, ◌≢◌, ℕ, slice_get, filter, ◌==◌, ◌*◌, ◌/◌, ◌^◌, ◌<◌, ◌≤◌, ◌&&◌, not, true, false, length, IsTrue, IsFalse, IfOk, OnOk, OnErr, IfSome, IfNone, if◌then◌else◌};
 ghost use Rattle.block_store.specs.Storage.{with_page, IsPageOf, and_then, is_lost, Dealing as ADealing};
 ghost use Rattle.backed_store.specs.Spared.{is_spared};
-ghost use Rattle.backed_store.specs.Flushes.{owes, KeepsFlushes};
+ghost use Rattle.backed_store.specs.Flushes.{owes};
 ghost use Rattle.backed_store.specs.Stores.{contents, holds, is_coming, has_room, is_wanted, is_reading, is_writing, is_dirty, is_rewritten, may_go, number_of, again_of, dues, storage_of, ledger_of, backing_of, noted, is_noted, IsSame, IsHost, IsOwed, OwesNoMore};
 
 use crate::backed::BackedStore;
@@ -45,7 +45,6 @@ impl BackedStore {
         ensures owed { (p : ℕ) → IsOwed self.old self.new p }
         ensures writing { (p : ℕ) → is_writing self.new p ≡ is_writing self.old p }
         ensures owing { OwesNoMore self.old self.new }
-        ensures flushes { KeepsFlushes self.old self.new }
         ensures loaded { IfOk result (λ stands. IsTrue stands → IsTrue (holds self.new (8 * page))) }
         // The host's storage can read it after all.
         ensures found { IfOk result (λ stands. IsTrue stands → is_noted self.new page ≡ false) }
@@ -103,7 +102,6 @@ impl BackedStore {
         ensures owed { (p : ℕ) → IsOwed self.old self.new p }
         ensures writing { (p : ℕ) → is_writing self.new p ≡ is_writing self.old p }
         ensures owing { OwesNoMore self.old self.new }
-        ensures flushes { KeepsFlushes self.old self.new }
         ensures over { is_reading self.new page ≡ false }
         ensures absent { IsTrue result → is_coming self.new (8 * page) ≡ false }
         ensures others { (b : ℕ) → b / 8 ≢ page → is_coming self.new b ≡ is_coming self.old b }
@@ -169,7 +167,6 @@ impl BackedStore {
         // The host has only to keep it then.
         ensures less { IfOk result (λ given. IfSome given (λ g. (n : ℕ) → dues self.new n g.page ≤ 1)) }
         ensures idle { IfOk result (λ given. IfNone given ((n p : ℕ) → IsTrue (owes self.new n p) → IsTrue (is_writing self.new p))) }
-        ensures flushes { KeepsFlushes self.old self.new }
         ensures held { (b : ℕ) → holds self.new b ≡ holds self.old b }
     {
         if self.cache.unkept.unwritten.len() == 0 {
@@ -220,7 +217,6 @@ impl BackedStore {
             dues self.new n page < dues self.old n page) }
         ensures due { OnOk result ((n p : ℕ) → p ≢ page → dues self.new n p ≡ dues self.old n p) }
         ensures unpaid { OnErr result (OwesNoMore self.old self.new) }
-        ensures flushes { KeepsFlushes self.old self.new }
         ensures held { (b : ℕ) → holds self.new b ≡ holds self.old b }
     {
         let Some(mark) = self.cache.slots.mark(page) else {

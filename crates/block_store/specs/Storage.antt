@@ -1,12 +1,14 @@
 -- What the host's storage has of a disk whose pages come and go.
-use Rattle.std.specs.Prelude.{ℕ, ◌≡◌, ◌⊎◌, ◌<◌, ◌+◌, ◌*◌, ◌/◌, ◌%◌, ◌==◌, ◌++◌, ◌||◌, ◌&&◌, not, Bool, true, false, List, [], ◌∷◌, Option, Some, nat_lt, if◌then◌else◌}
+use Rattle.std.specs.Prelude.{ℕ, ◌≡◌, ◌⊎◌, ◌<◌, ◌+◌, ◌*◌, ◌/◌, ◌%◌, ◌==◌, ◌++◌, ◌||◌, ◌&&◌, not, Bool, true, false, List, [], ◌∷◌, Contains, Option, Some, nat_lt, if◌then◌else◌}
 use Rattle.block_store.specs.Blocks.{Blocks, nth_block, zero_block}
 use Rattle.block_store.specs.Pages.{blocks_in}
 
--- the blocks as the host was last given them, and those that its storage has, as far as the host said
+-- the blocks as the host was last given them, those that its storage has, as far as the host said, and what else it may have of
+-- each block: all that the host was given of it since it said that it wrote the page
 pub record Storage : Type 0 where
   pub given : Blocks
   pub kept : Blocks
+  pub unkept : ℕ → List (List ℕ)
 
 -- own: the host takes the bytes of a page to write them; it says that it wrote the page as it was last given it, so that a
 -- crash leaves it; it says that it can't read the page; it hands in the bytes of the page; it cuts its storage off at a block
@@ -26,11 +28,17 @@ abbrev pub cut : ℕ → Blocks → Blocks
 cut n blocks b = if nat_lt b n then blocks b else zero_block
 
 abbrev pub dealt : Dealing → Storage → Storage
-dealt (Dealing.Give p bytes) s = record s { given = with_page p (λ b. blocks_in bytes (b % 8)) s.given }
-dealt (Dealing.Keep p) s = record s { kept = with_page p s.given s.kept }
+dealt (Dealing.Give p bytes) s =
+    record s {
+      given = with_page p (λ b. blocks_in bytes (b % 8)) s.given;
+      unkept = λ b. if b / 8 == p then blocks_in bytes (b % 8) ∷ s.unkept b else s.unkept b;
+    }
+dealt (Dealing.Keep p) s =
+    record s { kept = with_page p s.given s.kept; unkept = λ b. if b / 8 == p then [] else s.unkept b }
 dealt (Dealing.Lose p) s = s
 dealt (Dealing.Load p) s = s
-dealt (Dealing.Cut n) s = record { given = cut n s.given; kept = cut n s.kept }
+dealt (Dealing.Cut n) s =
+    record { given = cut n s.given; kept = cut n s.kept; unkept = λ b. if nat_lt b n then s.unkept b else [] }
 
 -- once all of this was done, the first of it first
 abbrev pub all_dealt : List Dealing → Storage → Storage
@@ -39,7 +47,7 @@ all_dealt (d ∷ more) s = all_dealt more (dealt d s)
 
 -- a storage that has these bytes, end to end; what they lack is zeros
 abbrev pub opening : List ℕ → Storage
-opening bytes = record { given = λ b. blocks_in bytes b; kept = λ b. blocks_in bytes b }
+opening bytes = record { given = λ b. blocks_in bytes b; kept = λ b. blocks_in bytes b; unkept = λ b. [] }
 
 -- own: the bytes that a storage had at the opening, and what was done with it since, the first of it first
 pub record Ledger : Type 0 where
@@ -50,9 +58,9 @@ pub record Ledger : Type 0 where
 abbrev pub storage_by : Ledger → Storage
 storage_by l = all_dealt l.dealings (opening l.content)
 
--- what a crash leaves: of each block what the host last said that its storage keeps, or what it was last given of it
+-- what a crash leaves: of each block what the host last said that its storage keeps, or any of what it was given of it since
 abbrev pub IsLeft : Ledger → Blocks → Type 0
-IsLeft l left = (b : ℕ) → (left b ≡ (storage_by l).kept b) ⊎ (left b ≡ (storage_by l).given b)
+IsLeft l left = (b : ℕ) → (left b ≡ (storage_by l).kept b) ⊎ Contains ((storage_by l).unkept b) (left b)
 
 -- own: with one more
 abbrev pub and_then : Dealing → Ledger → Ledger

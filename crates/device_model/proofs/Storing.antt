@@ -25,7 +25,7 @@ use Rattle.device_model.specs.Transitions.{Transition}
 use Rattle.device_model.specs.Event.Hard.{hard_code}
 use Rattle.device_model.specs.After.{after}
 use Rattle.device_model.specs.Found.{UnitIs}
-use Rattle.device_model.specs.Storing.{given_of, kept_of, lost_of, gives, keeps, tells}
+use Rattle.device_model.specs.Storing.{given_of, kept_of, unkept_of, lost_of, gives, keeps, tells}
 use Rattle.device_model.proofs.Lists.{same, stays, get_other, get_change}
 
 -- what a change leaves of a unit
@@ -69,6 +69,18 @@ given_lost : (page : ℕ) (o : Option Ledger)
     ≡ option_map (λ (l : Ledger). (storage_by l).given) o
 given_lost page None = refl
 given_lost page (Some l) = ap (λ (s : Storage). Some s.given) (last_dealt l.dealings (Dealing.Lose page) (opening l.content))
+
+unkept_lost : (page : ℕ) (o : Option Ledger)
+    → option_map (λ (l : Ledger). (storage_by l).unkept) (option_map (and_then (Dealing.Lose page)) o)
+    ≡ option_map (λ (l : Ledger). (storage_by l).unkept) o
+unkept_lost page None = refl
+unkept_lost page (Some l) = ap (λ (s : Storage). Some s.unkept) (last_dealt l.dealings (Dealing.Lose page) (opening l.content))
+
+unkept_loaded : (page : ℕ) (o : Option Ledger)
+    → option_map (λ (l : Ledger). (storage_by l).unkept) (option_map (and_then (Dealing.Load page)) o)
+    ≡ option_map (λ (l : Ledger). (storage_by l).unkept) o
+unkept_loaded page None = refl
+unkept_loaded page (Some l) = ap (λ (s : Storage). Some s.unkept) (last_dealt l.dealings (Dealing.Load page) (opening l.content))
 
 kept_loaded : (page : ℕ) (o : Option Ledger)
     → option_map (λ (l : Ledger). (storage_by l).kept) (option_map (and_then (Dealing.Load page)) o)
@@ -149,6 +161,40 @@ kept_stays (Transition.Deal k (Dealing.Keep page)) w place u v at now off =
 kept_stays (Transition.Deal k (Dealing.Cut blocks)) w place u v at now off =
     ap (λ z. kept_of z) (elsewhere (dealing (Dealing.Cut blocks)) k w.units place u v off at now)
 kept_stays d w place u v at now off = ap (λ z. kept_of z) (same (sym now ∙ at))
+
+pub unkept_stays : (d : Transition) (w : PlainWorld) (place : ℕ) (u v : PlainUnit) → UnitIs w place u → UnitIs (after d w) place v
+    → gives place d ≡ false → keeps place d ≡ false → unkept_of v ≡ unkept_of u
+unkept_stays (Transition.Run x) w place u v at now ungiven unkept =
+    unchanged unkept_of (stepped (Step.Enter x.entry)) x.unit w.units (λ z. refl) place u v at now
+unkept_stays (Transition.Park x) w place u v at now ungiven unkept =
+    unchanged unkept_of (parking x) x.unit w.units (λ z. refl) place u v at now
+unkept_stays (Transition.EnterFull x) w place u v at now ungiven unkept =
+    unchanged unkept_of (stepped (Step.Full x.entry.ticket)) x.unit w.units (λ z. refl) place u v at now
+unkept_stays (Transition.Commit k x r) w place u v at now ungiven unkept =
+    unchanged unkept_of (stepped (Step.Commit x.entry.ticket r)) x.unit w.units (λ z. refl) place u v at now
+unkept_stays (Transition.CommitBusy k x) w place u v at now ungiven unkept =
+    unchanged unkept_of (stepped (Step.Busy x.entry.ticket)) x.unit w.units (λ z. refl) place u v at now
+unkept_stays (Transition.Leave k i t jobs) w place u v at now ungiven unkept =
+    unchanged unkept_of (stepped (Step.Leave t)) i w.units (λ z. refl) place u v at now
+unkept_stays (Transition.Mark t p (Abort rule) jobs) w place u v at now ungiven unkept =
+    unchanged unkept_of (stepped (step_by (Abort rule))) p.unit w.units (λ z. refl) place u v at now
+unkept_stays (Transition.Mark t p (Reset c) jobs) w place u v at now ungiven unkept =
+    unchanged unkept_of (stepped (step_by (Reset c))) p.unit w.units (λ z. refl) place u v at now
+unkept_stays (Transition.Hard p jobs) w place u v at now ungiven unkept =
+    unchanged unkept_of (stepped (Step.Reset hard_code)) p.unit w.units (λ z. refl) place u v at now
+unkept_stays (Transition.Resize k blocks) w place u v at now ungiven unkept =
+    ap (λ z. unkept_of z) (elsewhere (stepped (Step.Resize blocks)) k w.units place u v unkept at now)
+unkept_stays (Transition.Deal k (Dealing.Give page bytes)) w place u v at now ungiven unkept =
+    ap (λ z. unkept_of z) (elsewhere (dealing (Dealing.Give page bytes)) k w.units place u v ungiven at now)
+unkept_stays (Transition.Deal k (Dealing.Lose page)) w place u v at now ungiven unkept =
+    unchanged unkept_of (dealing (Dealing.Lose page)) k w.units (λ z. unkept_lost page z.storage) place u v at now
+unkept_stays (Transition.Deal k (Dealing.Load page)) w place u v at now ungiven unkept =
+    unchanged unkept_of (dealing (Dealing.Load page)) k w.units (λ z. unkept_loaded page z.storage) place u v at now
+unkept_stays (Transition.Deal k (Dealing.Keep page)) w place u v at now ungiven unkept =
+    ap (λ z. unkept_of z) (elsewhere (dealing (Dealing.Keep page)) k w.units place u v unkept at now)
+unkept_stays (Transition.Deal k (Dealing.Cut blocks)) w place u v at now ungiven unkept =
+    ap (λ z. unkept_of z) (elsewhere (dealing (Dealing.Cut blocks)) k w.units place u v unkept at now)
+unkept_stays d w place u v at now ungiven unkept = ap (λ z. unkept_of z) (same (sym now ∙ at))
 
 -- whether a page is lost, by a storage
 abbrev lost_by_storage : ℕ → Option Ledger → Bool

@@ -1,5 +1,5 @@
 -- Which transitions change what the host's storage has of a unit's disk.
-use Rattle.std.specs.Prelude.{ℕ, Bool, false, ◌==◌, ◌&&◌, Option, option_map, unwrap_or}
+use Rattle.std.specs.Prelude.{ℕ, Bool, false, ◌==◌, ◌&&◌, List, Option, option_map, unwrap_or}
 use Rattle.block_store.specs.Blocks.{Blocks}
 use Rattle.block_store.specs.Storage.{Ledger, Dealing, storage_by, is_lost}
 use Rattle.unit_model.specs.Unit.{PlainUnit}
@@ -12,6 +12,10 @@ given_of u = option_map (λ (l : Ledger). (storage_by l).given) u.storage
 -- and those that its storage has, as far as the host said
 abbrev pub kept_of : PlainUnit → Option Blocks
 kept_of u = option_map (λ (l : Ledger). (storage_by l).kept) u.storage
+
+-- and what else that may have of each block: all that the host was given of it since it said that it wrote the page
+abbrev pub unkept_of : PlainUnit → Option (ℕ → List (List ℕ))
+unkept_of u = option_map (λ (l : Ledger). (storage_by l).unkept) u.storage
 
 -- the transition gives the host a page of the unit at a place, or resizes it
 abbrev pub gives : ℕ → Transition → Bool

@@ -17,13 +17,14 @@ ghost use Rattle.device_model.specs.Transitions.{Transition};
 ghost use Rattle.device_model.specs.After.{after};
 ghost use Rattle.device_model.specs.Happens.{Happens};
 ghost use Rattle.device_model.specs.Found.{UnitIs};
-ghost use Rattle.device_model.specs.Storing.{given_of, kept_of, lost_of, gives, keeps, tells};
+ghost use Rattle.device_model.specs.Storing.{given_of, kept_of, unkept_of, lost_of, gives, keeps, tells};
 
 /// States when the storage of a unit's disk changes: where the host says that it wrote a page of that unit, and where the
 /// unit is resized. It never changes by a command of a guest, nor by what is done of another unit.
 ///
 /// - `given`: what the host was last given changes where it takes a page, and by a resize.
-/// - `kept`: what a crash leaves changes where it says that it wrote a page, and by a resize.
+/// - `kept`: what its storage keeps changes where it says that it wrote a page, and by a resize.
+/// - `unkept`: what else a crash may leave changes where it takes a page, where it says that it wrote one, and by a resize.
 /// - `lost`: whether a page is lost changes where the host says that it can't read it, hands it in, or says that it wrote it.
 ///   A command may end with MEDIUM ERROR where it needs a page that is lost (`Replies`).
 /// - `unread`: a page is lost once the host said that it can't read it.
@@ -35,6 +36,8 @@ pub fn a_storage_changes_by_its_host()
         UnitIs (after d w) place v → gives place d ≡ false → given_of v ≡ given_of u }
     ensures kept { (w : PlainWorld) (d : Transition) (place : ℕ) (u v : PlainUnit) → UnitIs w place u →
         UnitIs (after d w) place v → keeps place d ≡ false → kept_of v ≡ kept_of u }
+    ensures unkept { (w : PlainWorld) (d : Transition) (place : ℕ) (u v : PlainUnit) → UnitIs w place u →
+        UnitIs (after d w) place v → gives place d ≡ false → keeps place d ≡ false → unkept_of v ≡ unkept_of u }
     ensures lost { (w : PlainWorld) (d : Transition) (place p : ℕ) (u v : PlainUnit) → UnitIs w place u →
         UnitIs (after d w) place v → tells place p d ≡ false → lost_of p v ≡ lost_of p u }
     ensures unread { (w : PlainWorld) (place p : ℕ) (u v : PlainUnit) → UnitIs w place u →

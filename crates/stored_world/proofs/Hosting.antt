@@ -128,8 +128,8 @@ cut_same n b old new same =
 
 -- the storage is dealt as its ledger says
 pub by_dealt : (l : Ledger) (d : Dealing) (s s' : host.Storage) → IsStorageBy l s
-    → ((b : ℕ) → given_blocks s' b ≡ (dealt d (record { given = given_blocks s; kept = kept_blocks s })).given b)
-    → ((b : ℕ) → kept_blocks s' b ≡ (dealt d (record { given = given_blocks s; kept = kept_blocks s })).kept b)
+    → ((b : ℕ) → given_blocks s' b ≡ (dealt d (record { given = given_blocks s; kept = kept_blocks s; unkept = λ c. [] })).given b)
+    → ((b : ℕ) → kept_blocks s' b ≡ (dealt d (record { given = given_blocks s; kept = kept_blocks s; unkept = λ c. [] })).kept b)
     → IsStorageBy (and_then d l) s'
 by_dealt l d s s' is given kept =
     record {
@@ -138,7 +138,7 @@ by_dealt l d s s' is given kept =
     }
   where
     had : Storage
-    had = record { given = given_blocks s; kept = kept_blocks s }
+    had = record { given = given_blocks s; kept = kept_blocks s; unkept = λ c. [] }
 
     given_same : (d : Dealing) (b : ℕ) → (dealt d had).given b ≡ (dealt d (storage_by l)).given b
     given_same (Dealing.Give p bytes) b = page_same p b (λ i. blocks_in bytes (i % 8)) (λ i. blocks_in bytes (i % 8)) had.given (storage_by l).given refl (is.given b)
@@ -155,16 +155,16 @@ by_dealt l d s s' is given kept =
     kept_same (Dealing.Cut n) b = cut_same n b had.kept (storage_by l).kept (is.kept b)
 
 by_option : (o : Option Ledger) (d : Dealing) (s s' : host.Storage) → ((l : Ledger) → o ≡ Some l → IsStorageBy l s)
-    → ((b : ℕ) → given_blocks s' b ≡ (dealt d (record { given = given_blocks s; kept = kept_blocks s })).given b)
-    → ((b : ℕ) → kept_blocks s' b ≡ (dealt d (record { given = given_blocks s; kept = kept_blocks s })).kept b)
+    → ((b : ℕ) → given_blocks s' b ≡ (dealt d (record { given = given_blocks s; kept = kept_blocks s; unkept = λ c. [] })).given b)
+    → ((b : ℕ) → kept_blocks s' b ≡ (dealt d (record { given = given_blocks s; kept = kept_blocks s; unkept = λ c. [] })).kept b)
     → (l : Ledger) → option_map (and_then d) o ≡ Some l → IsStorageBy l s'
 by_option None d s s' is given kept l at = absurd (nothing at)
 by_option (Some k) d s s' is given kept l at = subst (λ x. IsStorageBy x s') (same at) (by_dealt k d s s' (is k refl) given kept)
 
 -- a unit whose host dealt with its storage
 pub hosted_dealt : (d : Dealing) (u : PlainUnit) (h h' : HostedDisk)
-    → ((b : ℕ) → given_blocks h'.storage b ≡ (dealt d (record { given = given_blocks h.storage; kept = kept_blocks h.storage })).given b)
-    → ((b : ℕ) → kept_blocks h'.storage b ≡ (dealt d (record { given = given_blocks h.storage; kept = kept_blocks h.storage })).kept b)
+    → ((b : ℕ) → given_blocks h'.storage b ≡ (dealt d (record { given = given_blocks h.storage; kept = kept_blocks h.storage; unkept = λ c. [] })).given b)
+    → ((b : ℕ) → kept_blocks h'.storage b ≡ (dealt d (record { given = given_blocks h.storage; kept = kept_blocks h.storage; unkept = λ c. [] })).kept b)
     → h'.capacity ≡ h.capacity → IsHosted u h → IsHosted (dealing d u) h'
 hosted_dealt d u h h' given kept size is =
     record { storage = by_option u.storage d h.storage h'.storage is.storage given kept; capacity = size ∙ is.capacity }
@@ -258,8 +258,8 @@ hosted_by_deal w w' place d hs deals gone are =
 -- the storage of that unit, dealt with alike
 pub hosted_of_deal : (w w' : PlainWorld) (place : ℕ) (d : Dealing) (h h' : HostedDisk) → DealsAsPromised w place d w'
     → ((u : PlainUnit) → slice_get w.units place ≡ Some u → IsHosted u h)
-    → ((b : ℕ) → given_blocks h'.storage b ≡ (dealt d (record { given = given_blocks h.storage; kept = kept_blocks h.storage })).given b)
-    → ((b : ℕ) → kept_blocks h'.storage b ≡ (dealt d (record { given = given_blocks h.storage; kept = kept_blocks h.storage })).kept b)
+    → ((b : ℕ) → given_blocks h'.storage b ≡ (dealt d (record { given = given_blocks h.storage; kept = kept_blocks h.storage; unkept = λ c. [] })).given b)
+    → ((b : ℕ) → kept_blocks h'.storage b ≡ (dealt d (record { given = given_blocks h.storage; kept = kept_blocks h.storage; unkept = λ c. [] })).kept b)
     → h'.capacity ≡ h.capacity → (v : PlainUnit) → slice_get w'.units place ≡ Some v → IsHosted v h'
 hosted_of_deal w w' place d h h' deals was given kept size v at =
     hosted_there (dealing d) place w.units h h' was (λ u is. hosted_dealt d u h h' given kept size is) v
@@ -271,7 +271,7 @@ pub hosted_told : (w w' : PlainWorld) (place : ℕ) (d : Dealing) (hs : List (Op
     → AreHosted w.units hs → AreHosted w'.units hs
 hosted_told w w' place d hs deals given kept are k v h at there =
     let o = at_other (dealing d) place w.units k v (ap (λ us. slice_get us k) (sym (dealt_units w w' place d deals.turns)) ∙ at) in
-    let had : Storage = record { given = given_blocks h.storage; kept = kept_blocks h.storage } in
+    let had : Storage = record { given = given_blocks h.storage; kept = kept_blocks h.storage; unkept = λ c. [] } in
     elim o.2 [
       | inl here ↦ subst (λ x. IsHosted x h) (sym here.1)
           (hosted_dealt d o.0 h h (λ b. sym (given had b)) (λ b. sym (kept had b)) refl (are k o.0 h o.1 there))

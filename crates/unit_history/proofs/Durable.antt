@@ -1,13 +1,16 @@
 -- What the storage of a unit's disk has of its blocks, since the task of a flush entered.
-use Rattle.std.proofs.Common.{◌≡◌, ◌⊎◌, ℕ, ◌+◌, ◌*◌, ◌/◌, ◌==◌, ◌<◌, ◌≤◌, ◌||◌, nat_le, nat_lt, min, Bool, true, false, cond, inl, inr, List, [], ◌∷◌, ◌++◌, length, Option, Some, None, not, is_some, IfSome, IfNone, IfOk, OnErr, IsTrue, IsFalse, Result, Ok, Err, if◌then◌else◌, refl, sym, ◌∙◌, ap, subst, arith}
+use Rattle.std.proofs.Common.{◌≡◌, ◌⊎◌, ℕ, ◌+◌, ◌*◌, ◌/◌, ◌%◌, ◌==◌, ◌<◌, ◌≤◌, ◌||◌, nat_le, nat_lt, min, Bool, true, false, cond, inl, inr, List, [], ◌∷◌, ◌++◌, All, Contains, length, Option, Some, None, not, is_some, IfSome, IfNone, IfOk, OnErr, IsTrue, IsFalse, Result, Ok, Err, if◌then◌else◌, refl, sym, ◌∙◌, ap, subst, arith}
 use Rattle.std.proofs.lemmas.Bool.Decides.{nat_tests}
 use Rattle.std.specs.Option.{option_map}
+use Rattle.std.proofs.lemmas.List.Elements.{All-nil, All-cons, All-contains}
 use Rattle.block_store.specs.Blocks.{Blocks, zero_block}
+use Rattle.block_store.specs.Pages.{blocks_in}
 use Rattle.block_store.specs.Storage.{Storage, Ledger, Dealing, and_then, dealt, all_dealt, opening, storage_by, cut, IsLeft}
 use Rattle.block_store.specs.Progress.{Progress, progress_after}
 use Rattle.block_store.specs.Inner.Hosted.{Hosted, hosted_after}
+use Rattle.backed_store.specs.Stores as backed
 use Rattle.backed_store.specs.Disks as disks
-use Rattle.backed_store.specs.Disks.{IsBegun, IsOver, IsKeptWhole}
+use Rattle.backed_store.specs.Disks.{IsKeptAs, IsBegun, IsOver, IsKeptWhole}
 use Rattle.backed_store.specs.declared.disk.Disk.{Disk}
 use Rattle.backed_store.specs.declared.disk.Disk.TheVariants.{Whole, Backed}
 use Rattle.ring_core.specs.declared.log.Ticket.{Ticket}
@@ -19,7 +22,7 @@ use Rattle.unit_model.specs.Lawful.{IsReady}
 use Rattle.unit_model.proofs.Leaving.{task_ticket}
 use Rattle.unit_model.specs.Contents.{Opening, blocks_of, capacity_of}
 use Rattle.unit_model.specs.Flushing.{HasBeen, IsDurable}
-use Rattle.unit_history.specs.Inner.Flushes.{HasBeenSince, HaveBeen, AreSince, EnteredAs, Might, HasBegun, AreFenced, without}
+use Rattle.unit_history.specs.Inner.Flushes.{HasBeenSince, IsLeftSince, HaveBeen, AreSince, EnteredAs, Might, HasBegun, AreFenced, without}
 use Rattle.unit_history.proofs.Begun.{StandsAs, enabled_since, might_more, might_now, entered_as}
 use Rattle.unit_history.specs.declared.flushing.Fence.{Fence}
 use Rattle.backed_store.specs.declared.dealing.GivenPage.{GivenPage}
@@ -91,10 +94,28 @@ been_now o steps since b x before is =
 been_as : {o : Opening} {steps : List Step} {since b : ℕ} {x y : List ℕ} → HasBeenSince o steps since b x → y ≡ x → HasBeenSince o steps since b y
 been_as was same = record { place = was.place; later = was.later; past = was.past; is = same ∙ was.is }
 
+-- so of all that the storage may have of a block
+left_as : (o : Opening) (steps : List Step) (since b : ℕ) (x y : Storage) → IsLeftSince o steps since x b → y.kept b ≡ x.kept b
+    → y.unkept b ≡ x.unkept b → IsLeftSince o steps since y b
+left_as o steps since b x y was kept unkept =
+    (been_as was.0 kept, subst (λ l. All (HasBeenSince o steps since b) l) (sym unkept) was.1)
+
+left_more : (o : Opening) (s : Step) (steps : List Step) (since b : ℕ) (x : Storage) → IsLeftSince o steps since x b
+    → IsLeftSince o (s ∷ steps) since x b
+left_more o s steps since b x was = (been_more o s steps since b _ was.0, λ k d lt. been_more o s steps since b _ (was.1 k d lt))
+
+left_now : (o : Opening) (steps : List Step) (b : ℕ) (l : Ledger) (blocks : Blocks) → blocks b ≡ blocks_of o steps b → IsKeptAs l blocks b
+    → IsLeftSince o steps (length steps) (storage_by l) b
+left_now o steps b l blocks stored is = (
+  been_now o steps (length steps) b _ (omega arith) (is.0 ∙ stored),
+  λ k d lt. been_now o steps (length steps) b _ (omega arith) (is.1 k d lt ∙ stored),
+)
+
 since_more : (o : Opening) (s : Step) (steps : List Step) (since : ℕ) (x : Option Hosted) → AreSince o steps since x
     → AreSince o (s ∷ steps) since x
 since_more o s steps since None was = was
-since_more o s steps since (Some h) was = λ b. (λ is. been_more o s steps since b _ ((was b).0 is), λ is. been_more o s steps since b _ ((was b).1 is))
+since_more o s steps since (Some h) was =
+    λ b. (λ is. left_more o s steps since b (storage_by h.ledger) ((was b).0 is), λ is. been_more o s steps since b _ ((was b).1 is))
 
 -- with this storage after one more step
 begun_more : (o : Opening) (s : Step) (steps : List Step) (place : ℕ) (x y : Option Hosted) (was : HasBegun o steps place x)
@@ -142,7 +163,7 @@ since_now : (o : Opening) (steps : List Step) (d : Disk) → ((b : ℕ) → disk
     → AreSince o steps (length steps) (disks.hosted_of d)
 since_now o steps (Whole s) stored begun = tt
 since_now o steps (Backed s) stored begun = λ b. (
-  λ is. been_now o steps (length steps) b _ (omega arith) ((begun b).0 is ∙ stored b),
+  λ is. left_now o steps b (backed.ledger_of s.store) (disks.blocks_of (Backed s)) (stored b) ((begun b).0 is),
   λ is. been_now o steps (length steps) b _ (omega arith) ((begun b).1 is ∙ stored b),
 )
 
@@ -159,9 +180,12 @@ begun_whole o steps place (Whole s) before might whole =
 begun_whole o steps place (Backed s) before might never = let no : false ≡ true = never in absurd (cc)
 
 -- whatever is left then is durable
-left_been : (o : Opening) (steps : List Step) (e : Entry) (since b : ℕ) (kept given left : List ℕ) → enabled e (as_of since steps) ≡ true
-    → HasBeenSince o steps since b kept → HasBeenSince o steps since b given → (left ≡ kept) ⊎ (left ≡ given) → HasBeen o steps e b left
-left_been o steps e since b kept given left might one two leaves = elim leaves [ inl same ↦ been kept one same | inr same ↦ been given two same ]
+left_been : (o : Opening) (steps : List Step) (e : Entry) (since b : ℕ) (s : Storage) (left : List ℕ) → enabled e (as_of since steps) ≡ true
+    → IsLeftSince o steps since s b → (left ≡ s.kept b) ⊎ Contains (s.unkept b) left → HasBeen o steps e b left
+left_been o steps e since b s left might was leaves = elim leaves [
+  | inl same ↦ been (s.kept b) was.0 same
+  | inr is ↦ been left (All-contains (HasBeenSince o steps since b) (s.unkept b) left was.1 is) refl
+]
   where
     been : (x : List ℕ) → HasBeenSince o steps since b x → left ≡ x → HasBeen o steps e b left
     been x was same =
@@ -176,14 +200,14 @@ pub over_durable : (o : Opening) (steps : List Step) (place : ℕ) (e : Entry) (
     → HasBegun o steps place (disks.hosted_of d) → IsOver d → IfSome (disks.storage_of d) (λ l. IsDurable o steps l e)
 over_durable o steps place e (Whole s) at was over = tt
 over_durable o steps place e (Backed s) at was over = λ left leaves b named.
-    left_been o steps e was.since b _ _ (left b) (was.might e at) ((was.has b).0 (over (b / 8)).0) ((was.has b).1 (over (b / 8)).1) (leaves b)
+    left_been o steps e was.since b (storage_by (backed.ledger_of s.store)) (left b) (was.might e at) ((was.has b).0 (over (b / 8))) (leaves b)
 
 pub kept_durable : (o : Opening) (steps : List Step) (e : Entry) (d : Disk) → enabled e steps ≡ true
     → ((b : ℕ) → disks.blocks_of d b ≡ blocks_of o steps b) → IsKeptWhole d → IfSome (disks.storage_of d) (λ l. IsDurable o steps l e)
 kept_durable o steps e (Whole s) might stored kept = tt
 kept_durable o steps e (Backed s) might stored kept = λ left leaves b named.
-    left_been o steps e (length steps) b _ _ (left b) (ap (λ w. enabled e w) (as_of-now (length steps) steps (omega arith)) ∙ might)
-    (been_now o steps _ b _ (omega arith) ((kept b).0 ∙ stored b)) (been_now o steps _ b _ (omega arith) ((kept b).1 ∙ stored b)) (leaves b)
+    left_been o steps e (length steps) b (storage_by (backed.ledger_of s.store)) (left b) (ap (λ w. enabled e w) (as_of-now (length steps) steps (omega arith)) ∙ might)
+    (left_now o steps b (backed.ledger_of s.store) (disks.blocks_of (Backed s)) (stored b) (kept b)) (leaves b)
 
 -- The host says something
 
@@ -195,7 +219,9 @@ said_fenced o steps None d x same still was = tt
 said_fenced o steps (Some f) d None same still was = was
 said_fenced o steps (Some f) d (Some h) same still was = begun_with o steps f.place (Some h) (Some (hosted_after d h)) was (
     λ b. (
-      λ is. been_as ((was.has b).0 (ap (λ (p : Progress). p.kept (b / 8)) (sym (still h.progress)) ∙ is)) (ap (λ (s : Storage). s.kept b) (storage_then d h.ledger ∙ same (storage_by h.ledger))),
+      λ is. left_as o steps was.since b (storage_by h.ledger) (storage_by (and_then d h.ledger)) ((was.has b).0 (ap (λ (p : Progress). p.kept (b / 8)) (sym (still h.progress)) ∙ is))
+          (ap (λ (s : Storage). s.kept b) (storage_then d h.ledger ∙ same (storage_by h.ledger)))
+          (ap (λ (s : Storage). s.unkept b) (storage_then d h.ledger ∙ same (storage_by h.ledger))),
       λ is. been_as ((was.has b).1 (ap (λ (p : Progress). p.given (b / 8)) (sym (still h.progress)) ∙ is)) (ap (λ (s : Storage). s.given b) (storage_then d h.ledger ∙ same (storage_by h.ledger))),
     )
     )
@@ -206,11 +232,29 @@ pub gave_fenced : (o : Opening) (steps : List Step) (f : Option Fence) (page : �
     → AreFenced o steps f x → AreFenced o steps f (option_map (hosted_after (Dealing.Give page bytes)) x)
 gave_fenced o steps None page bytes x now was = tt
 gave_fenced o steps (Some f) page bytes None now was = was
-gave_fenced o steps (Some f) page bytes (Some h) now was = begun_with o steps f.place (Some h) (Some (hosted_after (Dealing.Give page bytes) h)) was (
-    λ b.
-    (λ is. been_as ((was.has b).0 is) (ap (λ (s : Storage). s.kept b) (storage_then (Dealing.Give page bytes) h.ledger)), λ is. by_test b (b / 8 == page) refl is)
-    )
+gave_fenced o steps (Some f) page bytes (Some h) now was =
+    begun_with o steps f.place (Some h) (Some (hosted_after (Dealing.Give page bytes) h)) was
+    (λ b. (λ is. left_of b is (b / 8 == page) refl, λ is. by_test b (b / 8 == page) refl is))
   where
+    after : storage_by (and_then (Dealing.Give page bytes) h.ledger) ≡ dealt (Dealing.Give page bytes) (storage_by h.ledger)
+    after = storage_then (Dealing.Give page bytes) h.ledger
+
+    left_of : (b : ℕ) → h.progress.kept (b / 8) ≡ true → (t : Bool) → (b / 8 == page) ≡ t
+        → IsLeftSince o steps was.since (storage_by (and_then (Dealing.Give page bytes) h.ledger)) b
+    left_of b is true here =
+        let given : (storage_by (and_then (Dealing.Give page bytes) h.ledger)).given b ≡ blocks_in bytes (b % 8) =
+        ap (λ (s : Storage). s.given b) after ∙ rw here refl in
+        let unkept : (storage_by (and_then (Dealing.Give page bytes) h.ledger)).unkept b ≡ blocks_in bytes (b % 8) ∷ (storage_by h.ledger).unkept b =
+        ap (λ (s : Storage). s.unkept b) after ∙ rw here refl in
+        let more = All-cons (HasBeenSince o steps was.since b) (blocks_in bytes (b % 8)) ((storage_by h.ledger).unkept b)
+        (been_now o steps was.since b _ was.past (sym given ∙ now b (grind (arith, nat_tests, here)))) ((was.has b).0 is).1 in (
+          been_as ((was.has b).0 is).0 (ap (λ (s : Storage). s.kept b) after),
+          subst (λ l. All (HasBeenSince o steps was.since b) l) (sym unkept) more,
+        )
+    left_of b is false apart =
+        left_as o steps was.since b (storage_by h.ledger) (storage_by (and_then (Dealing.Give page bytes) h.ledger)) ((was.has b).0 is)
+        (ap (λ (s : Storage). s.kept b) after) (ap (λ (s : Storage). s.unkept b) after ∙ rw apart refl)
+
     by_test : (b : ℕ) (t : Bool) → (b / 8 == page) ≡ t → (b / 8 == page || h.progress.given (b / 8)) ≡ true
         → HasBeenSince o steps was.since b ((storage_by (and_then (Dealing.Give page bytes) h.ledger)).given b)
     by_test b true here is = been_now o steps was.since b _ was.past (now b (grind (arith, nat_tests, here)))
@@ -222,17 +266,24 @@ pub kept_fenced : (o : Opening) (steps : List Step) (f : Option Fence) (page : �
     → AreFenced o steps f x → AreFenced o steps f (option_map (hosted_after (Dealing.Keep page)) x)
 kept_fenced o steps None page x was = tt
 kept_fenced o steps (Some f) page None was = was
-kept_fenced o steps (Some f) page (Some h) was = begun_with o steps f.place (Some h) (Some (hosted_after (Dealing.Keep page) h)) was (
-    λ b.
-    (λ is. by_test b (b / 8 == page) refl is, λ is. been_as ((was.has b).1 is) (ap (λ (s : Storage). s.given b) (storage_then (Dealing.Keep page) h.ledger)))
-    )
+kept_fenced o steps (Some f) page (Some h) was =
+    begun_with o steps f.place (Some h) (Some (hosted_after (Dealing.Keep page) h)) was
+    (λ b. (λ is. by_test b (b / 8 == page) refl is, λ is. been_as ((was.has b).1 is) (ap (λ (s : Storage). s.given b) after)))
   where
+    after : storage_by (and_then (Dealing.Keep page) h.ledger) ≡ dealt (Dealing.Keep page) (storage_by h.ledger)
+    after = storage_then (Dealing.Keep page) h.ledger
+
     by_test : (b : ℕ) (t : Bool) → (b / 8 == page) ≡ t → (if b / 8 == page then h.progress.given (b / 8) else h.progress.kept (b / 8)) ≡ true
-        → HasBeenSince o steps was.since b ((storage_by (and_then (Dealing.Keep page) h.ledger)).kept b)
+        → IsLeftSince o steps was.since (storage_by (and_then (Dealing.Keep page) h.ledger)) b
     by_test b true here is =
-        been_as ((was.has b).1 (rw here at is)) (ap (λ (s : Storage). s.kept b) (storage_then (Dealing.Keep page) h.ledger) ∙ rw here refl)
+        let none : (storage_by (and_then (Dealing.Keep page) h.ledger)).unkept b ≡ [] = ap (λ (s : Storage). s.unkept b) after ∙ rw here refl in (
+          been_as ((was.has b).1 (rw here at is)) (ap (λ (s : Storage). s.kept b) after ∙ rw here refl),
+          subst (λ l. All (HasBeenSince o steps was.since b) l) (sym none) (All-nil (HasBeenSince o steps was.since b)),
+        )
     by_test b false apart is =
-        been_as ((was.has b).0 (rw apart at is)) (ap (λ (s : Storage). s.kept b) (storage_then (Dealing.Keep page) h.ledger) ∙ rw apart refl)
+        left_as o steps was.since b (storage_by h.ledger) (storage_by (and_then (Dealing.Keep page) h.ledger)) ((was.has b).0 (rw apart at is))
+        (ap (λ (s : Storage). s.kept b) after ∙ rw apart refl)
+        (ap (λ (s : Storage). s.unkept b) after ∙ rw apart refl)
 
 -- it is resized
 pub cut_fenced : (o : Opening) (steps steps' : List Step) (f : Option Fence) (blocks : ℕ) (x : Option Hosted)
@@ -261,12 +312,21 @@ cut_fenced o steps steps' (Some f) blocks (Some h) is was =
         let test : nat_le end (8 * (b / 8)) ≡ false = grind (arith, nat_tests, short) in
         rw test at is
 
+    after : storage_by (and_then (Dealing.Cut end) h.ledger) ≡ dealt (Dealing.Cut end) (storage_by h.ledger)
+    after = storage_then (Dealing.Cut end) h.ledger
+
     kept_at : (b : ℕ) (t : Bool) → nat_lt b end ≡ t → (nat_le end (8 * (b / 8)) || h.progress.kept (b / 8)) ≡ true
-        → HasBeenSince o (Step.Resize blocks ∷ steps) was.since b ((storage_by (and_then (Dealing.Cut end) h.ledger)).kept b)
+        → IsLeftSince o (Step.Resize blocks ∷ steps) was.since (storage_by (and_then (Dealing.Cut end) h.ledger)) b
     kept_at b true short is =
-        been_as (been_more o (Step.Resize blocks) steps was.since b _ ((was.has b).0 (inside b _ short is)))
-        (ap (λ (s : Storage). s.kept b) (storage_then (Dealing.Cut end) h.ledger) ∙ rw short refl)
-    kept_at b false past is = zero_now b _ past (ap (λ (s : Storage). s.kept b) (storage_then (Dealing.Cut end) h.ledger) ∙ rw past refl)
+        left_as o (Step.Resize blocks ∷ steps) was.since b (storage_by h.ledger) (storage_by (and_then (Dealing.Cut end) h.ledger))
+        (left_more o (Step.Resize blocks) steps was.since b (storage_by h.ledger) ((was.has b).0 (inside b _ short is)))
+        (ap (λ (s : Storage). s.kept b) after ∙ rw short refl) (ap (λ (s : Storage). s.unkept b) after ∙ rw short refl)
+    kept_at b false past is =
+        let none : (storage_by (and_then (Dealing.Cut end) h.ledger)).unkept b ≡ [] = ap (λ (s : Storage). s.unkept b) after ∙ rw past refl in (
+          zero_now b _ past (ap (λ (s : Storage). s.kept b) after ∙ rw past refl),
+          subst (λ l. All (HasBeenSince o (Step.Resize blocks ∷ steps) was.since b) l) (sym none)
+              (All-nil (HasBeenSince o (Step.Resize blocks ∷ steps) was.since b)),
+        )
 
     given_at : (b : ℕ) (t : Bool) → nat_lt b end ≡ t → (nat_le end (8 * (b / 8)) || h.progress.given (b / 8)) ≡ true
         → HasBeenSince o (Step.Resize blocks ∷ steps) was.since b ((storage_by (and_then (Dealing.Cut end) h.ledger)).given b)

@@ -1,6 +1,6 @@
 -- The flush of a unit that waits.
-use Rattle.std.specs.Prelude.{ℕ, ◌≡◌, ◌≤◌, ◌<◌, ◌+◌, ◌/◌, true, List, ◌∷◌, length, Option, Some, None, IfSome, if◌then◌else◌, ⊤}
-use Rattle.block_store.specs.Storage.{storage_by}
+use Rattle.std.specs.Prelude.{ℕ, ◌≡◌, ◌≤◌, ◌<◌, ◌+◌, ◌/◌, true, List, ◌∷◌, All, length, Option, Some, None, IfSome, if◌then◌else◌, ⊤}
+use Rattle.block_store.specs.Storage.{Storage, storage_by}
 use Rattle.block_store.specs.Inner.Hosted.{Hosted}
 use Rattle.ring_core.specs.declared.log.Ticket.{Ticket}
 use Rattle.unit_model.specs.Tasks.{Entry, same_ticket}
@@ -16,11 +16,14 @@ pub record HasBeenSince (o : Opening) (steps : List Step) (since b : ℕ) (bytes
   pub past : place ≤ length steps
   pub is : bytes ≡ blocks_of o (as_of place steps) b
 
--- what the storage keeps of each block that counts for the latest flush, and what the host was given of it, is as the block was
--- once so many steps stood, or later
+-- what the storage keeps of block b, and all else that it may have of it, is as the block was once so many steps stood, or later
+abbrev pub IsLeftSince : Opening → List Step → ℕ → Storage → ℕ → Type 0
+IsLeftSince o steps since s b = HasBeenSince o steps since b (s.kept b) × All (HasBeenSince o steps since b) (s.unkept b)
+
+-- so of each block that counts for the latest flush, and of what the host was given of it
 abbrev pub HaveBeen : Opening → List Step → ℕ → Hosted → ℕ → Type 0
 HaveBeen o steps since h b =
-    (h.progress.kept (b / 8) ≡ true → HasBeenSince o steps since b ((storage_by h.ledger).kept b))
+    (h.progress.kept (b / 8) ≡ true → IsLeftSince o steps since (storage_by h.ledger) b)
     × (h.progress.given (b / 8) ≡ true → HasBeenSince o steps since b ((storage_by h.ledger).given b))
 
 abbrev pub AreSince : Opening → List Step → ℕ → Option Hosted → Type 0

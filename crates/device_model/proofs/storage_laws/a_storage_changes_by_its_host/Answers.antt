@@ -1,4 +1,4 @@
-use Rattle.device_model.proofs.Storing.{given_stays, kept_stays, lost_stays, lost_then, loaded_then, kept_then, deals_alone}
+use Rattle.device_model.proofs.Storing.{given_stays, kept_stays, unkept_stays, lost_stays, lost_then, loaded_then, kept_then, deals_alone}
 use Rattle.device_model.proofs.storage_laws.a_storage_changes_by_its_host.Goals as goal
 
 pub returns-clause-given : goal.returns-clause-given
@@ -6,6 +6,9 @@ returns-clause-given c = λ w d place u v. given_stays d w place u v
 
 pub returns-clause-kept : goal.returns-clause-kept
 returns-clause-kept c = λ w d place u v. kept_stays d w place u v
+
+pub returns-clause-unkept : goal.returns-clause-unkept
+returns-clause-unkept c = λ w d place u v. unkept_stays d w place u v
 
 pub returns-clause-deals : goal.returns-clause-deals
 returns-clause-deals c = deals_alone

@@ -1,11 +1,6 @@
 use Rattle.std.proofs.Common.{ℕ, List, nat_eq, sym, ◌∙◌, ap}
 use Rattle.std.specs.List.{list_any}
-use Rattle.block_store.specs.Storage.{opening}
-use Rattle.backed_store.proofs.Flushing.{stays-on, goes-on}
 use Rattle.backed_store.proofs.backed.BackedStore.lost.Goals as goal
-
-pub returns-then-not-load_failed-clause-flushes : goal.returns-then-not-load_failed-clause-flushes
-returns-then-not-load_failed-clause-flushes c = goes-on c.args.self.now c.load_failed.new.self c.load_failed.ensures.host
 
 pub returns-then-not-load_failed-clause-alone : goal.returns-then-not-load_failed-clause-alone
 returns-then-not-load_failed-clause-alone c = λ p apart is.
@@ -15,12 +10,6 @@ pub returns-clause-owed : goal.returns-clause-owed
 returns-clause-owed c = λ p.
     let owed = c.load_failed.ensures.host.owed p in
     record { dirty = owed.dirty; number = owed.number; rewritten = owed.rewritten; again = owed.again }
-
-pub returns-clause-flushes : goal.returns-clause-flushes
-returns-clause-flushes c =
-    let host = c.load_failed.ensures.host in
-    let storage = c.record.ensures.storage (opening c.load_failed.new.self.content.items) ∙ host.storage in
-    stays-on c.args.self.now _ storage (returns-clause-owed c) (λ p. host.writing p)
 
 pub returns-clause-alone : goal.returns-clause-alone
 returns-clause-alone c = λ p apart is.

@@ -1,7 +1,8 @@
-use Rattle.std.proofs.Common.{sym, subst, ap, ◌∙◌}
+use Rattle.std.proofs.Common.{◌≡◌, All, sym, subst, ap, ◌∙◌}
 use Rattle.block_store.specs.Storage.{Storage}
 use Rattle.backed_store.specs.Disks.{IsKeptWhole}
 use Rattle.backed_store.specs.declared.disk.Disk.{Disk}
+use Rattle.backed_store.specs.Stores.{contents}
 use Rattle.backed_store.proofs.Dealt.{by-ledger}
 use Rattle.backed_store.proofs.disk.Disk.is_kept.Goals as goal
 
@@ -9,4 +10,7 @@ pub returns-in-Backed-clause-kept : goal.returns-in-Backed-clause-kept
 returns-in-Backed-clause-kept c = λ is.
     let same = by-ledger c.in-Backed.disk.store in
     subst (λ (d : Disk). IsKeptWhole d) (sym c.in-Backed.is)
-    (λ b. (ap (λ (s : Storage). s.kept b) (sym same) ∙ c.is_kept.ensures.kept is b, ap (λ (s : Storage). s.given b) (sym same) ∙ c.is_kept.ensures.given is b))
+    (λ b. (
+      ap (λ (s : Storage). s.kept b) (sym same) ∙ c.is_kept.ensures.kept is b,
+      subst (λ (s : Storage). All (λ x. x ≡ contents c.in-Backed.disk.store b) (s.unkept b)) same (c.is_kept.ensures.unkept is b),
+    ))
