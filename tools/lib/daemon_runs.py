@@ -2742,6 +2742,59 @@ def test_control_live(room):
     assert len(kept) == MIB // 2 and kept[1023 * 512 :] == b"a" * 512
 
 
+def test_control_cut(room):
+    """What a resize couldn't cut off a file doesn't come back where the disk grows again."""
+    if not room.shim or not room.client:
+        return "needs a program without sanitizers, and libjansson-dev"
+    path, uncut = room.folder / "control", room.folder / "uncut"
+    for more in ("", CACHED) if has_ring(room) else ("",):
+        disk = room.file("disk.img", 2 * MIB)
+        env = {**os.environ, "LD_PRELOAD": str(room.shim), "UNCUT": str(uncut)}
+        with driven(room, "--disk", f"0:0=file={disk}{more}", "--control", path, ends=0, env=env) as (_, front, log), Asking(path) as asking:
+            front.read(3000, 512)
+            wait_for(lambda: front.answered() == 1, "a READ")  # noqa: B023
+            assert not front.status(0) and front.data(0, 512) == b"\x5a" * 512
+            uncut.touch()
+            assert asking.ask("resize", disk="0:0", size=MIB) == "File" and disk.stat().st_size == 2 * MIB
+            uncut.unlink()
+            assert asking.ask("resize", disk="0:0", size=2 * MIB) == {}
+            # The first command tells of the change.
+            for _ in range(3):
+                front.read(3000, 512)
+            wait_for(lambda: front.answered() == 4, "the READs")  # noqa: B023
+            assert front.status(1) == 2 and not front.status(3) and front.data(3, 512) == bytes(512), log.read_text()
+        assert disk.read_bytes() == b"\x5a" * MIB + bytes(MIB)
+        log.unlink()
+
+
+def first_free(run):
+    """The number of the descriptor that a process gets next."""
+    taken = {int(number) for number in os.listdir(f"/proc/{run.pid}/fd")}
+    return next(number for number in range(len(taken) + 1) if number not in taken)
+
+
+def processor_seconds(run):
+    """What a process took of processors."""
+    words = Path(f"/proc/{run.pid}/stat").read_text().rpartition(")")[2].split()
+    return (int(words[11]) + int(words[12])) / os.sysconf("SC_CLK_TCK")
+
+
+def test_control_crowded(room):
+    """Without a free descriptor the daemon takes no connection, and waits rather than turns; with one it takes those that wait."""
+    if not room.client:
+        return "no libjansson-dev"
+    path = room.folder / "control"
+    with room.runs("--disk", "0:0=1M", "--control", path) as run:
+        limits = resource.prlimit(run.pid, resource.RLIMIT_NOFILE)
+        resource.prlimit(run.pid, resource.RLIMIT_NOFILE, (first_free(run), limits[1]))
+        with Asking(path) as asking, connected(room.socket):
+            before = processor_seconds(run)
+            time.sleep(1)
+            assert processor_seconds(run) - before < 0.5
+            resource.prlimit(run.pid, resource.RLIMIT_NOFILE, limits)
+            assert asking.ask("stats")["front-end"]
+
+
 def test_control_waits(room):
     """A request that waits takes no processor, whether its client sends more meanwhile or goes, and others are served behind it."""
     if not room.client:
@@ -2862,6 +2915,7 @@ SHIM = r"""
 #define _GNU_SOURCE
 #include <errno.h>
 #include <fcntl.h>
+#include <stdbool.h>
 #include <stdlib.h>
 #include <sys/epoll.h>
 #include <sys/stat.h>
@@ -2893,6 +2947,16 @@ int link(const char *from, const char *to) {
 int fsync(int fd) {
   struct stat stat;
   if (!getenv("UNSYNCED") || fstat(fd, &stat) || !S_ISDIR(stat.st_mode)) return (int)syscall(SYS_fsync, fd);
+  errno = EIO;
+  return -1;
+}
+
+// No file gets shorter while the path is there that the environment names.
+int ftruncate(int fd, off_t length) {
+  const char *path = getenv("UNCUT");
+  struct stat stat;
+  bool fails = path && !access(path, F_OK) && !fstat(fd, &stat) && stat.st_size > length;
+  if (!fails) return (int)syscall(SYS_ftruncate, fd, length);
   errno = EIO;
   return -1;
 }
