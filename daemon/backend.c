@@ -69,6 +69,15 @@ static unsigned count_of(const struct backend *backend) {
   return count;
 }
 
+// Returns whether a guest goes on that another daemon served, whose memory had what the guest wrote: it would find older blocks. One that
+// moved had all written before.
+static bool is_left_behind(const struct backend *backend) {
+  if (backend->disks->is_served || backend->disks->moves || !blocks_are_in_memory(backend->disks)) return false;
+  for (unsigned q = 0; q < backend->count; q++)
+    if (backend->queues[q].ready && !ring_is_new(backend, q)) return true;
+  return false;
+}
+
 static bool make(struct backend *backend, char *why, size_t room) {
   struct vscsi_unit units[DEVICE_MOST_UNITS];
   uint8_t profiles[DEVICE_MOST_UNITS];
@@ -109,7 +118,10 @@ static bool make(struct backend *backend, char *why, size_t room) {
   bool has_blocks = is_free && images_hold(backend->disks, why, room) && blocks_load(backend->disks, why, room);
   backend->starved = !has_blocks && !(is_free && blocks_are_lost(backend->disks));
   bool is_made = has_blocks && device_create(&backend->device, config, rings, backend->disks->stores, &backend->starved, why, room);
-  if (is_made) paging_begin(backend->disks);
+  if (is_made) {
+    backend->disks->is_served = true;
+    paging_begin(backend->disks);
+  }
   return is_made;
 }
 
@@ -122,6 +134,8 @@ enum served backend_begin(struct backend *backend, char *why, size_t room) {
   backend->steps = 0;
   backend->kicked = UINT32_MAX;
   backend->awake = backend->seen = backend->asked = 0;
+  if (is_left_behind(backend))
+    return snprintf(why, room, "the guest goes on, and what it wrote may have gone with another daemon: reset it"), FAILED;
   if (make(backend, why, room)) {
     backend_map(backend);
     backend_log(backend, backend->logs);

@@ -56,7 +56,14 @@ bool blocks_load(struct disks *disks, char *why, size_t room) {
 }
 
 void blocks_lose(struct disks *disks) {
+  disks->is_served = false;
   for (size_t i = 0; i < disks->count; i++) disks->disks[i].is_lost = is_in_memory(&disks->disks[i]);
+}
+
+bool blocks_are_in_memory(const struct disks *disks) {
+  for (size_t i = 0; i < disks->count; i++)
+    if (!disks->disks[i].is_protected && (disks->disks[i].is_backed || is_in_memory(&disks->disks[i]))) return true;
+  return false;
 }
 
 bool blocks_are_lost(const struct disks *disks) {

@@ -16,6 +16,9 @@ bool blocks_load(struct disks *disks, char *why, size_t room);
 // Notes that a device couldn't give its disks back: what is in memory alone is lost.
 void blocks_lose(struct disks *disks);
 
+// Returns whether what a guest wrote to a disk may be in this daemon's memory alone.
+bool blocks_are_in_memory(const struct disks *disks);
+
 // Returns whether a disk in memory was lost for want of memory, so that it can't be made by a later call either.
 bool blocks_are_lost(const struct disks *disks);
 

@@ -71,6 +71,11 @@ bool ring_set_base(struct backend *backend, unsigned q, uint32_t base) {
   return !backend->packed || (first->available < queue->ring.size && first->used < queue->ring.size);
 }
 
+bool ring_is_new(const struct backend *backend, unsigned q) {
+  const struct position *first = &backend->queues[q].ring.first;
+  return !first->available && !first->used && !first->available_wrapped && !first->used_wrapped;
+}
+
 bool ring_waits(const struct backend *backend, unsigned q) {
   const struct backend_queue *queue = &backend->queues[q];
   return backend->keeps && (q != EVENT_QUEUE || backend->packed) && queue->ready && !queue->fault;

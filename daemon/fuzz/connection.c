@@ -91,7 +91,8 @@ static void make_memory(void) {
 
 static void make_disks(struct connection *connection) {
   char words[100], why[300];
-  connection->disks = (struct disks){0};
+  // Rings may begin anywhere.
+  connection->disks = (struct disks){.is_served = true};
   connection->file = connection->way.file ? memfd_create("disk", MFD_CLOEXEC) : -1;
   if (connection->way.file) must(!ftruncate(connection->file, FILE_BYTES), "no file for a disk");
   snprintf(words, sizeof words, connection->way.file ? "0:0=256K,file=/proc/self/fd/%d" : "0:0=256K", connection->file);

@@ -45,6 +45,8 @@ void front_begin_sized(struct front *front, struct disks *disks, struct way way,
   front->size = size;
   front->way = way;
   front->disks = disks;
+  // Rings may begin anywhere.
+  disks->is_served = true;
   MUST(!socketpair(AF_UNIX, SOCK_STREAM | SOCK_CLOEXEC, 0, pair));
   front->socket = pair[0];
   front->epoll = epoll_create1(EPOLL_CLOEXEC);

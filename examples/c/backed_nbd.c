@@ -155,6 +155,8 @@ int main(int argc, char **argv) {
   must_nbd((nbd = nbd_create()));
   must_nbd(argc > 1 && nbd_connect_unix(nbd, argv[1]) == 0);
   if (nbd_get_size(nbd) != (int64_t)BLOCKS * VSCSI_BLOCK || nbd_can_flush(nbd) != 1) return 1;
+  // what an earlier host wrote is kept from here on
+  must_nbd(nbd_flush(nbd, 0) == 0);
   open_device();
   pthread_t guest = begin_guest();
 

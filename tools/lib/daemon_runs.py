@@ -1907,6 +1907,35 @@ def test_nbd_silent(room):
     return None
 
 
+def test_left_behind(room):
+    """A guest goes on behind another daemon only where that had all on files, or handed it over. Else each session of it ends, and the log
+    says why, until it was reset.
+    """
+    kept, cached, log = room.file("kept.img"), room.file("cached.img", 64 * MIB, b"\0"), room.folder / "log"
+    disks = {(f"0:0=1M,file={kept}",): True, (f"0:0=1M,file={kept},read-only=on",): True, ("0:0=1M",): False, (f"0:0=1M,file={kept},snapshot",): False}
+    if has_ring(room):
+        disks |= {(f"0:0=64M,file={cached}{CACHED}",): False, (f"0:0=64M,file={cached}{CACHED}", "--migratable"): True}
+    for words, may in disks.items():
+        with room.runs("--log", log, "--disk", *words):
+            with FrontEnd(connected(room.socket)) as front:
+                front.goes_on()
+                front.read(0, 512)
+                if may:
+                    wait_for(lambda: front.answered() == 2, "a READ behind another daemon")  # noqa: B023
+                else:
+                    assert is_over(front.connection, LATE)
+            assert ("reset it" in log.read_text()) != may, words
+            with FrontEnd(connected(room.socket)) as front:
+                front.read(0, 512)
+                wait_for(lambda: front.answered() == 1, "a READ of a guest that was reset")  # noqa: B023
+            # It goes on with this daemon.
+            with FrontEnd(connected(room.socket)) as front:
+                front.goes_on()
+                front.read(0, 512)
+                wait_for(lambda: front.answered() == 2, "a READ of the next session")  # noqa: B023
+        log.unlink()
+
+
 def test_places(room):
     """It is noted where rings stand where answers wait for files, and that is offered then alone."""
     kept, cached = room.file("kept.img"), room.file("cached.img")

@@ -57,6 +57,14 @@ class FrontEnd:
         self.say(GET_VRING_BASE, struct.pack("<II", QUEUE, 0))
         return struct.unpack("<IIIII", self.connection.recv(20))[4]
 
+    def goes_on(self):
+        """Has the queue begin behind a first request, which another daemon answered."""
+        assert self.stop() == 0
+        for ring in (AVAILABLE, USED):
+            self.memory[ring + 2 : ring + 4] = struct.pack("<H", 1)
+        self.count = 1
+        self.start(1)
+
     def asks(self):
         """Asks for the daemon's features, and waits for them."""
         self.say(GET_FEATURES)

@@ -573,13 +573,17 @@ enum vscsi_answer vscsi_live_destroy(struct vscsi_live *device);
  * as many at once as it likes and in any order, while the device serves.
  *
  * The unit has the wide profile, and tells its guest of a volatile write cache: WCE is 1 and DPOFUA 0 (docs/COMMANDS.md). A WRITE
- * is answered as it stands in memory. SYNCHRONIZE CACHE is answered once the host has said of each page that was changed before
- * it that it is kept. A command that needs a page which isn't in memory waits, alone.
+ * is answered as it stands in memory. SYNCHRONIZE CACHE waits until the host said that it kept each page that was changed before the
+ * command might run. A command that needs a page which isn't in memory waits, alone.
  *
- * What the host owes, and nothing checks: what it hands in by vscsi_live_load is what its storage had of the page when the disk
- * was made, or what it last said by vscsi_live_written that it kept. All that is promised of the unit's blocks rests on that.
- * Before vscsi_live_resize of such a unit it waits for its reads and writes to end, and behind it cuts its storage off at the lesser
- * capacity: where the disk grows again, what it reads there is zeros, also behind a crash.
+ * What the host owes, and nothing checks:
+ * - What it hands in by vscsi_live_load is what its storage had of the page when the disk was made, or what it last said by
+ *   vscsi_live_written that it kept. All that is promised of the unit's blocks rests on that.
+ * - A crash leaves of each block of 512 bytes that, or what the host was given of it since: what was there when the disk was made is
+ *   synced by then, no block is torn, and no write lands once vscsi_live_written was called for it, kept or not. What SYNCHRONIZE CACHE
+ *   promises rests on that.
+ * - Before vscsi_live_resize of such a unit it waits for its reads and writes to end, and behind it cuts its storage off at the lesser
+ *   capacity: where the disk grows again, what it reads there is zeros, also behind a crash.
  *
  * The host's loop, behind each kick and each read or write of its own that is over:
  * 1. vscsi_live_load, vscsi_live_load_failed, vscsi_live_lost or vscsi_live_written for what is over; if there was any,
