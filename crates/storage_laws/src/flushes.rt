@@ -1,0 +1,22 @@
+//! A flush lasts.
+
+ghost use Rattle.std.specs.Prelude.{ℕ, ◌≡◌, Some, length};
+ghost use Rattle.block_store.specs.Storage.{Ledger};
+ghost use Rattle.unit_model.specs.Tasks.{Entry};
+ghost use Rattle.unit_model.specs.Contents.{blocks_of};
+ghost use Rattle.unit_model.specs.Flushing.{IsDurable};
+ghost use Rattle.unit_model.specs.Unit.{PlainUnit};
+ghost use Rattle.device_model.specs.World.{PlainWorld};
+ghost use Rattle.device_model.specs.Transitions.{Transition};
+ghost use Rattle.device_model.specs.After.{after};
+ghost use Rattle.device_model.specs.Happens.{Happens};
+ghost use Rattle.device_model.specs.Found.{UnitIs};
+
+/// Where a crash leaves of each block that the command of a task flushes what the block was once the task might run, or later
+/// (`IsDurable`), it leaves that behind each transition, too. `a_flush_ends_once_it_is_kept` says so of the moment when a
+/// SYNCHRONIZE CACHE ends with GOOD: so it is then, and from then on. Blocks have 512 bytes, as those of a device have.
+pub fn what_a_flush_left_stays()
+    ensures { (w : PlainWorld) (d : Transition) (place : ℕ) (u v : PlainUnit) (e : Entry) (l m : Ledger) → Happens d w →
+        UnitIs w place u → UnitIs (after d w) place v → ((b : ℕ) → length (blocks_of u.opening u.steps b) ≡ 512) →
+        u.storage ≡ Some l → v.storage ≡ Some m → IsDurable u.opening u.steps l e → IsDurable v.opening v.steps m e }
+{}
