@@ -21,6 +21,7 @@ import stat
 import struct
 import subprocess
 import time
+import traceback
 from pathlib import Path
 
 from front_end import GET_VRING_BASE, QUEUE, FrontEnd
@@ -3034,6 +3035,6 @@ def run_all(folder, program, shim=None, wanted=(), client=None, ceph=None):
             print(f"{name}: {f'left out: {skipped}' if skipped else 'passed'}", flush=True)
         except (AssertionError, OSError, subprocess.TimeoutExpired) as fault:
             failed += 1
-            line = fault.__traceback__.tb_next.tb_lineno if fault.__traceback__.tb_next else 0
-            print(f"{name}: FAILED, line {line}: {type(fault).__name__} {fault}", flush=True)
+            lines = [str(frame.lineno) for frame in traceback.extract_tb(fault.__traceback__) if frame.filename == __file__]
+            print(f"{name}: FAILED, lines {', '.join(lines[1:])}: {type(fault).__name__} {fault}", flush=True)
     return failed
