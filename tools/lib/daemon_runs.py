@@ -2776,7 +2776,7 @@ def test_control_cut(room):
     """What a resize couldn't cut off a file doesn't come back where the disk grows again."""
     if not room.shim or not room.client:
         return "needs a program without sanitizers, and libjansson-dev"
-    path, uncut = room.folder / "control", room.folder / "uncut"
+    path, uncut = room.folder / "control", room.file("uncut", 1, b"\0")
     for more in ("", CACHED) if has_ring(room) else ("",):
         disk = room.file("disk.img", 2 * MIB)
         env = {**os.environ, "LD_PRELOAD": str(room.shim), "UNCUT": str(uncut)}
@@ -2784,9 +2784,9 @@ def test_control_cut(room):
             front.read(3000, 512)
             wait_for(lambda: front.answered() == 1, "a READ")  # noqa: B023
             assert not front.status(0) and front.data(0, 512) == b"\x5a" * 512
-            uncut.touch()
+            uncut.write_bytes(b"1")
             assert asking.ask("resize", disk="0:0", size=MIB) == "File" and disk.stat().st_size == 2 * MIB
-            uncut.unlink()
+            uncut.write_bytes(b"\0")
             assert asking.ask("resize", disk="0:0", size=2 * MIB) == {}
             # The first command tells of the change.
             for _ in range(3):
@@ -2948,6 +2948,7 @@ SHIM = r"""
 #include <stdbool.h>
 #include <stdlib.h>
 #include <sys/epoll.h>
+#include <sys/mman.h>
 #include <sys/stat.h>
 #include <sys/syscall.h>
 #include <unistd.h>
@@ -2981,11 +2982,18 @@ int fsync(int fd) {
   return -1;
 }
 
-// No file gets shorter while the path is there that the environment names.
+// No file gets shorter while the first byte of a file that the environment names isn't 0.
+static const volatile char *uncut;
+
+__attribute__((constructor)) static void find_uncut(void) {
+  int fd = getenv("UNCUT") ? open(getenv("UNCUT"), O_RDONLY | O_CLOEXEC) : -1;
+  if (fd >= 0) uncut = mmap(NULL, 1, PROT_READ, MAP_SHARED, fd, 0);
+  if (fd >= 0) close(fd);
+}
+
 int ftruncate(int fd, off_t length) {
-  const char *path = getenv("UNCUT");
   struct stat stat;
-  bool fails = path && !access(path, F_OK) && !fstat(fd, &stat) && stat.st_size > length;
+  bool fails = uncut && *uncut && !fstat(fd, &stat) && stat.st_size > length;
   if (!fails) return (int)syscall(SYS_ftruncate, fd, length);
   errno = EIO;
   return -1;
