@@ -1880,9 +1880,10 @@ def test_nbd_silent(room):
         run_cached(front, [("write", 1, 1)])
         server.send_signal(signal.SIGSTOP)
         front.read(8 * 5, 4096, lun=1)
-        time.sleep(0.2)
+        wait_for(lambda: asking.ask("stats")["disks"][1]["pages-asked"], "the page to be asked for")
         began = time.monotonic()
-        assert size(32 * MIB) == "Busy" and time.monotonic() - began < 5
+        answer = size(32 * MIB)
+        assert answer == "Busy" and time.monotonic() - began < 5, (answer, time.monotonic() - began)
         front.write(8 * 3, stamped(3, 1))
         wait_for(lambda: front.answered() == 2, "a WRITE beside it")
         assert front.asks()
