@@ -69,13 +69,16 @@ static unsigned count_of(const struct backend *backend) {
   return count;
 }
 
-// Returns whether a guest goes on that another daemon served, whose memory had what the guest wrote: it would find older blocks. One that
-// moved had all written before.
-static bool is_left_behind(const struct backend *backend) {
-  if (backend->disks->is_served || backend->disks->moves || !blocks_are_in_memory(backend->disks)) return false;
+// Returns whether a guest goes on: a device served one of its rings before.
+static bool goes_on(const struct backend *backend) {
   for (unsigned q = 0; q < backend->count; q++)
     if (backend->queues[q].ready && !ring_is_new(backend, q)) return true;
   return false;
+}
+
+bool backend_is_left_behind(const struct backend *backend) {
+  const struct disks *disks = backend->disks;
+  return blocks_are_in_memory(disks) && (backend->is_behind || (disks->has_lost && goes_on(backend)));
 }
 
 static bool make(struct backend *backend, char *why, size_t room) {
@@ -109,6 +112,8 @@ static bool make(struct backend *backend, char *why, size_t room) {
   memset(backend->idle, 0, sizeof backend->idle);
   // What is under way at a disk that doesn't answer is waited for with messages and signals in between.
   bool is_free = paging_end_rest(backend->disks, clock_now() + BRIEF) || !paging_is_under_way(backend->disks);
+  if (is_free && !blocks_are_lost(backend->disks) && backend_is_left_behind(backend))
+    return snprintf(why, room, "the guest goes on, and what it wrote may have gone with another daemon: reset it"), false;
   if (!is_free) {
     snprintf(why, room, "pages of disks are under way");
     // It is tried again soon.
@@ -120,6 +125,7 @@ static bool make(struct backend *backend, char *why, size_t room) {
   bool is_made = has_blocks && device_create(&backend->device, config, rings, backend->disks->stores, &backend->starved, why, room);
   if (is_made) {
     backend->disks->is_served = true;
+    backend->disks->has_lost = backend->disks->has_lost && goes_on(backend);
     paging_begin(backend->disks);
   }
   return is_made;
@@ -134,8 +140,6 @@ enum served backend_begin(struct backend *backend, char *why, size_t room) {
   backend->steps = 0;
   backend->kicked = UINT32_MAX;
   backend->awake = backend->seen = backend->asked = 0;
-  if (is_left_behind(backend))
-    return snprintf(why, room, "the guest goes on, and what it wrote may have gone with another daemon: reset it"), FAILED;
   if (make(backend, why, room)) {
     backend_map(backend);
     backend_log(backend, backend->logs);
@@ -436,6 +440,7 @@ void backend_end(struct backend *backend) {
   if (backend->pages && backend->device.live) paging_end(backend->disks, &backend->device, UINT64_MAX);
   if (device_end(&backend->device, backend->disks->stores, backend->disks->count)) return;
   blocks_lose(backend->disks);
+  backend->disks->has_lost = backend->disks->has_lost || paging_are_left(backend->disks);
   for (size_t i = 0; i < backend->disks->count; i++)
     if (backend->disks->disks[i].paging) paging_lose(&backend->disks->disks[i]);
 }

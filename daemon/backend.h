@@ -26,6 +26,7 @@ enum { DESCRIPTOR = 16 };
 struct backend_queue {
   struct ring ring;              // by the guest's addresses; `first` is where the next device goes on
   bool ready;                    // its areas are in the guest's memory
+  bool had_begun;                // in this session: where it goes on this daemon served it
   bool is_logged;                // writes to its device area are logged from `logged_at` on, too
   uint64_t logged_at;            // by the guest's addresses
   uint16_t logged;               // the used index up to which they were
@@ -52,6 +53,8 @@ struct backend {
   struct backend_queue queues[MOST_QUEUES];
   unsigned count;
   unsigned made;  // how many of them the device has: none behind these is ready and whole
+  bool may_go_on;  // a guest that goes on as the session begins finds what it wrote, or comes from another daemon that had all written
+  bool is_behind;  // a ring went on all the same
   bool packed, event_index, indirect, change;
   bool keeps;   // disks are kept on files, for which answers wait
   bool pages;   // disks are backed: pages of them come and go
@@ -87,6 +90,9 @@ struct backend {
 // What came of a call. MORE: another call is wanted. BUSY: the same, and answers wait, as the device runs or files are written.
 // LATER: another call is wanted at `due`. FAILED: `why` says what ended this.
 enum served { SERVED, MORE, BUSY, LATER, FAILED };
+
+// Returns whether a guest would find older blocks than it wrote: they were in the memory of a daemon that is gone, or were lost here.
+bool backend_is_left_behind(const struct backend *backend);
 
 // Makes the device for the queues that are ready, and returns MORE; or LATER, where memory or a file is refused, and the first
 // time says why; or FAILED, and says why.

@@ -56,8 +56,10 @@ bool blocks_load(struct disks *disks, char *why, size_t room) {
 }
 
 void blocks_lose(struct disks *disks) {
-  disks->is_served = false;
-  for (size_t i = 0; i < disks->count; i++) disks->disks[i].is_lost = is_in_memory(&disks->disks[i]);
+  for (size_t i = 0; i < disks->count; i++) {
+    disks->disks[i].is_lost = is_in_memory(&disks->disks[i]);
+    disks->has_lost = disks->has_lost || disks->disks[i].is_lost;
+  }
 }
 
 bool blocks_are_in_memory(const struct disks *disks) {

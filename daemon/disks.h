@@ -70,7 +70,8 @@ struct disks {
   size_t count;
   bool moves;  // images are locked and loaded only while a queue is started, since the guest may move to another host
   bool held;   // they are
-  bool is_served;  // a device of this daemon's has them, or had, and gave back all that its guest wrote
+  bool is_served;  // a device of this daemon's had them
+  bool has_lost;   // what a guest wrote was lost for want of memory, and no other guest began since
   struct storage *storage;  // of backed disks, or NULL
   size_t turn;              // which disk has its reads and writes begun first
   struct device rest;       // the daemon's own, which gives what front ends left of these disks in memory

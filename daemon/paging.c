@@ -611,7 +611,7 @@ bool paging_end_rest(struct disks *disks, uint64_t until) {
   if (!disks->rest.live) return true;
   if (!paging_end(disks, &disks->rest, until)) return false;
   bool ended = device_end(&disks->rest, stores, disks->rest_count);
-  disks->is_served = disks->is_served && ended;
+  disks->has_lost = disks->has_lost || (!ended && paging_are_left(disks));
   for (size_t n = 0; n < disks->rest_count; n++) {
     struct disk *disk = &disks->disks[disks->rest_disks[n]];
     disks->stores[disks->rest_disks[n]] = stores[n];

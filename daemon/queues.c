@@ -108,6 +108,15 @@ void queues_find(struct session *session, bool breaks) {
   session->more = true;
 }
 
+// Notes whether a ring goes on that another daemon served. What was noted is of rings that are started.
+static void note_start(struct backend *backend, unsigned q) {
+  bool is_first = true;
+  for (unsigned other = 0; other < backend->count; other++) is_first = is_first && (other == q || !backend->queues[other].ready);
+  bool is_strange = !backend->may_go_on && !backend->queues[q].had_begun && !ring_is_new(backend, q);
+  backend->is_behind = is_strange || (backend->is_behind && !is_first);
+  backend->queues[q].had_begun = true;
+}
+
 // Begins a ring where its base says.
 static bool start(struct session *session, unsigned q) {
   struct backend *backend = &session->backend;
@@ -126,7 +135,10 @@ static bool start(struct session *session, unsigned q) {
   queue->started = is_found && ring_set_base(backend, q, queue->base);
   backend->queues[q].ready = queue->started;
   backend->unasked |= UINT32_C(1) << q;
-  if (queue->started) ring_note(backend, q);
+  if (queue->started) {
+    note_start(backend, q);
+    ring_note(backend, q);
+  }
   session->more = true;
   return queue->started;
 }

@@ -71,9 +71,28 @@ bool ring_set_base(struct backend *backend, unsigned q, uint32_t base) {
   return !backend->packed || (first->available < queue->ring.size && first->used < queue->ring.size);
 }
 
+static bool is_zeros(const uint8_t *at, size_t bytes) {
+  for (size_t i = 0; i < bytes; i++)
+    if (at[i]) return false;
+  return true;
+}
+
+// Returns whether each descriptor of a packed ring is as a driver begins with, or made available in the first round.
+static bool is_unused(const struct backend_queue *queue) {
+  for (uint16_t slot = 0; slot < queue->ring.size; slot++) {
+    uint16_t flags = load(slot_at(queue, slot) + FLAGS_AT);
+    bool is_first_round = flags & FLAG_AVAILABLE && !(flags & FLAG_USED);
+    if (!is_first_round && !is_zeros(slot_at(queue, slot), DESCRIPTOR)) return false;
+  }
+  return true;
+}
+
 bool ring_is_new(const struct backend *backend, unsigned q) {
-  const struct position *first = &backend->queues[q].ring.first;
-  return !first->available && !first->used && !first->available_wrapped && !first->used_wrapped;
+  const struct backend_queue *queue = &backend->queues[q];
+  const struct position *first = &queue->ring.first;
+  if (first->available || first->used || first->available_wrapped || first->used_wrapped) return false;
+  // A front end may say a packed ring's first base once more. Each round of a split ring's leaves something in the last used element.
+  return backend->packed ? is_unused(queue) : is_zeros(queue->device_at + 4 + 8 * ((size_t)queue->ring.size - 1), 8);
 }
 
 bool ring_waits(const struct backend *backend, unsigned q) {

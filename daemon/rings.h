@@ -23,7 +23,7 @@ bool ring_has(const struct backend *backend, unsigned q);
 uint32_t ring_base(const struct backend *backend, unsigned q);
 bool ring_set_base(struct backend *backend, unsigned q, uint32_t base);
 
-// Returns whether no device served the ring before, as its base and its used index tell.
+// Returns whether no device served the ring before, as its base tells, and what devices leave in a ring.
 bool ring_is_new(const struct backend *backend, unsigned q);
 
 // Returns whether this queue's answers wait: where disks are kept on files those of requests and functions, and of a packed ring

@@ -61,6 +61,7 @@ bool session_begin(struct session *session, int socket, int epoll, struct disks 
   session->backend.disks = disks;
   session->backend.keeps = blocks_are_kept(disks);
   session->backend.pages = paging_is_there(disks);
+  session->backend.may_go_on = disks->is_served || disks->moves;
   session->backend.count = FIXED_QUEUES + request_queues;
   reader_begin(&session->reader);
   queues_begin(session);
@@ -390,11 +391,11 @@ static void set_next(const struct session *session) {
 
 static void tell_end(const char *why) { log_say(LOG_ERROR, NULL, "the session ends: %s", why); }
 
-// Makes the device where something is available for it. Returns MORE where there is one then.
+// Makes the device where something is available for it. Returns MORE where there is one then. A guest that can't go on isn't waited for.
 static RARE enum served make_device(struct session *session) {
   struct backend *backend = &session->backend;
   char why[WHY] = "";
-  if (!backend_has(backend, session->served)) return SERVED;
+  if (!backend_is_left_behind(backend) && !backend_has(backend, session->served)) return SERVED;
   enum served begun = backend_begin(backend, why, sizeof why);
   if (begun == MORE) say(session, "a device", backend->packed ? "packed rings" : "split rings");
   if (begun == LATER && *why) log_say(LOG_ERROR, NULL, "%s; it is tried again", why);

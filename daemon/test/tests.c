@@ -139,6 +139,44 @@ static void test_bases(void) {
   }
 }
 
+// A guest that goes on behind a daemon that had its disk in memory: the session ends, also where the front end says a packed ring's first
+// base once more. One whose rings are new begins.
+static void test_left_behind(void) {
+  static struct sent sent[MOST_MESSAGES];
+  for (unsigned number = 0; number < 2 * WAYS; number++) {
+    struct disks disks = {0};
+    struct front front;
+    uint8_t kept[BYTES], payload[MOST_PAYLOAD];
+    uint32_t bases[QUEUES];
+    make_disks(&disks, "0:0=1M");
+    front_begin(&front, &disks, way_of(number / 2));
+    front_agree(&front);
+    crowd(&front);
+    work(&front, kept);
+    for (unsigned q = 0; q < QUEUES; q++) bases[q] = front_stop(&front, q);
+    disks.is_served = false;
+    front_again(&front);
+    size_t count = front_set_up(&front, sent, 0);
+    for (size_t i = 0; i < count && front.alive; i++) {
+      uint8_t *at = sent[i].bytes + HEADER;
+      bool knows = number % 2 || !front.way.packed;
+      if (little_get(sent[i].bytes, 4) == SET_VRING_BASE && knows) little_put(at + 4, bases[little_get(at, 4)], 4);
+      MUST(front_send(&front, &sent[i], 0, sent[i].length));
+      pump(&front);
+      front_reply(&front, payload, sizeof payload);
+    }
+    MUST(!front.alive);
+    memset(front.memory, 0, GUEST_BYTES);
+    for (unsigned q = 0; q < QUEUES; q++) front.queues[q] = (struct driver_queue){.next_wrap = true, .seen_wrap = true};
+    front_again(&front);
+    front_agree(&front);
+    work(&front, kept);
+    look(&front, kept);
+    front_end(&front);
+    disks_close(&disks);
+  }
+}
+
 // Messages that are cut, go on later, or whose front end dies there.
 static void test_cuts(void) {
   static struct sent sent[MOST_MESSAGES];
@@ -338,7 +376,7 @@ int main(int count, char **words) {
   static const struct {
     const char *name;
     void (*run)(void);
-  } tests[] = {{"words", test_words}, {"ways", test_ways}, {"bases", test_bases}, {"files", test_files}, {"events", test_events},
+  } tests[] = {{"words", test_words}, {"ways", test_ways}, {"bases", test_bases}, {"left behind", test_left_behind}, {"files", test_files}, {"events", test_events},
                {"totals", test_totals}, {"holes", test_holes}, {"order", test_order}, {"tables", test_tables},
                {"shared", test_shared}, {"cuts", test_cuts}, {"fields", test_fields}, {"rings", test_rings},
                {"scattered", test_scattered}, {"slow", test_slow}, {"full", test_full}, {"crowded", test_crowded},
