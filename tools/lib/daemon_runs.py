@@ -1919,8 +1919,7 @@ def test_left_behind(room):
         disks |= {(f"0:0=64M,file={cached}{CACHED}",): False, (f"0:0=64M,file={cached}{CACHED}", "--migratable"): True}
     for words, may in disks.items():
         with room.runs("--log", log, "--disk", *words):
-            with FrontEnd(connected(room.socket)) as front:
-                front.goes_on()
+            with FrontEnd(connected(room.socket), 1) as front:
                 front.read(0, 512)
                 if may:
                     wait_for(lambda: front.answered() == 2, "a READ behind another daemon")  # noqa: B023
@@ -1931,8 +1930,7 @@ def test_left_behind(room):
                 front.read(0, 512)
                 wait_for(lambda: front.answered() == 1, "a READ of a guest that was reset")  # noqa: B023
             # It goes on with this daemon.
-            with FrontEnd(connected(room.socket)) as front:
-                front.goes_on()
+            with FrontEnd(connected(room.socket), 1) as front:
                 front.read(0, 512)
                 wait_for(lambda: front.answered() == 2, "a READ of the next session")  # noqa: B023
         log.unlink()

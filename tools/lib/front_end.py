@@ -21,8 +21,9 @@ PLACES = 192
 class FrontEnd:
     """A front end over a connected socket. Queue 2 is set up, and its memory is shared."""
 
-    def __init__(self, connection):
-        self.connection, self.count = connection, 0
+    def __init__(self, connection, count=0):
+        """With a count the guest goes on behind so many requests."""
+        self.connection, self.count = connection, count
         descriptor = os.memfd_create("guest")
         os.ftruncate(descriptor, MEMORY)
         self.memory = mmap.mmap(descriptor, MEMORY)
@@ -30,7 +31,9 @@ class FrontEnd:
         self.say(SET_OWNER)
         self.say(SET_FEATURES, struct.pack("<Q", VERSION_1))
         self.say(SET_MEM_TABLE, struct.pack("<IIQQQQ", 1, 0, 0, MEMORY, 0, 0), [descriptor])
-        self.start(0)
+        for ring in (AVAILABLE, USED):
+            self.memory[ring + 2 : ring + 4] = struct.pack("<H", count)
+        self.start(count)
         os.close(descriptor)
 
     def __enter__(self):
@@ -56,14 +59,6 @@ class FrontEnd:
         """Stops the queue, and gives the index where it goes on."""
         self.say(GET_VRING_BASE, struct.pack("<II", QUEUE, 0))
         return struct.unpack("<IIIII", self.connection.recv(20))[4]
-
-    def goes_on(self):
-        """Has the queue begin behind a first request, which another daemon answered."""
-        assert self.stop() == 0
-        for ring in (AVAILABLE, USED):
-            self.memory[ring + 2 : ring + 4] = struct.pack("<H", 1)
-        self.count = 1
-        self.start(1)
 
     def asks(self):
         """Asks for the daemon's features, and waits for them."""
