@@ -3,8 +3,8 @@
 //!
 //! # Proved
 //!
-//! What a SYNCHRONIZE CACHE that ended with GOOD leaves in a crash at that moment it leaves in each later one, whatever the host is
-//! given, says that it kept, and whatever else happens (`what_a_flush_left_stays`).
+//! SYNCHRONIZE CACHE that ended with GOOD leaves in each later crash what it left in one at that moment, or what was written over it
+//! since, whatever the host is given, says that it kept, and whatever else happens (`what_a_flush_left_stays`).
 #![tactic(auto)]
 
 mod flushes;
