@@ -1,4 +1,4 @@
-// The operator's socket: a request and its answer are a line of JSON each (docs/DAEMON.md). One client is served at a time.
+// The operator's socket: a request and its answer are a line of JSON each (docs/vscsi-ctl.1). One client is served at a time.
 #ifndef DAEMON_CONTROL_H
 #define DAEMON_CONTROL_H
 
