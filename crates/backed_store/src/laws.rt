@@ -1,4 +1,4 @@
-//! What a page owes the host's storage.
+//! States what a page owes the host's storage.
 
 ghost use Rattle.std.specs.Prelude.{◌≡◌, ℕ, ◌<◌, ◌≤◌, false, IsTrue};
 ghost use Rattle.backed_store.specs.Stores.{dues};

@@ -11,3 +11,4 @@ pub mod Made
 pub mod CutOff
 pub mod Placed
 pub mod Losing
+pub mod Dealt

@@ -1,8 +1,9 @@
 -- Transitions but for a few leave what the host's storage has of a unit's disk.
-use Rattle.std.proofs.Common.{◌≡◌, ℕ, Bool, true, false, ◌&&◌, eqb, List, [], ◌∷◌, ◌++◌, Option, Some, None, is_some, refl, sym, ◌∙◌, ap, subst}
+use Rattle.std.proofs.Common.{◌≡◌, ℕ, Bool, true, false, ◌&&◌, eqb, List, Option, Some, None, is_some, refl, sym, ◌∙◌, ap, subst}
 use Rattle.std.specs.Prelude.{slice_get, option_map, unwrap_or, min}
 use Rattle.block_store.specs.Storage as storage
-use Rattle.block_store.specs.Storage.{Storage, Dealing, Ledger, dealt, all_dealt, opening, storage_by, and_then, lost_after, lost_by}
+use Rattle.block_store.specs.Storage.{Storage, Dealing, Ledger, opening, storage_by, and_then, lost_after, lost_by}
+use Rattle.block_store.proofs.Dealt.{last_dealt}
 use Rattle.block_store.proofs.Losing.{lost-last, lose-last, load-last, keep-last, lose-else, load-else, keep-else}
 use Rattle.unit_model.specs.Steps.{Step}
 use Rattle.unit_model.specs.Contents.{capacity_of}
@@ -40,10 +41,6 @@ unchanged f g k us e i u v at now =
 elsewhere : (g : PlainUnit → PlainUnit) (k : ℕ) (us : List PlainUnit) (i : ℕ) (u v : PlainUnit) → eqb k i ≡ false
     → slice_get us i ≡ Some u → slice_get (change g k us) i ≡ Some v → v ≡ u
 elsewhere g k us i u v off at now = same (sym now ∙ get_other g k us i off ∙ at)
-
-last_dealt : (ds : List Dealing) (d : Dealing) (s : Storage) → all_dealt (ds ++ d ∷ []) s ≡ dealt d (all_dealt ds s)
-last_dealt [] d s = refl
-last_dealt (e ∷ more) d s = last_dealt more d (dealt e s)
 
 kept_given : (page : ℕ) (bytes : List ℕ) (o : Option Ledger)
     → option_map (λ (l : Ledger). (storage_by l).kept) (option_map (and_then (Dealing.Give page bytes)) o)

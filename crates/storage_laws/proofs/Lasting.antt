@@ -1,19 +1,21 @@
 -- What a crash leaves of a flush's blocks, as the device goes on.
-use Rattle.std.proofs.Common.{◌≡◌, ◌⊎◌, ◌≤◌, ◌<◌, ◌+◌, ◌-◌, ◌*◌, ◌/◌, ◌%◌, ◌==◌, ◌||◌, ◌&&◌, ℕ, zero, suc, Bool, true, false, not, nat_lt, min, eqb, List, [], ◌∷◌, ◌++◌, All, Contains, length, drop, Option, Some, None, inl, inr, if◌then◌else◌, refl, ap, sym, subst, ◌∙◌, arith}
-use Rattle.std.specs.Prelude.{slice_get, option_map, unwrap_or}
+use Rattle.std.proofs.Common.{◌≡◌, ◌⊎◌, ◌+◌, ◌-◌, ◌*◌, ◌/◌, ◌%◌, ◌==◌, ◌||◌, ℕ, Bool, true, false, nat_lt, min, eqb, List, [], ◌∷◌, All, Contains, length, Option, Some, None, inl, inr, if◌then◌else◌, refl, ap, sym, subst, ◌∙◌, arith}
+use Rattle.std.specs.Prelude.{slice_get, option_map}
 use Rattle.std.proofs.lemmas.Bool.Decides.{nat_tests}
-use Rattle.std.proofs.lemmas.List.Elements.{All-nil, All-cons, All-contains, Contains-get_or, Contains-append_left, Contains-append_right}
+use Rattle.std.proofs.lemmas.List.Elements.{All-nil, All-cons, All-contains, Contains-get_or}
 use Rattle.std.proofs.Math.ListN.{get_or}
-use Rattle.block_store.specs.Blocks.{Blocks, nth_block, zero_block}
+use Rattle.block_store.specs.Blocks.{nth_block, zero_block}
 use Rattle.block_store.specs.Pages.{blocks_in}
 use Rattle.block_store.specs.Storage.{Storage, Dealing, Ledger, dealt, all_dealt, opening, storage_by, and_then, IsLeft, IsPageOf}
+use Rattle.block_store.proofs.Dealt.{storage_then}
 use Rattle.block_store.proofs.Paging.{blocks_in-whole}
-use Rattle.unit_model.specs.Tasks.{Entry, is_blocked}
-use Rattle.unit_model.specs.Steps.{Step, alive, as_of, has_entered}
+use Rattle.unit_model.specs.Tasks.{Entry}
+use Rattle.unit_model.specs.Steps.{Step, as_of}
 use Rattle.unit_model.specs.Enabling.{enabled}
 use Rattle.unit_model.specs.Contents.{Opening, blocks_of, capacity_of}
 use Rattle.unit_model.specs.Flushing.{HasBeen, IsDurable, is_in_flush}
-use Rattle.unit_model.specs.Unit.{PlainUnit, after as stepped, parking, dealing, MayDeal, IsAsItIs}
+use Rattle.unit_model.specs.Unit.{PlainUnit, after as stepped, parking, dealing, IsAsItIs}
+use Rattle.unit_model.proofs.Past.{as_of-more, as_of-now, enabled_since}
 use Rattle.task_mgmt.specs.Functions.{step_by}
 use Rattle.task_mgmt.specs.declared.kind.MarkBy.TheVariants.{Abort, Reset}
 use Rattle.device_model.specs.World.{PlainWorld, change}
@@ -24,32 +26,8 @@ use Rattle.device_model.specs.Happens.{Happens}
 use Rattle.device_model.specs.Found.{UnitIs}
 use Rattle.device_model.proofs.Lists.{nothing, same, get_other, get_change}
 
--- A task that might run may run from then on
-
 or_left : (a b : Bool) → a ≡ true → (a || b) ≡ true
 or_left a b is = ap (λ x. x || b) is
-
-never_of_none : (e : Entry) (h : List Step) (n : ℕ) → h ≡ [] → enabled e (drop n h) ≡ true → false ≡ true
-never_of_none e [] zero none is = is
-never_of_none e [] (suc n) none is = is
-never_of_none e (s ∷ past) n none is = absurd (cc)
-
-enabled_drop : (e : Entry) (n : ℕ) (h : List Step) → enabled e (drop n h) ≡ true → enabled e h ≡ true
-enabled_drop e n [] is =
-    let never : false ≡ true = never_of_none e [] n refl is in
-    absurd (cc)
-enabled_drop e zero (s ∷ past) is = is
-enabled_drop e (suc n) (s ∷ past) is = or_left (enabled e past) _ (enabled_drop e n past is)
-
-as_of-more : (p : ℕ) (s : Step) (past : List Step) → p ≤ length past → as_of p (s ∷ past) ≡ as_of p past
-as_of-more p s past le =
-    let more : length (s ∷ past) - p ≡ suc (length past - p) = omega (arith, le) in
-    ap (λ n. drop n (s ∷ past)) more
-
-as_of-now : (steps : List Step) → as_of (length steps) steps ≡ steps
-as_of-now steps =
-    let none : length steps - length steps ≡ 0 = omega arith in
-    ap (λ n. drop n steps) none
 
 been_more : (o : Opening) (s : Step) (steps : List Step) (e : Entry) (b : ℕ) (x : List ℕ) → HasBeen o steps e b x → HasBeen o (s ∷ steps) e b x
 been_more o s steps e b x was =
@@ -67,12 +45,13 @@ been_now o steps e b x might is =
     record {
       place = length steps;
       past = omega arith;
-      might = ap (λ h. enabled e h) (as_of-now steps) ∙ might;
-      is = is ∙ ap (λ h. blocks_of o h b) (sym (as_of-now steps));
+      might = ap (λ h. enabled e h) (as_of-now (length steps) steps (omega arith)) ∙ might;
+      is = is ∙ ap (λ h. blocks_of o h b) (sym (as_of-now (length steps) steps (omega arith)));
     }
 
 might_now : (o : Opening) (steps : List Step) (e : Entry) (b : ℕ) (x : List ℕ) → HasBeen o steps e b x → enabled e steps ≡ true
-might_now o steps e b x was = enabled_drop e (length steps - was.place) steps was.might
+might_now o steps e b x was =
+    ap (λ h. enabled e h) (sym (as_of-now (length steps) steps (omega arith))) ∙ enabled_since e was.place (length steps) steps was.past was.might
 
 -- What the storage may have of a block
 
@@ -122,15 +101,6 @@ lasts_as o steps e x y b was kept unkept = (
   subst (λ z. HasBeen o steps e b z) (sym kept) was.0,
   subst (λ z. All (HasBeen o steps e b) z) (sym unkept) was.1,
 )
-
--- One thing more that was done
-
-last_dealt : (ds : List Dealing) (d : Dealing) (s : Storage) → all_dealt (ds ++ d ∷ []) s ≡ dealt d (all_dealt ds s)
-last_dealt [] d s = refl
-last_dealt (e ∷ more) d s = last_dealt more d (dealt e s)
-
-storage_then : (d : Dealing) (l : Ledger) → storage_by (and_then d l) ≡ dealt d (storage_by l)
-storage_then d l = last_dealt l.dealings d (opening l.content)
 
 -- what the host was last given of a block is kept, or may be there
 

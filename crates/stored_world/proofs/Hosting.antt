@@ -1,5 +1,5 @@
 -- The storages of a device's disks, as the device goes on.
-use Rattle.std.proofs.Common.{◌≡◌, ℕ, ◌<◌, ◌/◌, ◌%◌, ◌==◌, Bool, true, false, nat_lt, min, List, [], ◌∷◌, ◌++◌, if◌then◌else◌, Option, Some, None, IfSome, IfNone, IfOk, OnErr, IsTrue, IsFalse, Result, Ok, Err, zero, suc, length, ◌*◌, ◌+◌, ◌≤◌, refl, sym, ◌∙◌, ap, subst, inl, inr}
+use Rattle.std.proofs.Common.{◌≡◌, ℕ, ◌<◌, ◌/◌, ◌%◌, ◌==◌, Bool, true, false, nat_lt, min, List, [], ◌∷◌, if◌then◌else◌, Option, Some, None, IfSome, IfNone, IfOk, OnErr, IsTrue, IsFalse, Result, Ok, Err, zero, suc, length, ◌*◌, ◌+◌, ◌≤◌, refl, sym, ◌∙◌, ap, subst, inl, inr}
 use Rattle.std.specs.Prelude.{slice_get, option_map, ◌⊎◌}
 use Rattle.std.proofs.lemmas.Bool.Decides.{nat_tests}
 use native.Mathlib.Omega.{arith}
@@ -8,7 +8,8 @@ use Rattle.std.proofs.Math.ListN.{set}
 use Rattle.block_store.specs.Blocks.{Blocks, zero_block}
 use Rattle.block_store.specs.Pages.{blocks_in}
 use Rattle.block_store.specs.Storage as plain
-use Rattle.block_store.specs.Storage.{Storage, Ledger, Dealing, IsPageOf, dealt, all_dealt, opening, storage_by, with_page, cut, and_then}
+use Rattle.block_store.specs.Storage.{Storage, Ledger, Dealing, IsPageOf, dealt, storage_by, with_page, cut, and_then}
+use Rattle.block_store.proofs.Dealt.{storage_then}
 use Rattle.host_storage.specs.Inner.Storage.{given_blocks, kept_blocks}
 use Rattle.host_storage.specs.declared.storage.Storage as host
 use Rattle.unit_model.specs.Steps.{Step}
@@ -110,13 +111,6 @@ hosted_there g place us h h' was goes v at = by_place (at_other g place us place
     by_place (x, there, inl here) = subst (λ y. IsHosted y h') (sym here.1) (goes x (was x there))
     by_place (x, there, inr beside) = absurd (let no = beside.0 in grind (arith, nat_tests, no))
 
-last_dealt : (ds : List Dealing) (d : Dealing) (s : Storage) → all_dealt (ds ++ d ∷ []) s ≡ dealt d (all_dealt ds s)
-last_dealt [] d s = refl
-last_dealt (e ∷ more) d s = last_dealt more d (dealt e s)
-
-pub dealt_last : (l : Ledger) (d : Dealing) → storage_by (and_then d l) ≡ dealt d (storage_by l)
-dealt_last l d = last_dealt l.dealings d (opening l.content)
-
 -- a page in one of two storages that agree
 page_same : (p b : ℕ) (f g old new : Blocks) → f b ≡ g b → old b ≡ new b → with_page p f old b ≡ with_page p g new b
 page_same p b f g old new one other =
@@ -133,8 +127,8 @@ pub by_dealt : (l : Ledger) (d : Dealing) (s s' : host.Storage) → IsStorageBy 
     → IsStorageBy (and_then d l) s'
 by_dealt l d s s' is given kept =
     record {
-      given = λ b. given b ∙ given_same d b ∙ ap (λ (x : Storage). x.given b) (sym (dealt_last l d));
-      kept = λ b. kept b ∙ kept_same d b ∙ ap (λ (x : Storage). x.kept b) (sym (dealt_last l d));
+      given = λ b. given b ∙ given_same d b ∙ ap (λ (x : Storage). x.given b) (sym (storage_then d l));
+      kept = λ b. kept b ∙ kept_same d b ∙ ap (λ (x : Storage). x.kept b) (sym (storage_then d l));
     }
   where
     had : Storage

@@ -1,42 +1,20 @@
 -- Since when a task might run, and where it entered.
-use Rattle.std.proofs.Common.{◌≡◌, ◌≤◌, ◌<◌, ◌+◌, ◌-◌, ℕ, zero, suc, Bool, true, false, cond, ◌||◌, not, ◌&&◌, List, [], ◌∷◌, ◌++◌, length, drop, Option, Some, None, refl, ap, sym, subst, ◌∙◌, arith}
+use Rattle.std.proofs.Common.{◌≡◌, ◌≤◌, ◌<◌, ◌+◌, ◌-◌, ℕ, Bool, true, false, cond, List, [], ◌∷◌, ◌++◌, length, Option, Some, None, refl, ap, sym, subst, ◌∙◌, arith}
 use Rattle.std.specs.Prelude.{unwrap_or}
 use Rattle.ring_core.specs.declared.log.Ticket.{Ticket}
-use Rattle.unit_model.specs.Tasks.{Entry, same_ticket, task_of, without, is_blocked}
-use Rattle.unit_model.specs.Steps.{Step, alive, as_of, has_entered}
+use Rattle.unit_model.specs.Tasks.{Entry, same_ticket, task_of, without}
+use Rattle.unit_model.specs.Steps.{Step, alive, as_of}
 use Rattle.unit_model.specs.Seen.{entered_at}
 use Rattle.unit_model.specs.Enabling.{enabled}
 use Rattle.unit_model.specs.Contents.{Opening}
 use Rattle.unit_model.specs.Lawful.{IsLawful}
-use Rattle.unit_model.proofs.Tickets.{same-true, itself}
+use Rattle.unit_model.proofs.Past.{as_of-more, as_of-now}
+use Rattle.unit_model.proofs.Tickets.{same-true}
 use Rattle.unit_model.proofs.Fresh.{fresh, none_of, above_fresh}
 use Rattle.unit_model.proofs.Distinct.{task_push_other, task_without_other, alive_distinct, without_none}
 use Rattle.unit_history.specs.Inner.Flushes.{EnteredAs, Might}
-use Rattle.unit_history.proofs.Noting.{as_of-more, as_of-now}
 
 -- A task that might run may run from then on
-
-or_left : (a b : Bool) → a ≡ true → (a || b) ≡ true
-or_left a b is = ap (λ x. x || b) is
-
-never_of_none : (e : Entry) (h : List Step) (n : ℕ) → h ≡ [] → enabled e (drop n h) ≡ true → false ≡ true
-never_of_none e [] zero none is = is
-never_of_none e [] (suc n) none is = is
-never_of_none e (s ∷ past) n none is = absurd (cc)
-
-enabled_drop : (e : Entry) (n m : ℕ) (h : List Step) → m ≤ n → enabled e (drop n h) ≡ true → enabled e (drop m h) ≡ true
-enabled_drop e n m [] le is =
-    let never : false ≡ true = never_of_none e [] n refl is in
-    absurd (cc)
-enabled_drop e zero zero (s ∷ past) le is = is
-enabled_drop e zero (suc m) (s ∷ past) le is = absurd (omega (arith, le))
-enabled_drop e (suc n) zero (s ∷ past) le is = or_left (enabled e past) _ (enabled_drop e n zero past (omega arith) is)
-enabled_drop e (suc n) (suc m) (s ∷ past) le is = enabled_drop e n m past (omega (arith, le)) is
-
-pub enabled_since : (e : Entry) (since place : ℕ) (steps : List Step) → since ≤ place → enabled e (as_of since steps) ≡ true
-    → enabled e (as_of place steps) ≡ true
-enabled_since e since place steps le is =
-    enabled_drop e (length steps - since) (length steps - place) steps (omega (arith, le)) is
 
 pub enabled_more : (e : Entry) (since : ℕ) (s : Step) (steps : List Step) → since ≤ length steps → enabled e (as_of since steps) ≡ true
     → enabled e (as_of since (s ∷ steps)) ≡ true

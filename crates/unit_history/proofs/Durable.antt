@@ -1,11 +1,11 @@
 -- What the storage of a unit's disk has of its blocks, since the task of a flush entered.
-use Rattle.std.proofs.Common.{◌≡◌, ◌⊎◌, ℕ, ◌+◌, ◌*◌, ◌/◌, ◌%◌, ◌==◌, ◌<◌, ◌≤◌, ◌||◌, nat_le, nat_lt, min, Bool, true, false, cond, inl, inr, List, [], ◌∷◌, ◌++◌, All, Contains, length, Option, Some, None, not, is_some, IfSome, IfNone, IfOk, OnErr, IsTrue, IsFalse, Result, Ok, Err, if◌then◌else◌, refl, sym, ◌∙◌, ap, subst, arith}
+use Rattle.std.proofs.Common.{◌≡◌, ◌⊎◌, ℕ, ◌*◌, ◌/◌, ◌%◌, ◌==◌, ◌<◌, ◌≤◌, ◌||◌, nat_le, nat_lt, min, Bool, true, false, inl, inr, List, [], ◌∷◌, All, Contains, length, Option, Some, None, not, is_some, IfSome, IfNone, IfOk, OnErr, IsTrue, IsFalse, Result, Ok, Err, if◌then◌else◌, refl, sym, ◌∙◌, ap, subst, arith}
 use Rattle.std.proofs.lemmas.Bool.Decides.{nat_tests}
 use Rattle.std.specs.Option.{option_map}
 use Rattle.std.proofs.lemmas.List.Elements.{All-nil, All-cons, All-contains}
 use Rattle.block_store.specs.Blocks.{Blocks, zero_block}
 use Rattle.block_store.specs.Pages.{blocks_in}
-use Rattle.block_store.specs.Storage.{Storage, Ledger, Dealing, and_then, dealt, all_dealt, opening, storage_by, cut, IsLeft}
+use Rattle.block_store.specs.Storage.{Storage, Ledger, Dealing, and_then, dealt, storage_by}
 use Rattle.block_store.specs.Progress.{Progress, progress_after}
 use Rattle.block_store.specs.Inner.Hosted.{Hosted, hosted_after}
 use Rattle.backed_store.specs.Stores as backed
@@ -22,12 +22,13 @@ use Rattle.unit_model.specs.Lawful.{IsReady}
 use Rattle.unit_model.proofs.Leaving.{task_ticket}
 use Rattle.unit_model.specs.Contents.{Opening, blocks_of, capacity_of}
 use Rattle.unit_model.specs.Flushing.{HasBeen, IsDurable}
-use Rattle.unit_history.specs.Inner.Flushes.{HasBeenSince, IsLeftSince, HaveBeen, AreSince, EnteredAs, Might, HasBegun, AreFenced, without}
-use Rattle.unit_history.proofs.Begun.{StandsAs, enabled_since, might_more, might_now, entered_as}
+use Rattle.unit_history.specs.Inner.Flushes.{HasBeenSince, IsLeftSince, AreSince, EnteredAs, Might, HasBegun, AreFenced, without}
+use Rattle.unit_history.proofs.Begun.{StandsAs, might_more, might_now, entered_as}
 use Rattle.unit_history.specs.declared.flushing.Fence.{Fence}
 use Rattle.backed_store.specs.declared.dealing.GivenPage.{GivenPage}
 use Rattle.foundation.specs.declared.NoMemory.{NoMemory}
-use Rattle.unit_history.proofs.Noting.{as_of-more, as_of-now}
+use Rattle.unit_model.proofs.Past.{as_of-more, as_of-now, enabled_since}
+use Rattle.block_store.proofs.Dealt.{storage_then}
 use Rattle.block_store.specs.Storage.{IsLostIn}
 use Rattle.cdb.specs.declared.commands.Command.{Command}
 use Rattle.command_model.specs.Facts.{Facts}
@@ -38,15 +39,6 @@ use Rattle.task_set.specs.Inner.Tasks.{task_at}
 use Rattle.unit_history.specs.Inner.Parts.{AreKept}
 use Rattle.unit_history.specs.Inner.Performing.{PlainPerformed, Comes}
 use Rattle.unit_history.proofs.Keeping.{task_at_alive}
-
--- One thing more that was done
-
-pub last_dealt : (ds : List Dealing) (d : Dealing) (s : Storage) → all_dealt (ds ++ d ∷ []) s ≡ dealt d (all_dealt ds s)
-last_dealt [] d s = refl
-last_dealt (e ∷ more) d s = last_dealt more d (dealt e s)
-
-pub storage_then : (d : Dealing) (l : Ledger) → storage_by (and_then d l) ≡ dealt d (storage_by l)
-storage_then d l = last_dealt l.dealings d (opening l.content)
 
 -- the ledger of a disk, by that and how far its flush is
 pub ledger_hosted : (d : Disk) → option_map (λ (h : Hosted). h.ledger) (disks.hosted_of d) ≡ disks.storage_of d

@@ -1,5 +1,5 @@
 -- What a unit has noted of its blocks, after each of its steps.
-use Rattle.std.proofs.Common.{◌≡◌, ℕ, suc, ◌-◌, ◌<◌, ◌≤◌, inl, inr, Bool, true, false, cond, nat_lt, min, List, [], ◌∷◌, length, drop, Option, Some, None, is_some, refl, sym, ◌∙◌, ap, subst, arith}
+use Rattle.std.proofs.Common.{◌≡◌, ℕ, ◌-◌, ◌<◌, ◌≤◌, inl, inr, Bool, true, false, cond, nat_lt, min, List, [], ◌∷◌, length, Option, Some, None, is_some, refl, sym, ◌∙◌, ap, subst, arith}
 use Rattle.std.proofs.lemmas.Bool.{ltb-true, ltb-false}
 use Rattle.std.specs.Prelude.{unwrap_or}
 use Rattle.ring_core.specs.declared.log.Ticket.{Ticket}
@@ -8,19 +8,10 @@ use Rattle.command_model.specs.Effects.{given}
 use Rattle.unit_model.specs.Tasks.{Entry, task_of}
 use Rattle.unit_model.specs.Steps.{Step, alive, as_of}
 use Rattle.unit_model.specs.Contents.{Opening, blocks_of, block_with, capacity_of}
+use Rattle.unit_model.proofs.Past.{as_of-more, as_of-now}
 use Rattle.unit_history.specs.Inner.Performing.{PlainPerformed, step_for}
 use Rattle.unit_history.specs.Changes.{PlainChanges, is_in}
 use Rattle.unit_history.specs.Inner.Noting.{Notes, AreRecorded}
-
-pub as_of-more : (p : ℕ) (s : Step) (past : List Step) → p ≤ length past → as_of p (s ∷ past) ≡ as_of p past
-as_of-more p s past le =
-    let more : length (s ∷ past) - p ≡ suc (length past - p) = omega (arith, le) in
-    ap (λ n. drop n (s ∷ past)) more
-
-pub as_of-now : (p : ℕ) (steps : List Step) → length steps ≤ p → as_of p steps ≡ steps
-as_of-now p steps le =
-    let none : length steps - p ≡ 0 = omega (arith, le) in
-    ap (λ n. drop n steps) none
 
 -- a step leaves the blocks of a unit but those that it touches, and gives it no others
 abbrev pub Leaves : Opening → Step → List Step → (ℕ → Bool) → Type 0

@@ -158,8 +158,8 @@ impl UnitState {
     /// Runs the command of a job's task as [`UnitState::commit_with`] does, if the pages that it needs of its disk are in
     /// memory. Else the host is asked for each of them at once, and the command waits: `None`, with nothing changed. Where
     /// there is no room for them, clean pages go that aren't those of the command that has waited for the longest. So does
-    /// a flush, until the host's storage has each change of the disk that was made before it came, and one that comes while
-    /// another waits. A task that is marked, and one that may not run, never waits. Nor does a command on a disk that isn't
+    /// a flush, until the host's storage has each change of the disk that was made before it was tried first, and one that comes
+    /// while another waits. A task that is marked, and one that may not run, never waits. Nor does a command on a disk that isn't
     /// backed, nor one that needs no block and is no flush.
     #[inline(always)]
     pub fn commit_ready(

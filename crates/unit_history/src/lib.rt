@@ -8,7 +8,7 @@
 //! was refused, and nothing changed. A Leave wants the proof that the chain was completed (`Answered`). A command that
 //! needs pages which aren't in memory waits, with nothing changed (`commit_ready`). Where there is no room for them,
 //! others go, and no block changes. SYNCHRONIZE CACHE waits, too: it ends with GOOD only where a crash of the host leaves
-//! each block that it names as the block was when it came, or later.
+//! each block that it names as the block was once it might run, or later.
 //!
 //! A host reads and writes the pages of a disk that come and go, with one premise: it hands in what its storage kept, as the
 //! unit's ledger says. It is given each page as the unit's blocks are then, and no page that it hands in, gives up or wrote

@@ -23,3 +23,4 @@ pub mod Owing
 pub mod Base
 pub mod Failing
 pub mod Flushing
+pub mod Past

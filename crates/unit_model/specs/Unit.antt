@@ -39,7 +39,7 @@ may_wait u command = is_backed u && waits_at (capacity_of u.opening u.steps) com
 abbrev pub HasLost : PlainUnit → ℕ → Type 0
 HasLost u p = IsLostIn u.storage p
 
--- a flush ends with GOOD only where the host said that its storage keeps what was written before it came
+-- a flush ends with GOOD only where a crash at that moment leaves what the unit had once the flush might run, or later
 abbrev pub Flushes : PlainUnit → Entry → PlainReply → Type 0
 Flushes u e r = r.status ≡ good → is_flush e.command ≡ true → IfSome u.storage (λ l. IsDurable u.opening u.steps l e)
 
