@@ -81,8 +81,8 @@ pub copy-page : (states : ℕ → State) (bytes : ℕ → List ℕ) (kept : Bloc
     (k : ℕ) → k < 8 → nth_block copy k ≡ stored states bytes kept (8 * page + k)
 copy-page states bytes kept copy page is there k below =
     let number : (8 * page + k) / 8 ≡ page = omega (arith, below) in
-    let place : (8 * page + k) % 8 ≡ k = omega (arith, below) in
-    rw (number, place, there, is) refl
+    let position : (8 * page + k) % 8 ≡ k = omega (arith, below) in
+    rw (number, position, there, is) refl
 
 pub copy-given : (states : ℕ → State) (bytes : ℕ → List ℕ) (kept host : Blocks) (copy : List ℕ) (page : ℕ) → copy ≡ bytes page → length copy ≡ 4096 →
     (states page).held ≡ true → (b : ℕ) → with_page page (λ c. blocks_in copy (c % 8)) host b ≡ with_page page (stored states bytes kept) host b

@@ -18,11 +18,11 @@ stored states bytes kept b = if (states (b / 8)).held then nth_block (bytes (b /
 pub part-run : (states : ℕ → State) (bytes : ℕ → List ℕ) (kept : Blocks) (held : List ℕ) (page from first count : ℕ) →
     page ≡ first / 8 → from ≡ first % 8 → first % 8 + count ≤ 8 → held ≡ bytes page → (states page).held ≡ true →
     run (nth_block held) from count ≡ run (stored states bytes kept) first count
-part-run states bytes kept held page from first count in_page at_place fits is there =
+part-run states bytes kept held page from first count in_page at_position fits is there =
     run-same (nth_block held) (stored states bytes kept) from first count (λ k below.
     let number : (first + k) / 8 ≡ page = omega (arith, in_page, fits, below) in
-    let place : (first + k) % 8 ≡ from + k = omega (arith, at_place, fits, below) in
-    rw (number, place, there, is) refl)
+    let position : (first + k) % 8 ≡ from + k = omega (arith, at_position, fits, below) in
+    rw (number, position, there, is) refl)
 
 module _ (states new_states : ℕ → State) (bytes new_bytes : ℕ → List ℕ) (kept given : Blocks) (first n : ℕ)
     (fits : first % 8 + n ≤ 8) (some : 0 < n)

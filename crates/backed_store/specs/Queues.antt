@@ -7,7 +7,7 @@ use Rattle.backed_store.specs.declared.queue.PageQueue.{PageQueue}
 abbrev pub stands : PageQueue → ℕ → Bool
 stands q p = list_any (nat_eq p) q.pages.items
 
--- how many places it has
+-- how many entries it has
 abbrev pub queue_len : PageQueue → ℕ
 queue_len q = length q.pages.items
 

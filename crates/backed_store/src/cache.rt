@@ -26,7 +26,7 @@ pub(crate) struct Cache {
     pub(crate) unkept: Unkept,
     // The pages that are in memory as the host's storage has them.
     pub(crate) clean: PageSet,
-    // The place from which a page is looked for that may go.
+    // The number from which a page is looked for that may go.
     pub(crate) hand: u64,
     // The number of the latest change.
     pub(crate) latest: u64,

@@ -6,7 +6,7 @@ ghost use Rattle.backed_store.specs.Marks.{state_of};
 ghost use Rattle.backed_store.specs.Caches.{mark_at, state_at, bytes_at, OwesNoMore};
 
 use crate::cache::Cache;
-use crate::numbers::{page_of, place_of};
+use crate::numbers::{page_of, position_of};
 
 impl Cache {
     /// Frees the pages from a block on. What its page keeps behind it is zeros.
@@ -18,9 +18,9 @@ impl Cache {
         ensures owing { OwesNoMore self.old self.new }
         ensures budget { self.new.budget ≡ self.old.budget }
     {
-        let place = place_of(end);
+        let position = position_of(end);
         let page = page_of(end);
-        if place == 0 {
+        if position == 0 {
             self.slots.cut(page);
             self.unkept.cut(page);
             self.clean.cut(page);
@@ -29,6 +29,6 @@ impl Cache {
         self.slots.cut(page + 1);
         self.unkept.cut(page + 1);
         self.clean.cut(page + 1);
-        self.slots.wipe(page, place);
+        self.slots.wipe(page, position);
     }
 }

@@ -75,16 +75,16 @@ impl Disk {
         }
     }
 
-    /// Returns the page that was noted as lost at a place, the oldest at 0. `None` from the number of noted pages on, which is
+    /// Returns the page that was noted as lost at an index, the oldest at 0. `None` from the number of noted pages on, which is
     /// at most 64; so always of a disk that isn't backed. Takes no memory.
-    pub fn lost_page(&self, place: usize) -> Option<u64>
-        ensures place { result ≡ slice_get (noted self.now) place }
-        ensures bound { IfSome result (λ page. place < 64) }
+    pub fn lost_page(&self, index: usize) -> Option<u64>
+        ensures index { result ≡ slice_get (noted self.now) index }
+        ensures bound { IfSome result (λ page. index < 64) }
         ensures lost { IfSome result (λ page. (is_backed self.now ≡ true) × IfSome (storage_of self.now) (λ l. is_lost page l ≡ true)) }
     {
         match self {
             Disk::Whole(_) => None,
-            Disk::Backed(disk) => disk.store.lost_page(place),
+            Disk::Backed(disk) => disk.store.lost_page(index),
         }
     }
 

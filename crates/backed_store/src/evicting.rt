@@ -38,14 +38,14 @@ impl Cache {
         spared_until(spared, page)
     }
 
-    /// Returns the first page at or behind a place that may go and isn't spared. It looks at no more pages than there are
+    /// Returns the first page at or behind a number that may go and isn't spared. It looks at no more pages than there are
     /// ranges, and pages that the host reads or that are about to be changed.
-    fn find_from(&self, place: u64, spared: &[PageRange]) -> Option<u64>
+    fn find_from(&self, number: u64, spared: &[PageRange]) -> Option<u64>
         ensures goes { IfSome result (λ page. IsTrue (may_go (mark_at self.now page))) }
         ensures unspared { IfSome result (λ page. is_spared spared.now page ≡ false) }
-        ensures none { IfNone result ((p : ℕ) → place ≤ p → p < 2 ^ 64 → IsTrue (may_go (mark_at self.now p)) → IsTrue (is_spared spared.now p)) }
+        ensures none { IfNone result ((p : ℕ) → number ≤ p → p < 2 ^ 64 → IsTrue (may_go (mark_at self.now p)) → IsTrue (is_spared spared.now p)) }
     {
-        let mut at = place;
+        let mut at = number;
         while let Some(page) = self.clean.next_from(at) {
             let Some(last) = self.stays_until(page, spared) else {
                 return Some(page);

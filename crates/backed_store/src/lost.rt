@@ -28,20 +28,20 @@ impl LostPages {
         }
     }
 
-    /// Returns the page at a place, the oldest at 0; `None` from the number of pages on.
-    pub(crate) fn at(&self, place: usize) -> Option<u64>
-        ensures place { result ≡ slice_get (noted self.now) place }
+    /// Returns the page at an index, the oldest at 0; `None` from the number of pages on.
+    pub(crate) fn at(&self, index: usize) -> Option<u64>
+        ensures index { result ≡ slice_get (noted self.now) index }
         ensures noted { IfSome result (λ page. IsTrue (is_noted self.now page)) }
-        ensures bound { IfSome result (λ page. place < 64) }
+        ensures bound { IfSome result (λ page. index < 64) }
     {
-        match self.pages.get(place) {
+        match self.pages.get(index) {
             Some(page) => Some(*page),
             None => None,
         }
     }
 
     /// Drops the oldest page where 64 stand.
-    fn make_place(&mut self)
+    fn make_room(&mut self)
         ensures len { length (noted self.new) < 64 }
         ensures oldest { 64 ≤ length (noted self.old) → noted self.new ≡ drop 1 (noted self.old) }
         ensures kept { length (noted self.old) < 64 → noted self.new ≡ noted self.old }
@@ -60,7 +60,7 @@ impl LostPages {
         ensures kept { length (noted self.old) < 64 → (p : ℕ) → p ≢ page → is_noted self.new p ≡ is_noted self.old p }
     {
         self.forget(page);
-        self.make_place();
+        self.make_room();
         match self.pages.push(page) {
             Ok(()) => Ok(()),
             Err(_) => Err(NoMemory),

@@ -16,9 +16,9 @@ pub(crate) fn page_of(block: u64) -> u64
     block / PAGE_BLOCKS
 }
 
-/// Returns the place of a block in its page.
+/// Returns the position of a block in its page.
 #[inline(always)]
-pub(crate) fn place_of(block: u64) -> usize
+pub(crate) fn position_of(block: u64) -> usize
     ensures { result ≡ block % 8 }
 {
     (block % PAGE_BLOCKS) as usize
@@ -41,6 +41,6 @@ pub(crate) fn in_page(first: u64, count: usize) -> usize
     ensures fits { first % 8 + result ≤ 8 }
     ensures full { result < count → first % 8 + result ≡ 8 }
 {
-    let room = PAGE_BLOCKS as usize - place_of(first);
+    let room = PAGE_BLOCKS as usize - position_of(first);
     room.min(count)
 }

@@ -41,14 +41,14 @@ impl PageSet {
         let _was = self.pages.remove(&page);
     }
 
-    /// Returns the first page at or behind a place; `None` where none stands there.
-    pub(crate) fn next_from(&self, place: u64) -> Option<u64>
+    /// Returns the first page at or behind a number; `None` where none stands there.
+    pub(crate) fn next_from(&self, number: u64) -> Option<u64>
         ensures member { IfSome result (λ page. IsTrue (has self.now page)) }
-        ensures place { IfSome result (λ page. place ≤ page) }
-        ensures least { IfSome result (λ page. (p : ℕ) → place ≤ p → p < page → has self.now p ≡ false) }
-        ensures none { IfNone result ((p : ℕ) → place ≤ p → has self.now p ≡ false) }
+        ensures behind { IfSome result (λ page. number ≤ page) }
+        ensures least { IfSome result (λ page. (p : ℕ) → number ≤ p → p < page → has self.now p ≡ false) }
+        ensures none { IfNone result ((p : ℕ) → number ≤ p → has self.now p ≡ false) }
     {
-        match self.pages.range(place..).next() {
+        match self.pages.range(number..).next() {
             Some(page) => Some(*page),
             None => None,
         }

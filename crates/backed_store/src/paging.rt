@@ -120,14 +120,14 @@ impl BackedStore {
         true
     }
 
-    /// Returns the page that was noted at a place, the oldest at 0; `None` from the number of noted pages on. At most 64 are
+    /// Returns the page that was noted at an index, the oldest at 0; `None` from the number of noted pages on. At most 64 are
     /// noted: one more drops the oldest.
-    pub fn lost_page(&self, place: usize) -> Option<u64>
-        ensures place { result ≡ slice_get (noted self.now) place }
+    pub fn lost_page(&self, index: usize) -> Option<u64>
+        ensures index { result ≡ slice_get (noted self.now) index }
         ensures lost { IfSome result (λ page. is_lost page (ledger_of self.now) ≡ true) }
-        ensures bound { IfSome result (λ page. place < 64) }
+        ensures bound { IfSome result (λ page. index < 64) }
     {
-        self.lost_pages.at(place)
+        self.lost_pages.at(index)
     }
 
     /// Forgets that a page is lost. Nothing else changes.

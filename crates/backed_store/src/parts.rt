@@ -6,7 +6,7 @@ ghost use Rattle.block_store.specs.Inner.Pages.{is_beside};
 ghost use Rattle.backed_store.specs.Stores.{contents, holds, has_room, IsHost};
 
 use crate::backed::BackedStore;
-use crate::numbers::{page_of, place_of};
+use crate::numbers::{page_of, position_of};
 use block_store::{BLOCK_BYTES, blocks_at};
 
 impl BackedStore {
@@ -19,7 +19,7 @@ impl BackedStore {
         ensures len { length result.now ≡ BLOCK_BYTES * count }
     {
         match self.cache.slots.held(page_of(first)) {
-            Some(bytes) => blocks_at(bytes, place_of(first), count),
+            Some(bytes) => blocks_at(bytes, position_of(first), count),
             None => &[],
         }
     }
@@ -38,7 +38,7 @@ impl BackedStore {
         ensures size { self.new.capacity ≡ self.old.capacity }
         ensures budget { self.new.cache.budget ≡ self.old.cache.budget }
     {
-        self.cache.put(page_of(first), place_of(first), bytes);
+        self.cache.put(page_of(first), position_of(first), bytes);
     }
 
     /// Puts the block into each of `count` places of one page.
@@ -55,6 +55,6 @@ impl BackedStore {
         ensures budget { self.new.cache.budget ≡ self.old.cache.budget }
     {
         self.cache
-            .fill(page_of(first), place_of(first), count, block);
+            .fill(page_of(first), position_of(first), count, block);
     }
 }

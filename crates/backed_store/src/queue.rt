@@ -23,7 +23,7 @@ impl PageQueue {
         }
     }
 
-    /// Returns how many places it has.
+    /// Returns how many entries it has.
     pub(crate) fn len(&self) -> usize
         ensures { result ≡ queue_len self.now }
     {

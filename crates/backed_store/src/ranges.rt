@@ -7,7 +7,7 @@ ghost use Rattle.block_store.specs.declared.readiness.Readiness.TheVariants.{Rea
 ghost use Rattle.backed_store.specs.Stores.{contents, holds, is_coming, has_room, IsSame, IsHost};
 
 use crate::backed::BackedStore;
-use crate::numbers::{in_page, page_of, place_of};
+use crate::numbers::{in_page, page_of, position_of};
 use block_store::{BLOCK_BYTES, Readiness};
 
 impl BackedStore {
@@ -97,8 +97,8 @@ impl BackedStore {
             return Readiness::Ready;
         }
         let end = first + count as u64;
-        let head = self.ask_where(place_of(first) != 0, first);
-        let tail = self.ask_where(place_of(end) != 0, end);
+        let head = self.ask_where(position_of(first) != 0, first);
+        let tail = self.ask_where(position_of(end) != 0, end);
         head.and(tail)
     }
 

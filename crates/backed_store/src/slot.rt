@@ -8,7 +8,7 @@ use block_store::{BLOCK_BYTES, put_blocks, put_copies, put_zeros};
 use foundation::NoMemory;
 use std::alloc::Global;
 
-/// The place of a page in memory: its bytes, and what is known of it.
+/// The slot of a page in memory: its bytes, and what is known of it.
 #[derive(Drop)]
 pub(crate) struct Slot {
     pub(crate) mark: Mark,

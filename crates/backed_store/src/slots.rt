@@ -184,7 +184,7 @@ impl Slots {
         }
     }
 
-    /// Puts the bytes that came from the host's storage in the place of a page that has a slot.
+    /// Puts the bytes that came from the host's storage in the slot of a page that has one.
     pub(crate) fn load(&mut self, page: u64, bytes: &[u8])
         requires some { IsTrue (is_some (mark_at self.old page)) }
         requires len { length bytes.now ≡ PAGE_BYTES }

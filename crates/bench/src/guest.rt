@@ -1,4 +1,4 @@
-//! A guest that keeps so many requests available on each of two queues, over and over, from the same places in its
+//! A guest that keeps so many requests available on each of two queues, over and over, from the same addresses in its
 //! memory. Each queue's requests are for a unit of its own, and come in two sets. The guest looks at one set and makes
 //! it available again while the device has the other. So a queue doesn't stand empty meanwhile.
 
@@ -53,11 +53,11 @@ struct Part {
     flag: u16,
 }
 
-/// Returns the part at a place of a request's chain: the request, the response, and the data, which stand before the
+/// Returns the part at an index of a request's chain: the request, the response, and the data, which stand before the
 /// response where the device reads them, and else behind it.
-fn part_at(work: &Work, lun: u8, number: u16, place: u16) -> Part {
+fn part_at(work: &Work, lun: u8, number: u16, index: u16) -> Part {
     let data = data_at(work, lun, number);
-    match (place, work.kind.data()) {
+    match (index, work.kind.data()) {
         (0, _) => Part {
             addr: request_at(work, lun, number),
             len: REQUEST_BYTES,
@@ -81,9 +81,9 @@ fn part_at(work: &Work, lun: u8, number: u16, place: u16) -> Part {
     }
 }
 
-/// Returns the flags of the part at a place, but for those of a round.
-fn flags_at(work: &Work, part: Part, place: u16) -> u16 {
-    if place.wrapping_add(1) < work.kind.parts() {
+/// Returns the flags of the part at an index, but for those of a round.
+fn flags_at(work: &Work, part: Part, index: u16) -> u16 {
+    if index.wrapping_add(1) < work.kind.parts() {
         part.flag | NEXT
     } else {
         part.flag
@@ -114,9 +114,9 @@ fn packed_set(
 ) -> Result<Vec<u8>, AllocError> {
     let mut slots = Vec::new(alloc);
     for number in work.first_of(set)..work.first_of(set.wrapping_add(1)) {
-        for place in 0..work.kind.parts() {
-            let part = part_at(work, lun, number, place);
-            let flags = flags_at(work, part, place) | wrap;
+        for index in 0..work.kind.parts() {
+            let part = part_at(work, lun, number, index);
+            let flags = flags_at(work, part, index) | wrap;
             slots.extend_from_slice(&descriptor(part.addr, part.len, [number, flags]))?;
         }
     }
@@ -159,18 +159,18 @@ fn are_well(found: &[u8]) -> Option<bool> {
 fn put_split<D: Device>(device: &mut D, work: &Work, lun: u8, number: u16) {
     let queue = QUEUE * u64::from(lun);
     let head = number.wrapping_mul(CHAIN);
-    for place in 0..work.kind.parts() {
-        let at = head.wrapping_add(place);
-        let part = part_at(work, lun, number, place);
-        let pair = [flags_at(work, part, place), at.wrapping_add(1)];
+    for index in 0..work.kind.parts() {
+        let at = head.wrapping_add(index);
+        let part = part_at(work, lun, number, index);
+        let pair = [flags_at(work, part, index), at.wrapping_add(1)];
         let bytes = descriptor(part.addr, part.len, pair);
         device.poke(queue + 16 * u64::from(at), bytes.as_slice());
     }
     // The ring has an entry for each descriptor.
     for round in 0..CHAIN {
         let entry = number.wrapping_add(round.wrapping_mul(work.depth));
-        let place = queue + DRIVER + 4 + 2 * u64::from(entry);
-        device.poke(place, head.to_le_bytes().as_slice());
+        let addr = queue + DRIVER + 4 + 2 * u64::from(entry);
+        device.poke(addr, head.to_le_bytes().as_slice());
     }
 }
 

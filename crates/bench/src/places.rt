@@ -1,4 +1,4 @@
-//! The guest's requests, and their places in memory.
+//! The guest's requests, and their addresses in memory.
 
 ghost use Rattle.std.specs.Prelude.{◌<◌, ◌^◌};
 

@@ -18,7 +18,7 @@ module _ (l r : List ℕ) (k : ℕ) (on_left : k < length l) (on_right : k < len
   equal-at : get_or l k 0 ≡ get_or r k 0 → equal (get_or (zip l r) k (0, 0)) ≡ true
   equal-at same = rw (get_or-zip l r k (0, 0) on_left on_right, eq-eqb (get_or l k 0) (get_or r k 0) same) refl
 
--- and so at a place before
+-- and so at an index before
 equal_before : (l r : List ℕ) (k : ℕ) → k < length l → k < length r → (j : ℕ) → j < k → get_or l j 0 ≡ get_or r j 0 → equal (get_or (zip l r) j (0, 0)) ≡ true
 equal_before l r k on_left on_right j before same = equal-at l r j (omega arith) (omega arith) same
 
@@ -37,9 +37,9 @@ module _ (l r : List ℕ) (k : ℕ) (on_left : k < length l) (on_right : k < len
   pub first_unequal-at : ((j : ℕ) → j < k → get_or l j 0 ≡ get_or r j 0) → get_or l k 0 ≢ get_or r k 0 → first_unequal l r ≡ Some k
   first_unequal-at same differ =
       let inside : k < length (zip l r) = rw (length-zip l r) (omega arith) in
-      let place : prefix_len equal (zip l r) ≡ k = first_equal same differ inside in
+      let index : prefix_len equal (zip l r) ≡ k = first_equal same differ inside in
       let test : nat_lt k (length (zip l r)) ≡ true = grind (arith, nat_tests) in
-      rw (place, test) refl
+      rw (index, test) refl
 
 all_equal : (l : List ℕ) → prefix_len equal (zip l l) ≡ length (zip l l)
 all_equal l =
@@ -53,11 +53,11 @@ first_unequal-none l =
     let test : nat_lt (length (zip l l)) (length (zip l l)) ≡ false = grind (arith, nat_tests) in
     rw (all_equal l, test) refl
 
--- the place found in a list of so many, where so many before it don't pass
+-- the index found in a list of so many, where so many before it don't pass
 abbrev found : ℕ → ℕ → Option ℕ
 found n all = cond (ltb n all) (Some n) None
 
--- a place, counted from so many before
+-- an index, counted from so many before
 abbrev pub shifted : ℕ → Option ℕ → Option ℕ
 shifted k None = None
 shifted k (Some n) = Some (k + n)
@@ -125,7 +125,7 @@ pub shifted-shifted : (j k : ℕ) (x : Option ℕ) → shifted j (shifted k x) �
 shifted-shifted j k None = refl
 shifted-shifted j k (Some n) = ap (λ m. Some m) (omega arith)
 
--- Runs of blocks of 512 bytes from one place on, and from another.
+-- Runs of blocks of 512 bytes from one block on, and from another.
 module _ (f g : Blocks) (lba i n : ℕ) (inside : i < n) (on_left : length (f i) ≡ 512) (on_right : length (g (lba + i)) ≡ 512) where
   first_block : (h : Blocks) (first : ℕ) → run h first (n - i) ≡ h first ++ run h (first + 1) (n - (i + 1))
   first_block h first =

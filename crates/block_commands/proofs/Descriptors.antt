@@ -17,9 +17,9 @@ left n k bytes = descriptors_in (n - k) (drop (16 * k) bytes)
 pub left-more : (n k : ℕ) (bytes : List ℕ) → k < n → left n k bytes ≡ descriptor (drop (16 * k) bytes) ∷ left n (k + 1) bytes
 left-more n k bytes below =
     let some : n - k ≡ suc (n - (k + 1)) = omega arith in
-    let place : 16 * k + 16 ≡ 16 * (k + 1) = omega arith in
+    let offset : 16 * k + 16 ≡ 16 * (k + 1) = omega arith in
     ap (λ m. descriptors_in m (drop (16 * k) bytes)) some
-    ∙ ap (λ l. descriptor (drop (16 * k) bytes) ∷ descriptors_in (n - (k + 1)) l) (drop-drop 16 (16 * k) bytes ∙ ap (λ m. drop m bytes) place)
+    ∙ ap (λ l. descriptor (drop (16 * k) bytes) ∷ descriptors_in (n - (k + 1)) l) (drop-drop 16 (16 * k) bytes ∙ ap (λ m. drop m bytes) offset)
 
 pub left-none : (n : ℕ) (bytes : List ℕ) → left n n bytes ≡ []
 left-none n bytes =

@@ -59,11 +59,11 @@ overwritten-or blocks lba n limit bytes held below whole size is b =
   where
     here : lba ≤ b → b < lba + n → nth_block held (b - lba) ≡ or_bytes (blocks b) (nth_block bytes (b - lba))
     here from to =
-        let place : lba + (b - lba) ≡ b = omega (arith, from) in
+        let number : lba + (b - lba) ≡ b = omega (arith, from) in
         ap (λ l. nth_block l (b - lba)) is
         ∙ nth_block-or (run blocks lba n) bytes (b - lba)
         ∙ ap (λ l. or_bytes l (nth_block bytes (b - lba)))
-        (nth_block-run blocks lba n (b - lba) limit (omega (arith, from, to)) below whole ∙ ap blocks place)
+        (nth_block-run blocks lba n (b - lba) limit (omega (arith, from, to)) below whole ∙ ap blocks number)
 
 or-next : (xs ys : List ℕ) (i : ℕ) → i < length xs → i < length ys →
     let now = or_bytes (take i xs) (take i ys) ++ drop i xs in

@@ -80,9 +80,9 @@ fn count_alike<S: Store>(store: &S, lba: u64, count: u32, zero: bool, held: &mut
     requires room { 512 ≤ vec_capacity held.old }
     ensures count { result ≡ alike (S.block_at store.now) lba count }
 {
-    for place in 1..count {
-        if is_zero_at(store, lba + u64::from(place), held) != zero {
-            return place;
+    for index in 1..count {
+        if is_zero_at(store, lba + u64::from(index), held) != zero {
+            return index;
         }
     }
     count

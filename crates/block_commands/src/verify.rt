@@ -39,37 +39,37 @@ pub(crate) fn verify<S: Store>(
         return Ok(());
     }
     let mut held = Vec::with_capacity(alloc, BLOCK_BYTES)?;
-    for place in 0..blocks {
-        let expected = expected_at(sent, bytes, place, blocks);
-        if let Some(offset) = unequal_at(store, lba + u64::from(place), expected, &mut held) {
+    for index in 0..blocks {
+        let expected = expected_at(sent, bytes, index, blocks);
+        if let Some(offset) = unequal_at(store, lba + u64::from(index), expected, &mut held) {
             return Err(Failure::Refused(Sense::miscompare(
-                BLOCK_BYTES as u32 * u32::from(place) + offset,
+                BLOCK_BYTES as u32 * u32::from(index) + offset,
             )));
         }
     }
     Ok(())
 }
 
-/// Returns the data with which the block of this place in the range is compared.
-fn expected_at(sent: VerifyData, bytes: &[u8], place: u16, blocks: u16) -> &[u8]
+/// Returns the data with which the block of this index in the range is compared.
+fn expected_at(sent: VerifyData, bytes: &[u8], index: u16, blocks: u16) -> &[u8]
     requires size { length bytes.now ≡ 512 * sent_blocks sent blocks }
-    requires inside { place < blocks }
-    ensures bytes { result.now ≡ to_verify sent bytes.now place }
+    requires inside { index < blocks }
+    ensures bytes { result.now ≡ to_verify sent bytes.now index }
     ensures len { length result.now ≡ 512 }
 {
     match sent {
-        VerifyData::EachBlock => block_in(bytes, place),
+        VerifyData::EachBlock => block_in(bytes, index),
         VerifyData::OneBlock => bytes,
     }
 }
 
-/// Returns the block of this place in some bytes.
-fn block_in(bytes: &[u8], place: u16) -> &[u8]
-    requires { 512 * place + 512 ≤ length bytes.now }
-    ensures block { result.now ≡ nth_block bytes.now place }
+/// Returns the block of this index in some bytes.
+fn block_in(bytes: &[u8], index: u16) -> &[u8]
+    requires { 512 * index + 512 ≤ length bytes.now }
+    ensures block { result.now ≡ nth_block bytes.now index }
     ensures len { length result.now ≡ 512 }
 {
-    let (_, later) = bytes.split_at(BLOCK_BYTES * usize::from(place));
+    let (_, later) = bytes.split_at(BLOCK_BYTES * usize::from(index));
     &later[..BLOCK_BYTES]
 }
 

@@ -25,13 +25,13 @@ run-equal p q first zero p_whole q_whole same k below = absurd (omega arith)
 run-equal p q first (suc n) p_whole q_whole same zero below =
     let here : p first ≡ q first =
     sym (front (p first) (run p (first + 1) n) (p_whole first)) ∙ ap (λ l. take 512 l) same ∙ front (q first) (run q (first + 1) n) (q_whole first) in
-    let place : first + 0 ≡ first = omega arith in
-    ap p place ∙ here ∙ sym (ap q place)
+    let position : first + 0 ≡ first = omega arith in
+    ap p position ∙ here ∙ sym (ap q position)
 run-equal p q first (suc n) p_whole q_whole same (suc k) below =
     let rest : run p (first + 1) n ≡ run q (first + 1) n =
     sym (back (p first) (run p (first + 1) n) (p_whole first)) ∙ ap (λ l. drop 512 l) same ∙ back (q first) (run q (first + 1) n) (q_whole first) in
-    let place : first + suc k ≡ first + 1 + k = omega arith in
-    ap p place ∙ run-equal p q (first + 1) n p_whole q_whole rest k (omega arith) ∙ sym (ap q place)
+    let position : first + suc k ≡ first + 1 + k = omega arith in
+    ap p position ∙ run-equal p q (first + 1) n p_whole q_whole rest k (omega arith) ∙ sym (ap q position)
 
 -- a range in which blocks are equal, by its run
 pub runs-agree : (p q : Blocks) (first n : ℕ) → ((b : ℕ) → length (p b) ≡ 512) → ((b : ℕ) → length (q b) ≡ 512) →
@@ -44,8 +44,8 @@ runs-agree p q first n p_whole q_whole = (forth, rearwards)
         at_standing : Standing first n b → p b ≡ q b
         at_standing (before low) = let no = rw (is_within-before first n b low) at within in cc
         at_standing (inside reaches short) =
-            let place : first + (b - first) ≡ b = omega arith in
-            sym (ap p place) ∙ run-equal p q first n p_whole q_whole same (b - first) (omega arith) ∙ ap q place
+            let position : first + (b - first) ≡ b = omega arith in
+            sym (ap p position) ∙ run-equal p q first n p_whole q_whole same (b - first) (omega arith) ∙ ap q position
         at_standing (behind past) = let no = rw (is_within-behind first n b past) at within in cc
 
     rearwards : ((b : ℕ) → IsTrue (is_within first n b) → p b ≡ q b) → run p first n ≡ run q first n

@@ -37,17 +37,17 @@ made-below row page made =
       | inr below ↦ below.1
     ]
 
--- a range of one page, by the numbers of the page and of the place in it
+-- a range of one page, by the numbers of the page and of the position in it
 pub part-changed : (old new : ℕ → List ℕ) (page from first count : ℕ) (w : List ℕ) (given : Blocks) →
     page ≡ first / 8 → from ≡ first % 8 → first % 8 + count ≤ 8 →
     new page ≡ w → ((q : ℕ) → q ≢ page → new q ≡ old q) →
     ((k : ℕ) → k < 8 → blocks_in w k ≡ covered (blocks_in (old page)) (λ j. given (8 * page + j)) from count k) →
     (b : ℕ) → paged new b ≡ covered (paged old) given first count b
-part-changed old new page from first count w given in_page at_place fits now others here =
+part-changed old new page from first count w given in_page at_position fits now others here =
     paged-covered old new given first count fits
     (subst (λ p. (q : ℕ) → q ≢ p → new q ≡ old q) in_page others)
     (subst (λ p. (k : ℕ) → k < 8 → blocks_in (new p) k ≡ covered (blocks_in (old p)) (λ j. given (8 * p + j)) (first % 8) count k) in_page
-    (subst (λ r. (k : ℕ) → k < 8 → blocks_in (new page) k ≡ covered (blocks_in (old page)) (λ j. given (8 * page + j)) r count k) at_place
+    (subst (λ r. (k : ℕ) → k < 8 → blocks_in (new page) k ≡ covered (blocks_in (old page)) (λ j. given (8 * page + j)) r count k) at_position
     (λ k below. ap (λ l. blocks_in l k) now ∙ here k below)))
 
 -- a page that was written
@@ -56,8 +56,8 @@ pub part-written : (row : List Page) (page from first count : ℕ) (old new : Pa
     ((k : ℕ) → from ≤ k → k < from + count → length (given (8 * page + k)) ≡ 512) →
     ((k : ℕ) → nth_block new.bytes.items k ≡ covered (nth_block old.bytes.items) (λ j. given (8 * page + j)) from count k) →
     (b : ℕ) → row_blocks (set row page new) b ≡ covered (row_blocks row) given first count b
-part-written row page from first count old new given in_page at_place fits there is whole written =
-    part-changed (row_kept row) (row_kept (set row page new)) page from first count new.bytes.items given in_page at_place fits
+part-written row page from first count old new given in_page at_position fits there is whole written =
+    part-changed (row_kept row) (row_kept (set row page new)) page from first count new.bytes.items given in_page at_position fits
     (kept-set row page new there) (kept-others row page new)
     (λ k below. blocks_in-covered old.bytes.items new.bytes.items (λ j. given (8 * page + j)) from count whole written k
     ∙ ap (λ l. covered (blocks_in l) (λ j. given (8 * page + j)) from count k) (sym (kept-at row page old there is)))
@@ -70,17 +70,17 @@ part-whole row page first new bytes in_page fits there is size =
     part-changed (row_kept row) (row_kept (set row page new)) page 0 first 8 bytes (λ c. nth_block bytes (c - first)) in_page (omega arith) fits
     (kept-set row page new there ∙ is) (kept-others row page new)
     (λ k below.
-    let place : 8 * page + k - first ≡ k = omega arith in
+    let position : 8 * page + k - first ≡ k = omega arith in
     let whole : length (nth_block bytes k) ≡ 512 = length-nth_block bytes k (omega arith) in
-    rw (is_within-inside 0 8 k (omega arith) below, place) (blocks_in-whole bytes k whole))
+    rw (is_within-inside 0 8 k (omega arith) below, position) (blocks_in-whole bytes k whole))
 
 -- a page that was cleared
 pub part-cleared : (row : List Page) (page from first count : ℕ) (old new : Page) →
     page ≡ first / 8 → from ≡ first % 8 → first % 8 + count ≤ 8 → page < length row → old ≡ get_or row page old →
     ((k : ℕ) → k < 8 → blocks_in new.bytes.items k ≡ zeroed (blocks_in old.bytes.items) from count k) →
     (b : ℕ) → row_blocks (set row page new) b ≡ zeroed (row_blocks row) first count b
-part-cleared row page from first count old new in_page at_place fits there is cleared =
-    part-changed (row_kept row) (row_kept (set row page new)) page from first count new.bytes.items (λ _. zero_block) in_page at_place fits
+part-cleared row page from first count old new in_page at_position fits there is cleared =
+    part-changed (row_kept row) (row_kept (set row page new)) page from first count new.bytes.items (λ _. zero_block) in_page at_position fits
     (kept-set row page new there) (kept-others row page new)
     (λ k below. cleared k below ∙ ap (λ l. zeroed (blocks_in l) from count k) (sym (kept-at row page old there is)))
 
@@ -104,7 +104,7 @@ made-same row page old new there is same p =
       | inr apart ↦ ap (λ l. nat_lt 0 (length l)) (kept-others row page new p apart)
     ]
 
--- a page of zeros in the place of one that keeps no bytes
+-- a page of zeros in the slot of one that keeps no bytes
 pub made-zeros : (row : List Page) (page : ℕ) (new : Page) → page < length row →
     is_made_in row page ≡ false → new.bytes.items ≡ replicate 4096 0 → (b : ℕ) → row_blocks (set row page new) b ≡ row_blocks row b
 made-zeros row page new there unmade_before zeros b =

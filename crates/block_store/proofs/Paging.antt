@@ -144,8 +144,8 @@ pub run-part : (pages : ℕ → List ℕ) (first n : ℕ) → first % 8 + n ≤ 
 run-part pages first n fits =
     let same : ((k : ℕ) → k < n → blocks_in (pages (first / 8)) (first % 8 + k) ≡ paged pages (first + k)) = λ k below.
     let page : (first + k) / 8 ≡ first / 8 = omega arith in
-    let place : (first + k) % 8 ≡ first % 8 + k = omega arith in
-    rw (page, place) refl in
+    let position : (first + k) % 8 ≡ first % 8 + k = omega arith in
+    rw (page, position) refl in
     run-same (blocks_in (pages (first / 8))) (paged pages) (first % 8) first n same
 
 -- a page that keeps its bytes, and one that keeps none
@@ -190,8 +190,8 @@ nth_block-part bytes n done j fits =
     let all : n ≡ 512 * j + (n - 512 * j) = omega arith in
     ap (λ i. drop (512 * j) (take i (drop (512 * done) bytes))) all ∙ drop-take (512 * j) (n - 512 * j) (drop (512 * done) bytes) in
     let offset : 512 * done + 512 * j ≡ 512 * (done + j) = omega arith in
-    let place : drop (512 * j) (drop (512 * done) bytes) ≡ drop (512 * (done + j)) bytes = drop-drop (512 * j) (512 * done) bytes ∙ ap (λ i. drop i bytes) offset in
-    ap (λ l. take 512 l) (cut ∙ ap (λ l. take (n - 512 * j) l) place) ∙ take-take 512 (n - 512 * j) (drop (512 * (done + j)) bytes) (omega arith)
+    let position : drop (512 * j) (drop (512 * done) bytes) ≡ drop (512 * (done + j)) bytes = drop-drop (512 * j) (512 * done) bytes ∙ ap (λ i. drop i bytes) offset in
+    ap (λ l. take 512 l) (cut ∙ ap (λ l. take (n - 512 * j) l) position) ∙ take-take 512 (n - 512 * j) (drop (512 * (done + j)) bytes) (omega arith)
 
 -- a part of the bytes over a part of the range
 pub chunk-covered : (now : Blocks) (bytes : List ℕ) (first done some n : ℕ) → n ≡ 512 * some → done + some ≤ block_count bytes → (b : ℕ) →
@@ -208,10 +208,10 @@ chunk-covered now bytes first done some n size fits b = rw count (at_standing (s
         ≡ covered now (λ c. nth_block bytes (c - first)) (first + done) some b
     at_standing (before low) = rw (is_within-before (first + done) some b low) refl
     at_standing (inside reaches short) =
-        let place : done + (b - (first + done)) ≡ b - first = omega arith in
+        let position : done + (b - (first + done)) ≡ b - first = omega arith in
         rw (is_within-inside (first + done) some b reaches short)
         (nth_block-part bytes n done (b - (first + done)) (omega arith)
-        ∙ ap (λ i. nth_block bytes i) place)
+        ∙ ap (λ i. nth_block bytes i) position)
     at_standing (behind past) = rw (is_within-behind (first + done) some b past) refl
 
 -- what was prepared with the bytes, over the range

@@ -22,8 +22,8 @@ part_behind a k xs ys at n behind within len = ap (λ l. take n l) (drop-put_mid
 pub part_inside : (a k : ℕ) (xs ys : List ℕ) (o n : ℕ) → o + n ≤ length ys → a ≤ length xs → take n (drop (a + o) (put_mid a k xs ys)) ≡ take n (drop o ys)
 part_inside a k xs ys o n inside within =
     let len : length (take a xs) ≡ a = length-take-le a xs within in
-    let place : drop (a + o) (put_mid a k xs ys) ≡ drop o (ys ++ post_of a k xs) =
+    let position : drop (a + o) (put_mid a k xs ys) ≡ drop o (ys ++ post_of a k xs) =
     ap (λ i. drop (i + o) (put_mid a k xs ys)) (sym len) ∙ drop-append-add (take a xs) (ys ++ post_of a k xs) o in
     let cut : drop o (ys ++ post_of a k xs) ≡ drop o ys ++ post_of a k xs = drop-append-le o ys (post_of a k xs) (omega arith) in
     let fits : n ≤ length (drop o ys) = rw (length-drop o ys) (omega arith) in
-    ap (λ l. take n l) (place ∙ cut) ∙ take-append-le n (drop o ys) (post_of a k xs) fits
+    ap (λ l. take n l) (position ∙ cut) ∙ take-append-le n (drop o ys) (post_of a k xs) fits

@@ -1,4 +1,4 @@
--- Pages that have places, and such as go from one place to another.
+-- Pages that have slots, and such as go from one slot to another.
 use Rattle.std.specs.Prelude.{IsTrue}
 use Rattle.std.proofs.Common.{◌≡◌, ◌≢◌, ℕ, ◌+◌, ◌-◌, ◌*◌, ◌/◌, ◌%◌, ◌<◌, ◌≤◌, Bool, true, false, ◌&&◌, ◌==◌, nat_lt, List, [], length, inl, inr, if◌then◌else◌, refl, ap, ◌∙◌, sym, arith}
 use Rattle.std.proofs.lemmas.Bool.{cases_eq}
@@ -26,13 +26,13 @@ is-below a b low = grind (arith, nat_tests)
 pub from-row : (start : ℕ) (row : List Page) (b : ℕ) → start ≤ b / 8 → paged (kept_from start row) b ≡ row_blocks row (b - 8 * start)
 from-row start row b reaches =
     let page : b / 8 - start ≡ (b - 8 * start) / 8 = omega arith in
-    let place : b % 8 ≡ (b - 8 * start) % 8 = omega arith in
-    rw (not_below (b / 8) start reaches, page, place) refl
+    let position : b % 8 ≡ (b - 8 * start) % 8 = omega arith in
+    rw (not_below (b / 8) start reaches, page, position) refl
 
 -- blocks of it, end to end
 pub run-from : (start : ℕ) (row : List Page) (from first count : ℕ) → start ≤ first / 8 → from ≡ first - start * 8 →
     run (row_blocks row) from count ≡ run (paged (kept_from start row)) first count
-run-from start row from first count reaches place =
+run-from start row from first count reaches position =
     run-same (row_blocks row) (paged (kept_from start row)) from first count
     (λ k short.
     let number : from + k ≡ first + k - 8 * start = omega arith in
@@ -42,7 +42,7 @@ run-from start row from first count reaches place =
 pub from-covered : (start : ℕ) (row new : List Page) (given : Blocks) (from first count : ℕ) → start ≡ first / 8 → from ≡ first % 8 →
     ((k : ℕ) → row_blocks new k ≡ covered (row_blocks row) (λ j. given (8 * start + j)) from count k) →
     (b : ℕ) → paged (kept_from start new) b ≡ covered (paged (kept_from start row)) given first count b
-from-covered start row new given from first count begun place here b =
+from-covered start row new given from first count begun position here b =
     elim (leb_tells start (b / 8)) [
       | inl reaches ↦ there reaches.1 (standing first count b)
       | inr low ↦ rw (below (b / 8) start low.1, is_within-before first count b (omega (arith, low.1))) refl
@@ -60,7 +60,7 @@ from-covered start row new given from first count begun place here b =
         rw (is_within-behind first count b past)
         (from-row start new b reaches ∙ here (b - 8 * start) ∙ rw (is_within-behind from count (b - 8 * start) (omega arith)) (sym (from-row start row b reaches)))
 
--- whether page p of rows has a place, where rows do
+-- whether page p of rows has a slot, where rows do
 pub placed : (ℕ → Bool) → (ℕ → List Page) → ℕ → Bool
 placed has rows p = has (p / 64) && nat_lt (p % 64) (length (rows (p / 64)))
 
@@ -89,7 +89,7 @@ placed-same has had rows taken put n row new changed same len p =
       | inr stays ↦ rw (stays.1, same (p / 64)) refl
     ]
 
--- how long a row is, of which a range has places
+-- how long a row is, of which a range has slots
 pub long-enough : (has : ℕ → Bool) (rows : ℕ → List Page) (row : List Page) (n page count : ℕ) → row ≡ rows n → n ≡ page / 64 → 0 < count → page % 64 + count ≤ 64 →
     ((p : ℕ) → IsTrue (is_within page count p) → IsTrue (has (p / 64) && nat_lt (p % 64) (length (rows (p / 64))))) → page % 64 + count ≤ length row
 long-enough has rows row n page count is number some fits there =
@@ -105,7 +105,7 @@ pub exchanged-here : (rows taken put : ℕ → List Page) (n : ℕ) (row new oth
     (start done page at count : ℕ) → page ≡ start + done → n ≡ page / 64 → at ≡ page % 64 → page % 64 + count ≤ 64 →
     ((p : ℕ) → row_kept new p ≡ (if is_within at count p then row_kept others (done + (p - at)) else row_kept row p)) →
     (p : ℕ) → kept_in put p ≡ (if is_within page count p then kept_from start others p else kept_in rows p)
-exchanged-here rows taken put n row new others changed start done page at count page_is number place fits here p =
+exchanged-here rows taken put n row new others changed start done page at count page_is number position fits here p =
     elim (at-row rows taken put n row new changed (p / 64)) [
       | inl it ↦ rw it.1 (here (p % 64) ∙ in_row it.0 it.2 (standing page count p))
       | inr stays ↦ rw stays.1 (elsewhere stays.0 (standing page count p))
@@ -131,7 +131,7 @@ pub exchanged-there : (rows : ℕ → List Page) (n : ℕ) (row others new : Lis
     page ≡ start + done → n ≡ page / 64 → at ≡ page % 64 → page % 64 + count ≤ 64 →
     ((p : ℕ) → row_kept new p ≡ (if is_within done count p then row_kept row (at + (p - done)) else row_kept others p)) →
     (p : ℕ) → kept_from start new p ≡ (if is_within page count p then kept_in rows p else kept_from start others p)
-exchanged-there rows n row others new start done page at count is page_is number place fits there p = at_standing (standing page count p)
+exchanged-there rows n row others new start done page at count is page_is number position fits there p = at_standing (standing page count p)
   where
     at_standing : Standing page count p → kept_from start new p ≡ (if is_within page count p then kept_in rows p else kept_from start others p)
     at_standing (inside reaches short) =

@@ -15,13 +15,13 @@ pub by-row : (rows : ℕ → List Page) (b : ℕ) → paged (kept_in rows) b ≡
 by-row rows b =
     let row : b / 8 / 64 ≡ b / 512 = omega arith in
     let page : b / 8 % 64 ≡ b % 512 / 8 = omega arith in
-    let place : b % 8 ≡ b % 512 % 8 = omega arith in
-    rw (row, page, place) refl
+    let position : b % 8 ≡ b % 512 % 8 = omega arith in
+    rw (row, page, position) refl
 
 -- a list that is blocks of one row, end to end
 pub run-row : (rows : ℕ → List Page) (row : List Page) (n from first count : ℕ) → row ≡ rows n → n ≡ first / 512 → from ≡ first % 512 →
     first % 512 + count ≤ 512 → run (row_blocks row) from count ≡ run (paged (kept_in rows)) first count
-run-row rows row n from first count is number place fits =
+run-row rows row n from first count is number position fits =
     let same : ((k : ℕ) → k < count → row_blocks row (from + k) ≡ paged (kept_in rows) (first + k)) = λ k below.
     let whole : (first + k) / 512 ≡ n = omega arith in
     let rest : (first + k) % 512 ≡ from + k = omega arith in
@@ -49,7 +49,7 @@ pub row-covered : (rows taken put : ℕ → List Page) (n : ℕ) (row new : List
     (from first count : ℕ) (given : Blocks) → n ≡ first / 512 → from ≡ first % 512 → first % 512 + count ≤ 512 →
     ((k : ℕ) → row_blocks new k ≡ covered (row_blocks row) (λ j. given (512 * n + j)) from count k) →
     (b : ℕ) → paged (kept_in put) b ≡ covered (paged (kept_in rows)) given first count b
-row-covered rows taken put n row new changed from first count given number place fits here b =
+row-covered rows taken put n row new changed from first count given number position fits here b =
     by-row put b
     ∙ pieces-covered 512 (λ m. row_blocks (rows m)) (λ m. row_blocks (put m)) given first count (omega arith) fits
     (λ m apart k. elim (at-row rows taken put n row new changed m) [
@@ -62,7 +62,7 @@ row-covered rows taken put n row new changed from first count given number place
     here_at : (k : ℕ) → row_blocks (put (first / 512)) k ≡ covered (row_blocks (rows (first / 512))) (λ j. given (first / 512 * 512 + j)) (first % 512) count k
     here_at k =
         let offset : 512 * n + k ≡ n * 512 + k = omega arith in
-        rw (sym number, sym place)
+        rw (sym number, sym position)
         (ap (λ l. row_blocks l k) changed.now ∙ here k
         ∙ ap (λ i. if is_within from count k then given i else row_blocks row k) offset
         ∙ ap (λ l. if is_within from count k then given (n * 512 + k) else row_blocks l k) changed.was)
@@ -90,7 +90,7 @@ row-same rows taken put n row new changed here b =
 pub made-in-row : (rows : ℕ → List Page) (row : List Page) (n from first count : ℕ) → row ≡ rows n → n ≡ first / 512 → from ≡ first % 512 →
     first % 512 + count ≤ 512 → ((b : ℕ) → IsTrue (is_within first count b) → IsTrue (nat_lt 0 (length (kept_in rows (b / 8))))) →
     (k : ℕ) → IsTrue (is_within from count k) → IsTrue (is_made_in row (k / 8))
-made-in-row rows row n from first count is number place fits made k within = at_standing (standing from count k)
+made-in-row rows row n from first count is number position fits made k within = at_standing (standing from count k)
   where
     at_standing : Standing from count k → IsTrue (is_made_in row (k / 8))
     at_standing (before low) = let no = rw (is_within-before from count k low) at within in cc
@@ -106,7 +106,7 @@ made-in-row rows row n from first count is number place fits made k within = at_
 pub made-of-row : (rows : ℕ → List Page) (row : List Page) (n from first count : ℕ) → rows n ≡ row → n ≡ first / 512 → from ≡ first % 512 →
     first % 512 + count ≤ 512 → ((k : ℕ) → IsTrue (is_within from count k) → IsTrue (is_made_in row (k / 8))) →
     (b : ℕ) → IsTrue (is_within first count b) → IsTrue (nat_lt 0 (length (kept_in rows (b / 8))))
-made-of-row rows row n from first count is number place fits made b within = at_standing (standing first count b)
+made-of-row rows row n from first count is number position fits made b within = at_standing (standing first count b)
   where
     at_standing : Standing first count b → IsTrue (nat_lt 0 (length (kept_in rows (b / 8))))
     at_standing (before low) = let no = rw (is_within-before first count b low) at within in cc

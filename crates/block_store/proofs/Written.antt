@@ -20,7 +20,7 @@ run-nth_block bytes first (suc n) =
 -- bytes that were written over a run are blocks that were overwritten
 pub put-overwritten : (xs ys : List ℕ) (first a k b : ℕ) → a ≡ 512 * first → k ≡ length ys → length ys % 512 ≡ 0 → first + block_count ys ≤ block_count xs →
     nth_block (put_mid a k xs ys) b ≡ overwritten (nth_block xs) first ys b
-put-overwritten xs ys first a k b place size whole range = at_standing (standing first (block_count ys) b)
+put-overwritten xs ys first a k b position size whole range = at_standing (standing first (block_count ys) b)
   where
     at_standing : Standing first (block_count ys) b → nth_block (put_mid a k xs ys) b ≡ overwritten (nth_block xs) first ys b
     at_standing (before low) =
@@ -53,13 +53,13 @@ overwritten-alike old first n ys block count alike b = rw count (at_standing (st
 -- zeros that were written over a run are blocks of zeros
 pub put-zeroed : (xs : List ℕ) (first n a k b : ℕ) → a ≡ 512 * first → k ≡ 512 * n → first + n ≤ block_count xs →
     nth_block (put_mid a k xs (replicate k 0)) b ≡ zeroed (nth_block xs) first n b
-put-zeroed xs first n a k b place size range =
+put-zeroed xs first n a k b position size range =
     let len : length (replicate k 0) ≡ k = length-replicate k 0 in
     let whole : length (replicate k 0) % 512 ≡ 0 = rw len (omega arith) in
     let count : block_count (replicate k 0) ≡ n = rw len (omega arith) in
     let fits : first + block_count (replicate k 0) ≤ block_count xs = rw count range in
     let alike : ((j : ℕ) → j < n → nth_block (replicate k 0) j ≡ zero_block) = λ j below. rw size (nth_block-replicate n j below) in
-    put-overwritten xs (replicate k 0) first a k b place (sym len) whole fits
+    put-overwritten xs (replicate k 0) first a k b position (sym len) whole fits
     ∙ overwritten-alike (nth_block xs) first n (replicate k 0) zero_block count alike b
 
 -- one block is a run of one
@@ -67,7 +67,7 @@ pub nth_block-alone : (block : List ℕ) → length block ≡ 512 → (k : ℕ) 
 nth_block-alone block size zero below = take_all 512 block (omega arith)
 nth_block-alone block size (suc k) below = absurd (omega arith)
 
--- a block in one more place
+-- a block at one more position
 pub filled-next : (old now new : Blocks) (first i : ℕ) (block : List ℕ) → length block ≡ 512 →
     ((b : ℕ) → now b ≡ filled old first i block b) → ((b : ℕ) → new b ≡ overwritten now (first + i) block b) →
     (b : ℕ) → new b ≡ filled old first (i + 1) block b

@@ -2,7 +2,7 @@
 
 ghost use Rattle.std.specs.Prelude.{◌+◌, ◌^◌, ◌<◌};
 
-use crate::numbers::{page_of, place_of};
+use crate::numbers::{page_of, position_of};
 use crate::page::Page;
 use crate::row;
 use foundation::NoMemory;
@@ -53,7 +53,7 @@ impl Edges {
         } = self;
         let last = page_of(first + u64::from(count)) - page_of(first);
         let mut row = row::between(alloc, head, last as usize, tail)?;
-        let from = place_of(first) as u64;
+        let from = position_of(first) as u64;
         let mut spare = match spare {
             Some(Prepared { row, .. }) => row,
             None => Vec::new(alloc),

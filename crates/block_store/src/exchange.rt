@@ -5,9 +5,9 @@ ghost use Rattle.block_store.specs.Blocks.{is_within};
 ghost use Rattle.block_store.specs.Pages.{paged};
 ghost use Rattle.block_store.specs.Inner.Pages.{is_beside};
 ghost use Rattle.block_store.specs.Kept.{kept, kept_at_ends, kept_from, blocks_of};
-ghost use Rattle.block_store.specs.Inner.Kept.{has_place};
+ghost use Rattle.block_store.specs.Inner.Kept.{has_slot};
 
-use crate::numbers::{PAGE_BLOCKS, ROW_PAGES, page_of, place_of};
+use crate::numbers::{PAGE_BLOCKS, ROW_PAGES, page_of, position_of};
 use crate::page::Page;
 use crate::pages::Pages;
 use crate::row;
@@ -43,8 +43,8 @@ impl Pages {
     {
         let end = first + u64::from(count);
         let apart = page_of(end) != page_of(first);
-        let head = count != 0 && (place_of(first) != 0 || !apart);
-        let tail = count != 0 && place_of(end) != 0 && apart;
+        let head = count != 0 && (position_of(first) != 0 || !apart);
+        let tail = count != 0 && position_of(end) != 0 && apart;
         let head = self.copy_where(head, alloc, page_of(first))?;
         let tail = self.copy_where(tail, alloc, page_of(end))?;
         Ok((head, tail))
@@ -70,18 +70,18 @@ impl Pages {
         }
         let start = page_of(first);
         let end = first + u64::from(count);
-        let before = place_of(first);
-        let behind = (PAGE_BLOCKS - place_of(end)) % PAGE_BLOCKS;
+        let before = position_of(first);
+        let behind = (PAGE_BLOCKS - position_of(end)) % PAGE_BLOCKS;
         let head = self.is_same(start, row, first - before as u64, before);
         let tail = self.is_same(start, row, end, behind);
         head && tail
     }
 
-    /// Makes places for `count` pages of one row from `page` on.
+    /// Makes slots for `count` pages of one row from `page` on.
     fn place_part(&mut self, alloc: Global, page: u64, count: usize) -> Result<(), NoMemory>
         requires { page % 64 + count ≤ 64 }
-        ensures placed { OnOk result ((p : ℕ) → IsTrue (is_within page count p) → IsTrue (has_place self.new p)) }
-        ensures others { (p : ℕ) → IsTrue (has_place self.old p) → IsTrue (has_place self.new p) }
+        ensures placed { OnOk result ((p : ℕ) → IsTrue (is_within page count p) → IsTrue (has_slot self.new p)) }
+        ensures others { (p : ℕ) → IsTrue (has_slot self.old p) → IsTrue (has_slot self.new p) }
         ensures kept { (p : ℕ) → kept self.new p ≡ kept self.old p }
     {
         let number = page / ROW_PAGES as u64;
@@ -92,7 +92,7 @@ impl Pages {
         reached
     }
 
-    /// Makes places for `count` pages from `start` on.
+    /// Makes slots for `count` pages from `start` on.
     pub(crate) fn place_all(
         &mut self,
         alloc: Global,
@@ -100,7 +100,7 @@ impl Pages {
         count: usize,
     ) -> Result<(), NoMemory>
         requires { start + count < 2 ^ 64 }
-        ensures placed { OnOk result ((p : ℕ) → IsTrue (is_within start count p) → IsTrue (has_place self.new p)) }
+        ensures placed { OnOk result ((p : ℕ) → IsTrue (is_within start count p) → IsTrue (has_slot self.new p)) }
         ensures kept { (p : ℕ) → kept self.new p ≡ kept self.old p }
     {
         let mut done = 0;
@@ -125,13 +125,13 @@ impl Pages {
         requires number { start + done + count < 2 ^ 64 }
         requires some { 0 < count }
         requires part { (start + done) % 64 + count ≤ 64 }
-        requires placed { (p : ℕ) → IsTrue (is_within (start + done) count p) → IsTrue (has_place self.old p) }
+        requires placed { (p : ℕ) → IsTrue (is_within (start + done) count p) → IsTrue (has_slot self.old p) }
         requires long { done + count ≤ vec_len row.old }
         ensures here { (p : ℕ) → kept self.new p
             ≡ (if is_within (start + done) count p then kept_from start row.old.items p else kept self.old p) }
         ensures there { (p : ℕ) → kept_from start row.new.items p
             ≡ (if is_within (start + done) count p then kept self.old p else kept_from start row.old.items p) }
-        ensures places { (p : ℕ) → has_place self.new p ≡ has_place self.old p }
+        ensures slots { (p : ℕ) → has_slot self.new p ≡ has_slot self.old p }
         ensures len { vec_len row.new ≡ vec_len row.old }
     {
         let page = start + done as u64;
@@ -156,7 +156,7 @@ impl Pages {
         count: usize,
     )
         requires number { start + count < 2 ^ 64 }
-        requires placed { (p : ℕ) → IsTrue (is_within start count p) → IsTrue (has_place self.old p) }
+        requires placed { (p : ℕ) → IsTrue (is_within start count p) → IsTrue (has_slot self.old p) }
         requires long { count ≤ vec_len row.old }
         ensures here { (p : ℕ) → kept self.new p
             ≡ (if is_within start count p then kept_from start row.old.items p else kept self.old p) }

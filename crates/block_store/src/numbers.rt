@@ -1,4 +1,4 @@
-//! Finds where a block stands: its page, the row of that page, and its places in both.
+//! Finds where a block stands: its page, the row of that page, and its position in both.
 
 ghost use Rattle.std.specs.Prelude.{◌≡◌, ◌+◌, ◌-◌, ◌/◌, ◌%◌, ◌^◌, ◌<◌, ◌≤◌, ◌==◌, if◌then◌else◌};
 
@@ -33,14 +33,14 @@ pub(crate) fn page_end(first: u64, count: u32) -> u64
 pub(crate) fn page_from(block: u64) -> u64
     ensures { result ≡ (block + 7) / 8 }
 {
-    if place_of(block) == 0 {
+    if position_of(block) == 0 {
         return page_of(block);
     }
     page_of(block) + 1
 }
 
-/// Returns the place of a block in its page.
-pub(crate) fn place_of(block: u64) -> usize
+/// Returns the position of a block in its page.
+pub(crate) fn position_of(block: u64) -> usize
     ensures { result ≡ block % 8 }
 {
     (block % PAGE_BLOCKS as u64) as usize
@@ -53,7 +53,7 @@ pub(crate) fn in_page(first: u64, count: usize) -> usize
     ensures fits { first % 8 + result ≤ 8 }
     ensures full { result < count → first % 8 + result ≡ 8 }
 {
-    let room = PAGE_BLOCKS - place_of(first);
+    let room = PAGE_BLOCKS - position_of(first);
     room.min(count)
 }
 
@@ -64,7 +64,7 @@ pub(crate) fn row_of(block: u64) -> u64
     block / ROW_BLOCKS as u64
 }
 
-/// Returns the place of a block in its row.
+/// Returns the position of a block in its row.
 pub(crate) fn in_row_of(block: u64) -> u64
     ensures { result ≡ block % 512 }
 {

@@ -7,7 +7,7 @@ ghost use Rattle.block_store.specs.Drafts.{edges_draft, prepared_draft};
 ghost use Rattle.block_store.specs.Inner.Drafts.{IsAsCopied};
 
 use crate::edges::{Edges, Prepared};
-use crate::numbers::{PAGE_BLOCKS, in_row, page_end, page_from, page_of, place_of};
+use crate::numbers::{PAGE_BLOCKS, in_row, page_end, page_from, page_of, position_of};
 use crate::pages::Pages;
 use crate::{BLOCK_BYTES, Readiness, Store, row};
 use foundation::NoMemory;
@@ -123,7 +123,7 @@ impl PagedStore {
             then ⟦<PagedStore as Store>⟧.block_at self.old b else zero_block) }
     {
         let left = self.capacity.min(blocks);
-        let behind = (PAGE_BLOCKS - place_of(left)) % PAGE_BLOCKS;
+        let behind = (PAGE_BLOCKS - position_of(left)) % PAGE_BLOCKS;
         self.pages.cut(self.alloc, page_from(left));
         self.pages.clear_part(self.alloc, left, behind);
         self.capacity = blocks;

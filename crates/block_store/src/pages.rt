@@ -61,13 +61,13 @@ impl Pages {
         }
     }
 
-    /// Puts pages into the place of a row that has none, if there are any.
+    /// Puts pages into the slot of a row that has none, if there are any.
     pub(crate) fn put_row(&mut self, number: u64, row: Vec<Page>)
         requires placed { 0 < length row.items → IsTrue (tree_has self.old.held number) }
         requires gone { tree_row self.old.held number ≡ [] }
         ensures here { tree_row self.new.held number ≡ row.items }
         ensures others { (m : ℕ) → m ≢ number → tree_row self.new.held m ≡ tree_row self.old.held m }
-        ensures places { (m : ℕ) → tree_has self.new.held m ≡ tree_has self.old.held m }
+        ensures slots { (m : ℕ) → tree_has self.new.held m ≡ tree_has self.old.held m }
     {
         if !row.is_empty() {
             self.held.put(number, row);

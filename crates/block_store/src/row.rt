@@ -6,7 +6,7 @@ ghost use Rattle.block_store.specs.Kept.{row_kept};
 ghost use Rattle.block_store.specs.Inner.Kept.{row_blocks, is_made_in};
 
 use crate::BLOCK_BYTES;
-use crate::numbers::{PAGE_BLOCKS, in_page, page_of, place_of};
+use crate::numbers::{PAGE_BLOCKS, in_page, page_of, position_of};
 use crate::page::{PAGE_BYTES, Page, zeros};
 use foundation::NoMemory;
 use std::alloc::Global;
@@ -25,7 +25,7 @@ pub(crate) fn reach(row: &mut Vec<Page>, alloc: Global, len: usize) -> Result<()
     Ok(())
 }
 
-/// Makes a row that begins with a page, and has another one at `last`, unless that is the first place too.
+/// Makes a row that begins with a page, and has another one at `last`, unless that is the first index too.
 pub(crate) fn between(
     alloc: Global,
     head: Page,
@@ -89,7 +89,7 @@ pub(crate) fn part(row: &[Page], first: u64, count: usize) -> &[u8]
     if page >= row.len() {
         return zeros(count);
     }
-    row[page].part(place_of(first), count)
+    row[page].part(position_of(first), count)
 }
 
 /// Appends the bytes of `count` blocks to a list that has room for them.
@@ -183,7 +183,7 @@ fn put_part(row: &mut Vec<Page>, first: u64, bytes: &[u8])
     ensures made { (p : ℕ) → is_made_in row.new.items p ≡ is_made_in row.old.items p }
     ensures len { vec_len row.new ≡ vec_len row.old }
 {
-    row[page_of(first) as usize].put(place_of(first), bytes);
+    row[page_of(first) as usize].put(position_of(first), bytes);
 }
 
 /// Puts the bytes over the blocks from `first` on, whose pages keep their bytes.
@@ -281,7 +281,7 @@ fn fill_part(row: &mut Vec<Page>, first: u64, count: usize, block: &[u8; BLOCK_B
     ensures made { (p : ℕ) → is_made_in row.new.items p ≡ is_made_in row.old.items p }
     ensures len { vec_len row.new ≡ vec_len row.old }
 {
-    row[page_of(first) as usize].fill(place_of(first), count, block);
+    row[page_of(first) as usize].fill(position_of(first), count, block);
 }
 
 /// Puts the block into each of `count` places from `first` on, whose pages keep their bytes.
@@ -309,7 +309,7 @@ fn clear_part(row: &mut Vec<Page>, alloc: Global, first: u64, count: usize)
 {
     let page = page_of(first) as usize;
     if page < row.len() {
-        row[page].clear(alloc, place_of(first), count);
+        row[page].clear(alloc, position_of(first), count);
     }
 }
 

@@ -29,7 +29,7 @@ pub(crate) trait Table: Drop {
     // The pages of row n.
     ghost row_at: { Self → ℕ → List Page };
 
-    // True if row n has a place.
+    // True if row n has a slot.
     ghost has_row: { Self → ℕ → Bool };
 
     /// Returns how many rows a slot has for it.
@@ -44,22 +44,22 @@ pub(crate) trait Table: Drop {
     fn row(&self, n: u64) -> &[Page]
         ensures { result.now ≡ row_at self.now n };
 
-    /// Takes the pages of a row out. Its place stays.
+    /// Takes the pages of a row out. Its slot stays.
     fn take(&mut self, alloc: Global, n: u64) -> Vec<Page>
         requires { IsTrue (fits n) }
         ensures taken { result.items ≡ row_at self.old n }
         ensures placed { 0 < length result.items → IsTrue (has_row self.new n) }
         ensures gone { row_at self.new n ≡ [] }
         ensures others { (m : ℕ) → IsTrue (fits m) → m ≢ n → row_at self.new m ≡ row_at self.old m }
-        ensures places { (m : ℕ) → has_row self.new m ≡ has_row self.old m };
+        ensures slots { (m : ℕ) → has_row self.new m ≡ has_row self.old m };
 
-    /// Puts pages into the place of a row.
+    /// Puts pages into the slot of a row.
     fn put(&mut self, n: u64, row: Vec<Page>)
         requires fits { IsTrue (fits n) }
         requires placed { IsTrue (has_row self.old n) }
         ensures here { row_at self.new n ≡ row.items }
         ensures others { (m : ℕ) → IsTrue (fits m) → m ≢ n → row_at self.new m ≡ row_at self.old m }
-        ensures places { (m : ℕ) → has_row self.new m ≡ has_row self.old m };
+        ensures slots { (m : ℕ) → has_row self.new m ≡ has_row self.old m };
 
     /// Puts bytes over the blocks of a row from its block `first` on, if their pages keep their bytes. Returns
     /// true if they do.
@@ -76,7 +76,7 @@ pub(crate) trait Table: Drop {
     fn place(&mut self, alloc: Global, n: u64) -> Result<(), AllocError>
         requires { IsTrue (fits n) }
         ensures placed { OnOk result (IsTrue (has_row self.new n)) }
-        ensures places { (m : ℕ) → IsTrue (has_row self.old m) → IsTrue (has_row self.new m) }
+        ensures slots { (m : ℕ) → IsTrue (has_row self.old m) → IsTrue (has_row self.new m) }
         ensures rows { (m : ℕ) → row_at self.new m ≡ row_at self.old m };
 
     /// Returns true if it has no slots, and so no rows.
@@ -179,7 +179,7 @@ impl<T: Table> Level<T> {
     fn reach(&mut self, alloc: Global, slot: usize) -> Result<(), AllocError>
         ensures reached { OnOk result (slot < vec_len self.new.slots) }
         ensures rows { (m : ℕ) → in_slots T.rows T.row_at [] self.new.slots.items m ≡ in_slots T.rows T.row_at [] self.old.slots.items m }
-        ensures places { (m : ℕ) → IsTrue (in_slots T.rows T.has_row false self.old.slots.items m) →
+        ensures slots { (m : ℕ) → IsTrue (in_slots T.rows T.has_row false self.old.slots.items m) →
             IsTrue (in_slots T.rows T.has_row false self.new.slots.items m) }
     {
         let needed = slot.saturating_add(1);

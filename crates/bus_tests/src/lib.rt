@@ -14,7 +14,7 @@ use std::alloc::Global;
 /// The bytes that the guest can address.
 const SIZE: u64 = 1 << 52;
 
-/// The place of the queue in its memory.
+/// Where the queue lies in its memory.
 const LAYOUT: Layout = Layout {
     size: 256,
     desc: 0x1_0000,

@@ -1,4 +1,4 @@
--- Bytes that are mapped, as far as one place and from there on.
+-- Bytes that are mapped, as far as one address and from there on.
 use Rattle.std.proofs.Common.{◌≤◌, ◌<◌, ℕ, List}
 use Rattle.std.proofs.lemmas.Bool.{cases_lt}
 use Rattle.c_calls.specs.Mapped.{HasByte}

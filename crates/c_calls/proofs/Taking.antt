@@ -1,4 +1,4 @@
--- Disks that are taken out of their places one after the other, and put into them from the last on.
+-- Disks that are taken out of their slots one after the other, and put into them from the last on.
 use Rattle.std.proofs.Common.{◌≡◌, ℕ, ◌+◌, ◌<◌, zero, suc, Bool, true, false, ◌&&◌, ◌||◌, List, [], ◌∷◌, ◌++◌, length, map, Option, Some, None, refl, sym, ap, ◌∙◌, subst, arith}
 use Rattle.std.specs.Prelude.{slice_get, slice_set, slice_index_or, is_some}
 use Rattle.std.specs.List.{list_all, list_any}
@@ -60,7 +60,7 @@ pub one_more : {P Y : Type 0} (f : P → Y) (ps : List P) (p : P) (ys : List Y) 
 one_more f [] p ys = refl
 one_more f (q ∷ ps) p ys = ap (λ zs. f q ∷ zs) (one_more f ps p ys)
 
--- places of which none has a disk are so many
+-- slots of which none has a disk are so many
 pub none_there : {P : Type 0} (xs : List (Option P)) (ps : List P) → list_any is_some xs ≡ false → length xs ≡ length ps
     → xs ≡ map (λ p. None) ps
 none_there [] [] none many = refl
@@ -69,7 +69,7 @@ none_there (x ∷ xs) [] none many = absurd (omega (arith, many))
 none_there (None ∷ xs) (p ∷ ps) none many = ap (λ ys. None ∷ ys) (none_there xs ps none (omega (arith, many)))
 none_there (Some y ∷ xs) (p ∷ ps) none many = cc
 
--- and places of which each has one
+-- and slots of which each has one
 pub record Taken {P : Type 0} (old now : List (Option P)) (stores : List P) : Type 0 where
   pub rest : List (Option P)
   pub there : list_all is_some rest ≡ true
@@ -77,7 +77,7 @@ pub record Taken {P : Type 0} (old now : List (Option P)) (stores : List P) : Ty
   pub are : now ≡ map (λ s. None) stores ++ rest
 
 module _ {P : Type 0} where
-  -- so many places are left
+  -- so many slots are left
   pub left : (old now : List (Option P)) (stores : List P) (t : Taken old now stores) → length now ≡ length stores + length t.rest
   left old now stores t = ap length t.are ∙ many stores t.rest
     where

@@ -19,7 +19,7 @@ use Rattle.device_steps.specs.Settling.{asks}
 use Rattle.world.specs.Settling.{ServesSomeOrWants, ServesOrWants}
 use Rattle.world.specs.Promise.{ServesAsPromised, SettlesAsPromised}
 use Rattle.world.specs.declared.served.Served.{Served as Portion}
-use Rattle.device_steps.specs.Views.{unit_at, IsPlaceOf, fault_of, device_status}
+use Rattle.device_steps.specs.Views.{unit_at, IsIndexOf, fault_of, device_status}
 use Rattle.world.specs.Notifications.{binary, owed_of, IsAsked}
 use Rattle.config.specs.declared.config.Config.{Config}
 use Rattle.config.specs.declared.config_fault.ConfigFault.{ConfigFault}
@@ -129,11 +129,11 @@ Counts queue accepted used accepted' used' d a d' =
 
 -- as `World::step` of a hard reset of the unit of an address
 abbrev pub ResetsWorld : PlainWorld → ℕ → ℕ → Answer → PlainWorld → Type 0
-ResetsWorld w target lun answer.Done w' = (place : ℕ) × (changed : Bool) × IsPlaceOf w target lun (Some place)
-    × IsStep w (Event.Hard place) changed w'
-ResetsWorld w target lun answer.NoMemory w' = (place : ℕ) × IsPlaceOf w target lun (Some place)
-    × MayWant (Event.Hard place) w × (w' ≡ w)
-ResetsWorld w target lun answer.NoUnit w' = IsPlaceOf w target lun None × (w' ≡ w)
+ResetsWorld w target lun answer.Done w' = (unit_index : ℕ) × (changed : Bool) × IsIndexOf w target lun (Some unit_index)
+    × IsStep w (Event.Hard unit_index) changed w'
+ResetsWorld w target lun answer.NoMemory w' = (unit_index : ℕ) × IsIndexOf w target lun (Some unit_index)
+    × MayWant (Event.Hard unit_index) w × (w' ≡ w)
+ResetsWorld w target lun answer.NoUnit w' = IsIndexOf w target lun None × (w' ≡ w)
 ResetsWorld w target lun a w' = ⊥
 
 abbrev pub Resets : ℕ → ℕ → Served → Answer → Served → Type 0
@@ -142,11 +142,11 @@ Resets target lun d a d' = ResetsWorld d.world target lun a d'.world × (d'.told
 -- as `World::step` of a resize of the unit of an address, to a capacity that a unit may have
 abbrev pub ResizesWorld : PlainWorld → ℕ → ℕ → ℕ → Answer → PlainWorld → Type 0
 ResizesWorld w target lun blocks answer.BadCapacity w' = (is_capacity blocks ≡ false) × (w' ≡ w)
-ResizesWorld w target lun blocks answer.Done w' = (place : ℕ) × (changed : Bool) × (is_capacity blocks ≡ true)
-    × IsPlaceOf w target lun (Some place) × IsStep w (Event.Resize place blocks) changed w'
-ResizesWorld w target lun blocks answer.NoMemory w' = (place : ℕ) × (is_capacity blocks ≡ true)
-    × IsPlaceOf w target lun (Some place) × MayWant (Event.Resize place blocks) w × (w' ≡ w)
-ResizesWorld w target lun blocks answer.NoUnit w' = (is_capacity blocks ≡ true) × IsPlaceOf w target lun None × (w' ≡ w)
+ResizesWorld w target lun blocks answer.Done w' = (unit_index : ℕ) × (changed : Bool) × (is_capacity blocks ≡ true)
+    × IsIndexOf w target lun (Some unit_index) × IsStep w (Event.Resize unit_index blocks) changed w'
+ResizesWorld w target lun blocks answer.NoMemory w' = (unit_index : ℕ) × (is_capacity blocks ≡ true)
+    × IsIndexOf w target lun (Some unit_index) × MayWant (Event.Resize unit_index blocks) w × (w' ≡ w)
+ResizesWorld w target lun blocks answer.NoUnit w' = (is_capacity blocks ≡ true) × IsIndexOf w target lun None × (w' ≡ w)
 ResizesWorld w target lun blocks a w' = ⊥
 
 abbrev pub Resizes : ℕ → ℕ → ℕ → Served → Answer → Served → Type 0

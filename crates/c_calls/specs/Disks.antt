@@ -127,14 +127,14 @@ abbrev pub Fits : UnitSpec → Option UnitDisk → Type 0
 Fits u None = ⊥
 Fits u (Some s) = IsDiskFor u s
 
--- the first unit that has no disk, or one that it may not have, stands at a place
+-- the first unit that has no disk, or one that it may not have, stands at an index
 abbrev pub Lacks : List UnitSpec → List (Option UnitDisk) → ℕ → Type 0
-Lacks units disks place = (u : UnitSpec) × (disk : Option UnitDisk) × (slice_get units place ≡ Some u)
-    × (slice_get disks place ≡ Some disk) × (Fits u disk → ⊥)
-    × ((k : ℕ) (v : UnitSpec) (other : Option UnitDisk) → k < place → slice_get units k ≡ Some v
+Lacks units disks unit_index = (u : UnitSpec) × (disk : Option UnitDisk) × (slice_get units unit_index ≡ Some u)
+    × (slice_get disks unit_index ≡ Some disk) × (Fits u disk → ⊥)
+    × ((k : ℕ) (v : UnitSpec) (other : Option UnitDisk) → k < unit_index → slice_get units k ≡ Some v
     → slice_get disks k ≡ Some other → Fits v other)
 
--- and that is told by the cause of number 13 and the unit's place
+-- and that is told by the cause of number 13 and the unit's index
 pub record LacksDisk (c : Config) (disks : List (Option UnitDisk)) (told : Fault) : Type 0 where
   pub taken : is_config c ≡ true
   pub lacks : Lacks c.units.items disks told.place

@@ -27,7 +27,7 @@ use Rattle.world.specs.declared.served.Served.{Served as Portion}
 use Rattle.device_steps.specs.Opening.{IsOpeningApart}
 use Rattle.world.specs.LiveWorld.{PlainLive, OpensIn, BeginsIn, StepsPromised}
 use Rattle.world.specs.Notifications.{binary, owed_of, IsAsked}
-use Rattle.device_steps.specs.Views.{unit_of, IsPlaceAmong, fault_of, status_of}
+use Rattle.device_steps.specs.Views.{unit_of, IsIndexAmong, fault_of, status_of}
 use Rattle.c_calls.specs.Calls.{number_of, HasCapacity, GivesBlocks, plain_cause, cause_of}
 use Rattle.c_calls.specs.Changes.{TellsOf}
 use Rattle.c_calls.specs.Counts.{TellsCountsOf}
@@ -145,11 +145,11 @@ Breaks queue old new d a d' = BrokenOrUnmapped d.world.device.queues d.rings.map
 -- as `LiveWorld::step` of a hard reset of the unit of an address: behind every trace that led to the device, whatever stands in
 -- memory, a trace of this event goes on to what it is then
 abbrev pub ResetsApart : ℕ → PlainDevice → ℕ → ℕ → Answer → PlainDevice → Type 0
-ResetsApart size d target lun answer.Done d' = (place : ℕ) × (changed : _) × IsPlaceAmong d.units target lun (Some place)
-    × StepsPromised true size d (Event.Hard place) (Ok changed) d'
-ResetsApart size d target lun answer.NoMemory d' = (place : ℕ) × (x : NoMemory) × IsPlaceAmong d.units target lun (Some place)
-    × StepsPromised true size d (Event.Hard place) (Err x) d'
-ResetsApart size d target lun answer.NoUnit d' = IsPlaceAmong d.units target lun None × (d' ≡ d)
+ResetsApart size d target lun answer.Done d' = (unit_index : ℕ) × (changed : _) × IsIndexAmong d.units target lun (Some unit_index)
+    × StepsPromised true size d (Event.Hard unit_index) (Ok changed) d'
+ResetsApart size d target lun answer.NoMemory d' = (unit_index : ℕ) × (x : NoMemory) × IsIndexAmong d.units target lun (Some unit_index)
+    × StepsPromised true size d (Event.Hard unit_index) (Err x) d'
+ResetsApart size d target lun answer.NoUnit d' = IsIndexAmong d.units target lun None × (d' ≡ d)
 ResetsApart size d target lun a d' = ⊥
 
 abbrev pub Resets : ℕ → ℕ → LiveServed → Answer → LiveServed → Type 0
@@ -158,11 +158,11 @@ Resets target lun d a d' = ResetsApart d.world.memory.size d.world.device target
 -- of a resize, to a capacity that a unit may have
 abbrev pub ResizesApart : ℕ → PlainDevice → ℕ → ℕ → ℕ → Answer → PlainDevice → Type 0
 ResizesApart size d target lun blocks answer.BadCapacity d' = (is_capacity blocks ≡ false) × (d' ≡ d)
-ResizesApart size d target lun blocks answer.Done d' = (place : ℕ) × (changed : _) × (is_capacity blocks ≡ true)
-    × IsPlaceAmong d.units target lun (Some place) × StepsPromised true size d (Event.Resize place blocks) (Ok changed) d'
-ResizesApart size d target lun blocks answer.NoMemory d' = (place : ℕ) × (x : NoMemory) × (is_capacity blocks ≡ true)
-    × IsPlaceAmong d.units target lun (Some place) × StepsPromised true size d (Event.Resize place blocks) (Err x) d'
-ResizesApart size d target lun blocks answer.NoUnit d' = (is_capacity blocks ≡ true) × IsPlaceAmong d.units target lun None × (d' ≡ d)
+ResizesApart size d target lun blocks answer.Done d' = (unit_index : ℕ) × (changed : _) × (is_capacity blocks ≡ true)
+    × IsIndexAmong d.units target lun (Some unit_index) × StepsPromised true size d (Event.Resize unit_index blocks) (Ok changed) d'
+ResizesApart size d target lun blocks answer.NoMemory d' = (unit_index : ℕ) × (x : NoMemory) × (is_capacity blocks ≡ true)
+    × IsIndexAmong d.units target lun (Some unit_index) × StepsPromised true size d (Event.Resize unit_index blocks) (Err x) d'
+ResizesApart size d target lun blocks answer.NoUnit d' = (is_capacity blocks ≡ true) × IsIndexAmong d.units target lun None × (d' ≡ d)
 ResizesApart size d target lun blocks a d' = ⊥
 
 abbrev pub Resizes : ℕ → ℕ → ℕ → LiveServed → Answer → LiveServed → Type 0

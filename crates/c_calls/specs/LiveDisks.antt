@@ -33,7 +33,7 @@ pub record MakesLiveOver (host_map : ℕ) (c : Config) (stores : List UnitDisk) 
   pub told : d.told ≡ replicate 18 0
   pub rings : d.rings ≡ opening_rings c
 
--- the first unit that has no disk, or one that it may not have, is told by the cause of number 13 and its place
+-- the first unit that has no disk, or one that it may not have, is told by the cause of number 13 and its index
 pub record LacksLiveDisk (c : Config) (disks : List (Option UnitDisk)) (told : Fault) : Type 0 where
   pub taken : is_config_for all_bytes c ≡ true
   pub lacks : Lacks c.units.items disks told.place

@@ -6,7 +6,7 @@ use Rattle.device_model.specs.Events.{Event}
 use Rattle.unit_model.specs.Unit.{PlainUnit}
 use Rattle.device_steps.specs.Apart.{PlainDevice}
 use Rattle.device_steps.specs.Paging.{HasPage, IsKeptPage}
-use Rattle.device_steps.specs.Views.{IsPlaceAmong}
+use Rattle.device_steps.specs.Views.{IsIndexAmong}
 use Rattle.world.specs.LiveWorld.{StepsPromised}
 use Rattle.world.specs.Paging.{DealsPromised}
 use Rattle.c_calls.specs.Live.{KeepsRest}
@@ -19,40 +19,40 @@ use Rattle.c_calls.specs.declared.live_served.LiveServed.{LiveServed}
 abbrev pub OwesPage : ℕ → ℕ → ℕ → List ℕ → Option LiveServed → Type 0
 OwesPage target lun page bytes None = ⊤
 OwesPage target lun page bytes (Some d) =
-    (place : ℕ) → IsPlaceAmong d.world.device.units target lun (Some place) → IsKeptPage d.world.device.units place page bytes
+    (unit_index : ℕ) → IsIndexAmong d.world.device.units target lun (Some unit_index) → IsKeptPage d.world.device.units unit_index page bytes
 
 -- a page of the unit's backed disk is told, or none
 abbrev pub FindsPage : List PlainUnit → ℕ → ℕ → ℕ → Bool → Type 0
-FindsPage units place old page true = HasPage units place page
-FindsPage units place old page false = page ≡ old
+FindsPage units unit_index old page true = HasPage units unit_index page
+FindsPage units unit_index old page false = page ≡ old
 
 -- as `LiveWorld::next_wanted`: the device is as it was
 abbrev pub WantsPage : ℕ → ℕ → ℕ → Bool → ℕ → Bool → LiveServed → Answer → LiveServed → Type 0
-WantsPage target lun page found page' found' d answer.Done d' = (place : ℕ)
-    × IsPlaceAmong d.world.device.units target lun (Some place)
-    × FindsPage d.world.device.units place page page' found' × (d' ≡ d)
-WantsPage target lun page found page' found' d answer.NoUnit d' = IsPlaceAmong d.world.device.units target lun None
+WantsPage target lun page found page' found' d answer.Done d' = (unit_index : ℕ)
+    × IsIndexAmong d.world.device.units target lun (Some unit_index)
+    × FindsPage d.world.device.units unit_index page page' found' × (d' ≡ d)
+WantsPage target lun page found page' found' d answer.NoUnit d' = IsIndexAmong d.world.device.units target lun None
     × (page' ≡ page) × (found' ≡ found) × (d' ≡ d)
 WantsPage target lun page found page' found' d a d' = ⊥
 
 -- as `LiveWorld::load_failed`
 abbrev pub FailsPage : ℕ → ℕ → LiveServed → Answer → LiveServed → Type 0
 FailsPage target lun d answer.Done d' = d' ≡ d
-FailsPage target lun d answer.NoUnit d' = IsPlaceAmong d.world.device.units target lun None × (d' ≡ d)
+FailsPage target lun d answer.NoUnit d' = IsIndexAmong d.world.device.units target lun None × (d' ≡ d)
 FailsPage target lun d a d' = ⊥
 
 -- the host dealt so with the storage of the unit of an address, as the promise has it, and nothing else changed
 pub record Deals (target lun : ℕ) (x : Dealing) (d d' : LiveServed) : Type 0 where
-  pub place : ℕ
-  pub there : IsPlaceAmong d.world.device.units target lun (Some place)
-  pub dealt : DealsPromised true d.world.memory.size d.world.device place x d'.world.device
+  pub unit_index : ℕ
+  pub there : IsIndexAmong d.world.device.units target lun (Some unit_index)
+  pub dealt : DealsPromised true d.world.memory.size d.world.device unit_index x d'.world.device
   pub memory : d'.world.memory ≡ d.world.memory
   pub rest : KeepsRest d d'
 
 -- as `LiveWorld::load`: the host handed in the page, or nothing changed; before all else the bytes are measured
 abbrev pub LoadsPage : ℕ → ℕ → ℕ → List ℕ → LiveServed → Answer → LiveServed → Type 0
 LoadsPage target lun page bytes d answer.BadLength d' = (length bytes ≢ 4096) × (d' ≡ d)
-LoadsPage target lun page bytes d answer.NoUnit d' = (length bytes ≡ 4096) × IsPlaceAmong d.world.device.units target lun None
+LoadsPage target lun page bytes d answer.NoUnit d' = (length bytes ≡ 4096) × IsIndexAmong d.world.device.units target lun None
     × (d' ≡ d)
 LoadsPage target lun page bytes d answer.Done d' = (length bytes ≡ 4096)
     × (Deals target lun (Dealing.Load page) d d' ⊎ (d' ≡ d))
@@ -62,7 +62,7 @@ LoadsPage target lun page bytes d a d' = ⊥
 -- as `LiveWorld::lost`: the host can't read the page, or nothing changed
 abbrev pub LosesPage : ℕ → ℕ → ℕ → LiveServed → Answer → LiveServed → Type 0
 LosesPage target lun page d answer.Done d' = Deals target lun (Dealing.Lose page) d d' ⊎ (d' ≡ d)
-LosesPage target lun page d answer.NoUnit d' = IsPlaceAmong d.world.device.units target lun None × (d' ≡ d)
+LosesPage target lun page d answer.NoUnit d' = IsIndexAmong d.world.device.units target lun None × (d' ≡ d)
 LosesPage target lun page d a d' = ⊥
 
 -- as `LiveWorld::give`: a page is given, with its bytes as they are now, or none is left to give; before all else the room is
@@ -77,7 +77,7 @@ GivesPage target lun page old found page' bytes found' d answer.Done d' = (lengt
 GivesPage target lun page old found page' bytes found' d answer.BadLength d' = (length old ≢ 4096)
     × (page' ≡ page) × (bytes ≡ old) × (found' ≡ found) × (d' ≡ d)
 GivesPage target lun page old found page' bytes found' d answer.NoUnit d' = (length old ≡ 4096)
-    × IsPlaceAmong d.world.device.units target lun None × (page' ≡ page) × (bytes ≡ old) × (found' ≡ found) × (d' ≡ d)
+    × IsIndexAmong d.world.device.units target lun None × (page' ≡ page) × (bytes ≡ old) × (found' ≡ found) × (d' ≡ d)
 GivesPage target lun page old found page' bytes found' d answer.NoMemory d' = (length old ≡ 4096)
     × (page' ≡ page) × (bytes ≡ old) × (found' ≡ found) × (d' ≡ d)
 GivesPage target lun page old found page' bytes found' d a d' = ⊥
@@ -85,7 +85,7 @@ GivesPage target lun page old found page' bytes found' d a d' = ⊥
 -- as `LiveWorld::written`: the storage has the page as it was given, if the host said so; else nothing changed
 abbrev pub KeepsPage : ℕ → ℕ → ℕ → Bool → LiveServed → Answer → LiveServed → Type 0
 KeepsPage target lun page kept d answer.Done d' = (IsTrue kept × Deals target lun (Dealing.Keep page) d d') ⊎ (d' ≡ d)
-KeepsPage target lun page kept d answer.NoUnit d' = IsPlaceAmong d.world.device.units target lun None × (d' ≡ d)
+KeepsPage target lun page kept d answer.NoUnit d' = IsIndexAmong d.world.device.units target lun None × (d' ≡ d)
 KeepsPage target lun page kept d answer.NoMemory d' = d' ≡ d
 KeepsPage target lun page kept d a d' = ⊥
 

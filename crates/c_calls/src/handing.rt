@@ -26,18 +26,18 @@ use world::{Notifications, World};
 /// The cause of a unit that has no disk, or one that it may not have.
 const NO_DISK_CAUSE: u32 = 13;
 
-/// Returns what is told of the unit at a place, which has no disk, or one that it may not have.
-pub(crate) fn no_disk_at(place: usize) -> Fault
-    ensures { plain_cause result ≡ record { cause = 13; place = place; detail = 0 } }
+/// Returns what is told of the unit at an index, which has no disk, or one that it may not have.
+pub(crate) fn no_disk_at(unit_index: usize) -> Fault
+    ensures { plain_cause result ≡ record { cause = 13; place = unit_index; detail = 0 } }
 {
     Fault {
-        place: place as u64,
+        place: unit_index as u64,
         cause: NO_DISK_CAUSE,
         detail: 0,
     }
 }
 
-/// Returns true if a place has a disk that a unit may have.
+/// Returns true if a slot has a disk that a unit may have.
 fn has_disk_for(disk: &mut Disk, alloc: Global, unit: &UnitSpec) -> bool
     ensures told { IsTrue result ↔ Fits unit.now (disk_at disk.old) }
     ensures same { disk_at disk.new ≡ disk_at disk.old }
@@ -50,15 +50,15 @@ fn has_disk_for(disk: &mut Disk, alloc: Global, unit: &UnitSpec) -> bool
     fits
 }
 
-/// Returns the place of the first unit that has no disk, or one that it may not have.
+/// Returns the index of the first unit that has no disk, or one that it may not have.
 pub(crate) fn lacking(units: &[UnitSpec], disks: &mut [Disk], alloc: Global) -> Option<usize>
     requires { length disks.old ≡ length units.now }
-    ensures found { MatchOption result (Fit units.now (disks_at disks.old)) (λ place. Lacks units.now (disks_at disks.old) place) }
+    ensures found { MatchOption result (Fit units.now (disks_at disks.old)) (λ unit_index. Lacks units.now (disks_at disks.old) unit_index) }
     ensures same { disks_at disks.new ≡ disks_at disks.old }
 {
-    for place in 0..disks.len() {
-        if !has_disk_for(&mut disks[place], alloc, &units[place]) {
-            return Some(place);
+    for unit_index in 0..disks.len() {
+        if !has_disk_for(&mut disks[unit_index], alloc, &units[unit_index]) {
+            return Some(unit_index);
         }
     }
     None
@@ -73,8 +73,8 @@ pub(crate) fn take_out(disks: &mut [Disk], alloc: Global, empty: Vec<UnitDisk>) 
     ensures none { disks_at disks.new ≡ map (λ s. None) result.items }
 {
     let mut stores = empty;
-    for place in 0..disks.len() {
-        match disks[place].take(alloc) {
+    for unit_index in 0..disks.len() {
+        match disks[unit_index].take(alloc) {
             Some(store) => stores.push_reserved(Box::into_inner(store)),
             None => unreachable!(),
         }
@@ -109,8 +109,8 @@ pub fn create_with(
         *fault = fault_of(cause);
         return Answer::BadConfig;
     }
-    if let Some(place) = lacking(config.units.as_slice(), disks, alloc) {
-        *fault = no_disk_at(place);
+    if let Some(unit_index) = lacking(config.units.as_slice(), disks, alloc) {
+        *fault = no_disk_at(unit_index);
         return Answer::BadConfig;
     }
     let Ok(empty) = Vec::with_capacity(alloc, disks.len()) else {
@@ -163,10 +163,10 @@ pub(crate) fn new_room(alloc: Global, count: usize) -> Result<Room, NoMemory>
     Ok(Room { stores, boxes })
 }
 
-/// Puts each disk into its place, by its box.
+/// Puts each disk into its slot, by its box.
 pub(crate) fn put_back(disks: &mut [Disk], stores: Vec<UnitDisk>, boxes: Vec<Box<UnitDisk, Global>>)
     requires none { list_any is_some (disks_at disks.old) ≡ false }
-    requires places { length disks.old ≡ length stores.items }
+    requires slots { length disks.old ≡ length stores.items }
     requires boxes { length boxes.items ≡ length stores.items }
     ensures { disks_at disks.new ≡ map (λ s. Some s) stores.items }
 {
@@ -183,14 +183,14 @@ pub(crate) fn put_back(disks: &mut [Disk], stores: Vec<UnitDisk>, boxes: Vec<Box
     }
 }
 
-/// Returns true if there is a disk in one of the places.
+/// Returns true if there is a disk in one of the slots.
 pub(crate) fn is_any_there(disks: &[Disk]) -> bool
     ensures { result ≡ list_any (λ d. is_some (disk_at d)) disks.now }
 {
     disks.iter().any(|disk| disk.is_there())
 }
 
-/// Ends a device, and puts its disks into places where there is none.
+/// Ends a device, and puts its disks into slots where there is none.
 pub fn close(device: &mut Device, alloc: Global, disks: &mut [Disk]) -> Answer
     ensures { Closes (kept_in device.old) (disks_at disks.old) result (kept_in device.new) (disks_at disks.new) }
 {

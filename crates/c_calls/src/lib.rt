@@ -8,7 +8,7 @@
 //!
 //! The pointer that C keeps owns the device or the disk. Only `destroy`, `destroy_disk` and `close` let go of it.
 //! `create_with` opens over exactly the disks that it is handed, or leaves each where it was. `close` puts those
-//! that the histories left into places where none is, or changes nothing.
+//! that the histories left into slots where none is, or changes nothing.
 #![tactic(auto)]
 
 mod answer;

@@ -41,8 +41,8 @@ pub fn create_with(
         *fault = fault_of(cause);
         return Answer::BadConfig;
     }
-    if let Some(place) = lacking(config.units.as_slice(), disks, alloc) {
-        *fault = no_disk_at(place);
+    if let Some(unit_index) = lacking(config.units.as_slice(), disks, alloc) {
+        *fault = no_disk_at(unit_index);
         return Answer::BadConfig;
     }
     let Ok(empty) = Vec::with_capacity(alloc, disks.len()) else {
@@ -57,7 +57,7 @@ pub fn create_with(
     Answer::Done
 }
 
-/// Ends a device, and puts its disks into places where there is none.
+/// Ends a device, and puts its disks into slots where there is none.
 pub fn close(device: &mut LiveDevice, alloc: Global, disks: &mut [Disk]) -> Answer
     ensures { ClosesLive (live_at device.old) (disks_at disks.old) result (live_at device.new) (disks_at disks.new) }
 {

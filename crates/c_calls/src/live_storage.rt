@@ -2,7 +2,7 @@
 
 ghost use Rattle.std.specs.Prelude.{◌≡◌};
 ghost use Rattle.device_steps.specs.Paging.{IsKeptPage};
-ghost use Rattle.device_steps.specs.Views.{IsPlaceAmong};
+ghost use Rattle.device_steps.specs.Views.{IsIndexAmong};
 ghost use Rattle.std.specs.Prelude.{ℕ, Some};
 ghost use Rattle.c_calls.specs.Storage.{WantsPage, LoadsPage, FailsPage, LosesPage, GivesPage, KeepsPage, Wakes};
 
@@ -22,10 +22,10 @@ impl LiveServed {
     ) -> Answer
         ensures { WantsPage target lun page.old found.old page.new found.new self.old result self.new }
     {
-        let Some(place) = self.world.place(target, lun) else {
+        let Some(unit_index) = self.world.unit_index(target, lun) else {
             return Answer::NoUnit;
         };
-        match self.world.next_wanted(place) {
+        match self.world.next_wanted(unit_index) {
             Some(next) => {
                 *page = next;
                 *found = true;
@@ -37,17 +37,17 @@ impl LiveServed {
 
     /// Takes the bytes of a page that the host read.
     pub(crate) fn load(&mut self, target: u8, lun: u16, page: u64, bytes: &[u8]) -> Answer
-        requires kept { (place : ℕ) → IsPlaceAmong self.old.world.device.units target lun (Some place)
-            → IsKeptPage self.old.world.device.units place page bytes.now }
+        requires kept { (unit_index : ℕ) → IsIndexAmong self.old.world.device.units target lun (Some unit_index)
+            → IsKeptPage self.old.world.device.units unit_index page bytes.now }
         ensures { LoadsPage target lun page bytes.now self.old result self.new }
     {
         if bytes.len() != PAGE_BYTES {
             return Answer::BadLength;
         }
-        let Some(place) = self.world.place(target, lun) else {
+        let Some(unit_index) = self.world.unit_index(target, lun) else {
             return Answer::NoUnit;
         };
-        match self.world.load(place, page, bytes) {
+        match self.world.load(unit_index, page, bytes) {
             Ok(_) => Answer::Done,
             Err(_) => Answer::NoMemory,
         }
@@ -57,10 +57,10 @@ impl LiveServed {
     pub(crate) fn load_failed(&mut self, target: u8, lun: u16, page: u64) -> Answer
         ensures { FailsPage target lun self.old result self.new }
     {
-        let Some(place) = self.world.place(target, lun) else {
+        let Some(unit_index) = self.world.unit_index(target, lun) else {
             return Answer::NoUnit;
         };
-        let _waits = self.world.load_failed(place, page);
+        let _waits = self.world.load_failed(unit_index, page);
         Answer::Done
     }
 
@@ -68,10 +68,10 @@ impl LiveServed {
     pub(crate) fn lost(&mut self, target: u8, lun: u16, page: u64) -> Answer
         ensures { LosesPage target lun page self.old result self.new }
     {
-        let Some(place) = self.world.place(target, lun) else {
+        let Some(unit_index) = self.world.unit_index(target, lun) else {
             return Answer::NoUnit;
         };
-        let _waits = self.world.lost(place, page);
+        let _waits = self.world.lost(unit_index, page);
         Answer::Done
     }
 
@@ -89,10 +89,10 @@ impl LiveServed {
         if bytes.len() != PAGE_BYTES {
             return Answer::BadLength;
         }
-        let Some(place) = self.world.place(target, lun) else {
+        let Some(unit_index) = self.world.unit_index(target, lun) else {
             return Answer::NoUnit;
         };
-        match self.world.give(place) {
+        match self.world.give(unit_index) {
             Ok(Some(given)) => {
                 bytes.copy_from_slice(given.bytes.as_slice());
                 *page = given.page;
@@ -111,10 +111,10 @@ impl LiveServed {
     pub(crate) fn written(&mut self, target: u8, lun: u16, page: u64, kept: bool) -> Answer
         ensures { KeepsPage target lun page kept self.old result self.new }
     {
-        let Some(place) = self.world.place(target, lun) else {
+        let Some(unit_index) = self.world.unit_index(target, lun) else {
             return Answer::NoUnit;
         };
-        match self.world.written(place, page, kept) {
+        match self.world.written(unit_index, page, kept) {
             Ok(_) => Answer::Done,
             Err(_) => Answer::NoMemory,
         }

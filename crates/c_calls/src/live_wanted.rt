@@ -21,7 +21,7 @@ pub struct RingPosition {
     pub used_wrapped: u8,
 }
 
-/// The place of a queue, and where the device begins in it: the header's `struct vscsi_ring`.
+/// Where a queue lies, and where the device begins in it: the header's `struct vscsi_ring`.
 #[repr(C)]
 #[derive(Clone, Copy)]
 pub struct WantedRing {

@@ -1,4 +1,4 @@
-//! The places where queues go on, for C.
+//! The positions where queues go on, for C.
 
 ghost use Rattle.std.specs.Prelude.{◌≡◌, ◌==◌};
 ghost use Rattle.c_calls.specs.Position.{wrapped_of, told_position, BeginsAt, TellsPosition};

@@ -137,10 +137,10 @@ impl Served {
     pub(crate) fn reset(&mut self, target: u8, lun: u16) -> Answer
         ensures { Resets target lun self.old result self.new }
     {
-        let Some(place) = self.world.place(target, lun) else {
+        let Some(unit_index) = self.world.unit_index(target, lun) else {
             return Answer::NoUnit;
         };
-        match self.world.step(Event::Hard(place)) {
+        match self.world.step(Event::Hard(unit_index)) {
             Ok(_) => Answer::Done,
             Err(_) => Answer::NoMemory,
         }
@@ -153,10 +153,10 @@ impl Served {
         if !is_capacity(blocks) {
             return Answer::BadCapacity;
         }
-        let Some(place) = self.world.place(target, lun) else {
+        let Some(unit_index) = self.world.unit_index(target, lun) else {
             return Answer::NoUnit;
         };
-        match self.world.step(Event::Resize(place, blocks)) {
+        match self.world.step(Event::Resize(unit_index, blocks)) {
             Ok(_) => Answer::Done,
             Err(_) => Answer::NoMemory,
         }

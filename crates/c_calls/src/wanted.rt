@@ -16,7 +16,7 @@ pub(crate) const WORKERS: u16 = 1;
 /// The number of jobs that stand between a seat and the worker.
 pub(crate) const HANDOFF: u16 = 64;
 
-/// The place of a queue: the header's `struct vscsi_queue`.
+/// Where a queue lies: the header's `struct vscsi_queue`.
 #[repr(C)]
 #[derive(Clone, Copy)]
 pub struct WantedQueue {
@@ -167,17 +167,17 @@ pub(crate) fn fault_of(fault: ConfigFault) -> Fault
         ConfigFault::Pages => cause(1, 0, 0),
         ConfigFault::Features => cause(2, 0, 0),
         ConfigFault::QueueCount => cause(3, 0, 0),
-        ConfigFault::QueueSize(place) => cause(4, place, 0),
-        ConfigFault::QueueLayout(place, why) => cause(5, place, layout_number(why)),
+        ConfigFault::QueueSize(queue_index) => cause(4, queue_index, 0),
+        ConfigFault::QueueLayout(queue_index, why) => cause(5, queue_index, layout_number(why)),
         ConfigFault::Workers => cause(6, 0, 0),
         ConfigFault::Handoff => cause(7, 0, 0),
         ConfigFault::UnitCount => cause(8, 0, 0),
-        ConfigFault::UnitLun(place) => cause(9, place, 0),
-        ConfigFault::UnitBlocks(place) => cause(10, place, 0),
-        ConfigFault::UnitOrder(place) => cause(11, place, 0),
-        ConfigFault::NoLun0(place) => cause(12, place, 0),
-        ConfigFault::UnitIdentity(place) => cause(15, place, 0),
-        ConfigFault::UnitNaa(place) => cause(16, place, 0),
+        ConfigFault::UnitLun(unit_index) => cause(9, unit_index, 0),
+        ConfigFault::UnitBlocks(unit_index) => cause(10, unit_index, 0),
+        ConfigFault::UnitOrder(unit_index) => cause(11, unit_index, 0),
+        ConfigFault::NoLun0(unit_index) => cause(12, unit_index, 0),
+        ConfigFault::UnitIdentity(unit_index) => cause(15, unit_index, 0),
+        ConfigFault::UnitNaa(unit_index) => cause(16, unit_index, 0),
     }
 }
 

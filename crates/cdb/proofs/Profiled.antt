@@ -90,8 +90,8 @@ refused profile cdb h is_naca =
     let at_opcode : f.item.opcode ≡ byte 0 cdb = eqb-true f.item.opcode (byte 0 cdb) f.passes in
     let at_control : control_of f.item.opcode ≡ f.item.control =
     eqb-true _ _ (f.has (λ row. control_of row.opcode == row.control) (all_placed profile)) in
-    let place : control_of (byte 0 cdb) ≡ f.item.control = sym (ap control_of at_opcode) ∙ at_control in
-    let set : naca f.item cdb ≡ true = subst (λ (i : ℕ). bit i 2 cdb ≡ true) place is_naca in
+    let index : control_of (byte 0 cdb) ≡ f.item.control = sym (ap control_of at_opcode) ∙ at_control in
+    let set : naca f.item cdb ≡ true = subst (λ (i : ℕ). bit i 2 cdb ≡ true) index is_naca in
     by_row ∙ bad_by cdb f.item (naca f.item cdb) set (any (f.item.causes cdb)) ∙ ap (λ opcode. Bad opcode) at_opcode
 
 -- what the row of READ (10) makes of its fields

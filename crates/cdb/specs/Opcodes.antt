@@ -35,6 +35,6 @@ abbrev pub length_of_group : ℕ → ℕ
 length_of_group group =
     if group == 0 then 6 else (if nat_le group 2 then 10 else (if group == 4 then 16 else 12))
 
--- the place of the control byte
+-- the index of the control byte
 abbrev pub control_of : ℕ → ℕ
 control_of opcode = length_of_group (opcode / 32) - 1

@@ -13,7 +13,7 @@ use Rattle.cdb.specs.declared.commands.InquiryData.TheVariants.{Standard, Suppor
 use Rattle.cdb.specs.declared.commands.SelectReport.{SelectReport}
 use Rattle.cdb.specs.declared.commands.SelectReport.TheVariants.{LogicalUnits, WellKnownLogicalUnits, AllLogicalUnits}
 
--- an opcode, the place of the control byte, the causes by which a CDB with this opcode is bad, and
+-- an opcode, the index of the control byte, the causes by which a CDB with this opcode is bad, and
 -- what the CDB means where it isn't
 pub record Row : Type 0 where
   pub opcode : ℕ

@@ -130,14 +130,14 @@ fn decode_16(profile: Profile, cdb: &[u8; CDB_BYTES]) -> Command
     under_control(cdb, 15, fields)
 }
 
-/// Returns the command that the fields say, if they aren't refused and the control byte at this place has no NACA; else
+/// Returns the command that the fields say, if they aren't refused and the control byte at this index has no NACA; else
 /// `Bad`.
 pub(crate) fn under_control(
     cdb: &[u8; CDB_BYTES],
     control: usize,
     fields: Option<Command>,
 ) -> Command
-    requires place { control < 16 }
+    requires index { control < 16 }
     requires data_out { IfSome fields (λ c. (need_of c).out ≤ 1048576) }
     ensures meaning { result
         ≡ (if bit control 2 cdb.now then Command.Bad (byte 0 cdb.now)

@@ -90,11 +90,11 @@ pub fn has_protect(cdb: &[u8; CDB_BYTES]) -> bool
 }
 
 /// Returns true if this bit of a byte, 0 to 7, is 1.
-pub fn has_bit(byte: u8, place: u8) -> bool
-    requires { place < 8 }
-    ensures { result ≡ (byte / 2 ^ place % 2 == 1) }
+pub fn has_bit(byte: u8, position: u8) -> bool
+    requires { position < 8 }
+    ensures { result ≡ (byte / 2 ^ position % 2 == 1) }
 {
-    byte >> place & 1 == 1
+    byte >> position & 1 == 1
 }
 
 /// Returns the number in this many low bits of a byte, 0 to 7.

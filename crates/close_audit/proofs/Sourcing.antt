@@ -57,12 +57,12 @@ below m n e = grind (arith, nat_tests)
 above : (m n : ℕ) → m < n → ltb m n ≡ true
 above m n e = grind (arith, nat_tests)
 
-module _ (place : ℕ) (q : BareQueue) (sound : IsSound q.ring) where
-  -- by whether the ticket is of the place, and accepted
-  unused_off : (t : Ticket) → (eqb t.queue place ≡ true → t.number < length q.ring.log.accepted → list_any (λ u. same_ticket u t) q.ring.log.used ≡ true)
-      → unused_in place q t ≡ false
+module _ (queue_index : ℕ) (q : BareQueue) (sound : IsSound q.ring) where
+  -- by whether the ticket is of the index, and accepted
+  unused_off : (t : Ticket) → (eqb t.queue queue_index ≡ true → t.number < length q.ring.log.accepted → list_any (λ u. same_ticket u t) q.ring.log.used ≡ true)
+      → unused_in queue_index q t ≡ false
   unused_off t f =
-      (elim (eqb t.queue place) as (λ b. (eqb t.queue place ≡ b) → (b && (ltb t.number (length q.ring.log.accepted) && not (list_any (λ u. same_ticket u t) q.ring.log.used))) ≡ false) [
+      (elim (eqb t.queue queue_index) as (λ b. (eqb t.queue queue_index ≡ b) → (b && (ltb t.number (length q.ring.log.accepted) && not (list_any (λ u. same_ticket u t) q.ring.log.used))) ≡ false) [
         | true ↦ λ e.
             (elim (ltb t.number (length q.ring.log.accepted)) as (λ b. (ltb t.number (length q.ring.log.accepted) ≡ b) → (b && not (list_any (λ u. same_ticket u t) q.ring.log.used)) ≡ false) [
               | true ↦ λ g. ap not (f e (below t.number (length q.ring.log.accepted) g))
@@ -71,36 +71,36 @@ module _ (place : ℕ) (q : BareQueue) (sound : IsSound q.ring) where
         | false ↦ λ e. refl
       ]) refl
 
-  pub unused_elsewhere : (r : Option Ticket) → q.ring.queue ≢ place → IsFirst (λ t. eqb t.queue place && ltb t.number (length q.ring.log.accepted)) r → IsFirst (unused_in place q) r
+  pub unused_elsewhere : (r : Option Ticket) → q.ring.queue ≢ queue_index → IsFirst (λ t. eqb t.queue queue_index && ltb t.number (length q.ring.log.accepted)) r → IsFirst (unused_in queue_index q) r
   unused_elsewhere r ne is =
-      same_first (λ t. eqb t.queue place && ltb t.number (length q.ring.log.accepted)) (unused_in place q) r
-      (λ t. (elim (eqb t.queue place) as (λ b. (eqb t.queue place ≡ b)
+      same_first (λ t. eqb t.queue queue_index && ltb t.number (length q.ring.log.accepted)) (unused_in queue_index q) r
+      (λ t. (elim (eqb t.queue queue_index) as (λ b. (eqb t.queue queue_index ≡ b)
       → (b && (ltb t.number (length q.ring.log.accepted) && not (list_any (λ u. same_ticket u t) q.ring.log.used))) ≡ (b && ltb t.number (length q.ring.log.accepted))) [
         | true ↦ λ e.
             ap (λ b. ltb t.number (length q.ring.log.accepted) && not b)
-            (none_same q.ring.log.used t (λ k at. ne (sym (sound.lawful.used_accepted k t at).0 ∙ eqb-true t.queue place e)))
+            (none_same q.ring.log.used t (λ k at. ne (sym (sound.lawful.used_accepted k t at).0 ∙ eqb-true t.queue queue_index e)))
             ∙ and_true (ltb t.number (length q.ring.log.accepted))
         | false ↦ λ e. refl
       ]) refl)
       is
 
-  module _ (same : q.ring.queue ≡ place) where
-    was_used : (t : Ticket) → eqb t.queue place ≡ true → WasUsed q.ring t.number → list_any (λ u. same_ticket u t) q.ring.log.used ≡ true
+  module _ (same : q.ring.queue ≡ queue_index) where
+    was_used : (t : Ticket) → eqb t.queue queue_index ≡ true → WasUsed q.ring t.number → list_any (λ u. same_ticket u t) q.ring.log.used ≡ true
     was_used t e used =
         some_same q.ring.log.used t used.0 (used.1 ∙ ap (λ (z : Ticket). Some z) (sym (named t q.ring.queue (ap (λ k. eqb t.queue k) same ∙ e))))
 
-    pub unused_none : IsLeastOutstanding q.ring None → (t : Ticket) → unused_in place q t ≡ false
+    pub unused_none : IsLeastOutstanding q.ring None → (t : Ticket) → unused_in queue_index q t ≡ false
     unused_none least t = unused_off t (λ e lt. was_used t e (least t.number lt))
 
-    pub unused_some : (n : ℕ) → IsLeastOutstanding q.ring (Some n) → IsFirst (unused_in place q) (Some (record { queue = place; number = n }))
+    pub unused_some : (n : ℕ) → IsLeastOutstanding q.ring (Some n) → IsFirst (unused_in queue_index q) (Some (record { queue = queue_index; number = n }))
     unused_some n least =
-        let t : Ticket = record { queue = place; number = n } in
+        let t : Ticket = record { queue = queue_index; number = n } in
         let fresh_one : list_any (λ u. same_ticket u t) q.ring.log.used ≡ false =
         none_same q.ring.log.used t (λ k at. least.1 (k, at ∙ ap (λ (z : ℕ). Some (record { queue = z; number = n })) (sym same))) in (
-          ap (λ b. b && (ltb n (length q.ring.log.accepted) && not (list_any (λ u. same_ticket u t) q.ring.log.used))) (same_number place)
+          ap (λ b. b && (ltb n (length q.ring.log.accepted) && not (list_any (λ u. same_ticket u t) q.ring.log.used))) (same_number queue_index)
               ∙ ap (λ b. b && not (list_any (λ u. same_ticket u t) q.ring.log.used)) (above n (length q.ring.log.accepted) least.0)
               ∙ ap not fresh_one,
-          λ u b. unused_off u (λ e lt. was_used u e (least.2 u.number (before_in u.queue u.number place n b e))),
+          λ u b. unused_off u (λ e lt. was_used u e (least.2 u.number (before_in u.queue u.number queue_index n b e))),
         )
 
 -- one queue more

@@ -53,7 +53,7 @@ is_outstanding units queues receipts notes t =
 
 pub record IsReport (specs : List UnitSpec) (units : List PlainUnit) (queues : List BareQueue) (receipts : List Receipt)
     (notes : List PlainNote) : Type 0 where
-  -- the units are those that were wanted, and each queue stands at the place of its number
+  -- the units are those that were wanted, and each queue stands at the index of its number
   pub opened : AreOpenedAs specs units
   pub in_place : AreInPlace queues
   -- each history is lawful, and its unit is what it says

@@ -15,17 +15,17 @@ pub record IsOpenedAs (s : UnitSpec) (u : PlainUnit) : Type 0 where
   pub identity : u.opening.identity ≡ s.identity
   pub keeps : u.keeps_replies ≡ true
 
--- own: these are the units that were wanted, each at its place
+-- own: these are the units that were wanted, each at its index
 pub record AreOpenedAs (specs : List UnitSpec) (units : List PlainUnit) : Type 0 where
   pub count : length units ≡ length specs
   pub each : (k : ℕ) (s : UnitSpec) (u : PlainUnit) → slice_get specs k ≡ Some s → slice_get units k ≡ Some u
       → IsOpenedAs s u
 
--- own: each queue stands at the place of its number
+-- own: each queue stands at the index of its number
 abbrev pub AreInPlace : List BareQueue → Type 0
 AreInPlace queues = (k : ℕ) (q : BareQueue) → slice_get queues k ≡ Some q → q.ring.queue ≡ k
 
--- own: the first ticket of the first place at which a queue of another number stands
+-- own: the first ticket of the first index at which a queue of another number stands
 pub record IsFirstMisplaced (queues : List BareQueue) (t : Ticket) : Type 0 where
   pub number : t.number ≡ 0
   pub some : (q : BareQueue) × (slice_get queues t.queue ≡ Some q) × (q.ring.queue ≡ t.queue → ⊥)

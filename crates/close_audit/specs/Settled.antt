@@ -1,4 +1,4 @@
--- Which tickets of a closed host are outstanding. The queue of a ticket is the one at the place that it names.
+-- Which tickets of a closed host are outstanding. The queue of a ticket is the one at the index that it names.
 use Rattle.std.specs.Prelude.{ℕ, ◌+◌, Bool, true, false, not, nat_lt, nat_le, ◌==◌, ◌&&◌, ◌||◌, List, length, Option, Some, None, slice_get, count_by}
 use Rattle.std.specs.List.{list_any, list_all}
 use Rattle.ring_core.specs.declared.log.Ticket.{Ticket}

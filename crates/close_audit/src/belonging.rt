@@ -35,30 +35,30 @@ fn is_opened_as(spec: &UnitSpec, unit: &UnitState) -> bool
         && unit.keeps_replies()
 }
 
-/// Returns whether these are the units that were wanted, each at its place.
+/// Returns whether these are the units that were wanted, each at its index.
 fn are_opened_as(specs: &[UnitSpec], units: &[UnitState]) -> bool
     ensures { IsTrue result ↔ AreOpenedAs specs.now units.now }
 {
     if units.len() != specs.len() {
         return false;
     }
-    for place in 0..units.len() {
-        if !is_opened_as(&specs[place], &units[place]) {
+    for unit_index in 0..units.len() {
+        if !is_opened_as(&specs[unit_index], &units[unit_index]) {
             return false;
         }
     }
     true
 }
 
-/// Returns the first ticket of the first place at which a queue of another number stands.
+/// Returns the first ticket of the first index at which a queue of another number stands.
 fn first_misplaced(queues: &[Queue]) -> Option<Ticket>
     requires few { length queues.now ≤ 65536 }
     ensures { Misplaces queues.now result }
 {
-    for (place, queue) in queues.iter().enumerate() {
-        if usize::from(queue.number()) != place {
+    for (queue_index, queue) in queues.iter().enumerate() {
+        if usize::from(queue.number()) != queue_index {
             return Some(Ticket {
-                queue: place as u16,
+                queue: queue_index as u16,
                 number: 0,
             });
         }

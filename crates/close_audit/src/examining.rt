@@ -43,7 +43,7 @@ fn first_outstanding(alloc: Global, report: &Report) -> Result<Option<Ticket>, N
 ///   or a receipt or note of what is no accepted request;
 /// - `Outstanding` of ticket 0/0: other units than those of the host. Their number is another, or one opened with
 ///   another address or capacity, or keeps no replies;
-/// - `Outstanding` of the first ticket of a place: the first at which a queue of another number stands.
+/// - `Outstanding` of the first ticket of an index: the first at which a queue of another number stands.
 ///
 /// `NoMemory` where the tallies were refused memory. It takes time for each receipt, note, step and accepted chain,
 /// folded steps too.

@@ -38,45 +38,45 @@ pub(crate) fn lesser(one: Option<Ticket>, other: Option<Ticket>) -> Option<Ticke
     }
 }
 
-/// Returns the first chain that a queue accepted and didn't use, as tickets name it by its place. One with another
-/// number used no ticket of that place.
-fn first_unused(place: u16, queue: &Queue) -> Option<Ticket>
-    ensures { IsFirst (unused_in place queue.now) result }
+/// Returns the first chain that a queue accepted and didn't use, as tickets name it by its index. One with another
+/// number used no ticket of that index.
+fn first_unused(queue_index: u16, queue: &Queue) -> Option<Ticket>
+    ensures { IsFirst (unused_in queue_index queue.now) result }
 {
     let accepted = queue.log().accepted();
-    if queue.number() != place {
-        return first_accepted(place, accepted);
+    if queue.number() != queue_index {
+        return first_accepted(queue_index, accepted);
     }
     match queue.least_outstanding() {
         None => None,
         Some(number) => Some(Ticket {
-            queue: place,
+            queue: queue_index,
             number,
         }),
     }
 }
 
 /// Returns the first of so many chains.
-fn first_accepted(place: u16, count: u64) -> Option<Ticket>
-    ensures { IsFirst (λ t. (t.queue == place) && nat_lt t.number count) result }
+fn first_accepted(queue_index: u16, count: u64) -> Option<Ticket>
+    ensures { IsFirst (λ t. (t.queue == queue_index) && nat_lt t.number count) result }
 {
     if count == 0 {
         None
     } else {
         Some(Ticket {
-            queue: place,
+            queue: queue_index,
             number: 0,
         })
     }
 }
 
 /// Returns the first of so many requests of a queue that isn't settled. Some unit's steps may be folded.
-fn first_unsettled(place: u16, count: u64, folded: bool, tables: &Tables) -> Option<Ticket>
-    ensures { IsFirst (unsettled_in place count folded tables.now.tables.items) result }
+fn first_unsettled(queue_index: u16, count: u64, folded: bool, tables: &Tables) -> Option<Ticket>
+    ensures { IsFirst (unsettled_in queue_index count folded tables.now.tables.items) result }
 {
     for number in 0..count {
         let ticket = Ticket {
-            queue: place,
+            queue: queue_index,
             number,
         };
         if tables.ends_amiss(ticket, folded) {
@@ -88,17 +88,17 @@ fn first_unsettled(place: u16, count: u64, folded: bool, tables: &Tables) -> Opt
 
 /// Returns the first ticket of a queue that is outstanding. The event queue's chains aren't asked for (VIRTIO 1.2,
 /// 5.6.2).
-fn first_in(place: u16, queue: &Queue, folded: bool, tables: &Tables) -> Option<Ticket>
-    ensures { IsFirst (amiss_in place queue.now folded tables.now.tables.items) result }
+fn first_in(queue_index: u16, queue: &Queue, folded: bool, tables: &Tables) -> Option<Ticket>
+    ensures { IsFirst (amiss_in queue_index queue.now folded tables.now.tables.items) result }
 {
-    let unused = if place == 1 {
+    let unused = if queue_index == 1 {
         None
     } else {
-        first_unused(place, queue)
+        first_unused(queue_index, queue)
     };
     lesser(
         unused,
-        first_unsettled(place, queue.log().accepted(), folded, tables),
+        first_unsettled(queue_index, queue.log().accepted(), folded, tables),
     )
 }
 
@@ -108,8 +108,8 @@ pub(crate) fn first_of(queues: &[Queue], folded: bool, tables: &Tables) -> Optio
     ensures { IsFirst (amiss_of queues.now folded tables.now.tables.items) result }
 {
     let mut first = None;
-    for (place, queue) in queues.iter().enumerate() {
-        first = lesser(first, first_in(place as u16, queue, folded, tables));
+    for (queue_index, queue) in queues.iter().enumerate() {
+        first = lesser(first, first_in(queue_index as u16, queue, folded, tables));
     }
     first
 }

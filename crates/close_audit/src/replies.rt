@@ -51,7 +51,7 @@ pub(crate) fn keep_receipt(
     replies[slot] = reply;
 }
 
-/// Makes the places for the latest replies. Each is empty as long as no reply stands there.
+/// Makes the slots for the latest replies. Each is empty as long as no reply stands there.
 pub(crate) fn make_slots(replies: &mut Vec<Option<Reply>>) -> Result<(), AllocError>
     ensures slots { OnOk result (replies_kept ≤ vec_len replies.new) }
     ensures same { (i : ℕ) → reply_in (slice_get replies.new.items i) ≡ reply_in (slice_get replies.old.items i) }

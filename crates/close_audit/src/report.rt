@@ -22,7 +22,7 @@ fn is_any_broken(queues: &[Queue]) -> bool
 pub struct Report {
     /// Its units, by rising target and LUN.
     pub units: Vec<UnitState>,
-    /// Its queues, each at the place of its number.
+    /// Its queues, each at the index of its number.
     pub queues: Vec<Queue>,
     /// The memory of its guest.
     pub memory: GuestMem,

@@ -23,11 +23,11 @@ pub(crate) struct Tables {
     pub tables: Vec<Vec<Tally>>,
 }
 
-/// Returns how many requests the queue at a place accepted.
-fn requests_of(place: usize, queue: &Queue) -> usize
-    ensures { result ≡ asked_count place queue.now }
+/// Returns how many requests the queue at an index accepted.
+fn requests_of(queue_index: usize, queue: &Queue) -> usize
+    ensures { result ≡ asked_count queue_index queue.now }
 {
-    if place < FIRST_REQUEST {
+    if queue_index < FIRST_REQUEST {
         0
     } else {
         queue.log().accepted() as usize

@@ -24,7 +24,7 @@ abbrev pub compared : Option ℕ → Answer
 compared None = done
 compared (Some offset) = Err (miscompare offset)
 
--- the data of VERIFY as blocks, SBC-3 §5.29: that with which the block of each place in the range is compared
+-- the data of VERIFY as blocks, SBC-3 §5.29: that with which the block of each index in the range is compared
 abbrev pub to_verify : VerifyData → List ℕ → Blocks
 to_verify EachBlock bytes k = nth_block bytes k
 to_verify OneBlock bytes k = bytes

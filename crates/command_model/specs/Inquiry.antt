@@ -16,9 +16,9 @@ use Rattle.command_model.specs.declared.identity.Identity.{Identity}
 abbrev pub block_device : ℕ
 block_device = 0x00
 
--- the decimal digit of a number at a place, as text; place 0 is the lowest
+-- the decimal digit of a number at a position, as text; position 0 is the lowest
 abbrev pub digit : ℕ → ℕ → ℕ
-digit number place = 0x30 + number / 10 ^ place % 10
+digit number position = 0x30 + number / 10 ^ position % 10
 
 -- own: the serial number of a unit that is given none: the target in 3 digits, the LUN in 5
 unfoldable pub serial : ℕ → ℕ → List ℕ

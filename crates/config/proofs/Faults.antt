@@ -51,44 +51,44 @@ module _ {X : Type 0} (p : X → Bool) where
       list_all-from_AllPass p xs (λ k d within. affirmed (p (get_or xs k d)) (fails_before_first (λ x. not (p x)) xs k d (omega (arith, within, past))))
 
 -- what is wrong with the first queue that isn't taken is wrong with the queues
-pub of_queue : (form : Form) (memory : ℕ) (queues : List Layout) (place : ℕ) (l : Layout) (f : ConfigFault)
-    → is_within 3 18 (length queues) ≡ true → first (is_queue form memory) queues ≡ Some place → slice_get queues place ≡ Some l → IsQueueFault form memory place l f → IsQueuesFault form memory queues f
-of_queue form memory queues place l (fault.QueueSize k) many e at h =
+pub of_queue : (form : Form) (memory : ℕ) (queues : List Layout) (queue_index : ℕ) (l : Layout) (f : ConfigFault)
+    → is_within 3 18 (length queues) ≡ true → first (is_queue form memory) queues ≡ Some queue_index → slice_get queues queue_index ≡ Some l → IsQueueFault form memory queue_index l f → IsQueuesFault form memory queues f
+of_queue form memory queues queue_index l (fault.QueueSize k) many e at h =
     subst (λ n. FirstQueue form memory queues n (fault.QueueSize n)) (sym h.0) (record { many = many; first = e; layout = l; at = at; cause = (refl, h.1) })
-of_queue form memory queues place l (fault.QueueLayout k cause) many e at h =
+of_queue form memory queues queue_index l (fault.QueueLayout k cause) many e at h =
     subst (λ n. FirstQueue form memory queues n (fault.QueueLayout n cause)) (sym h.0) (record { many = many; first = e; layout = l; at = at; cause = (refl, h.1, h.2) })
-of_queue form memory queues place l fault.Pages many e at h = h
-of_queue form memory queues place l fault.Features many e at h = h
-of_queue form memory queues place l fault.QueueCount many e at h = absurd h
-of_queue form memory queues place l fault.Workers many e at h = h
-of_queue form memory queues place l fault.Handoff many e at h = h
-of_queue form memory queues place l fault.UnitCount many e at h = h
-of_queue form memory queues place l (fault.UnitLun k) many e at h = h
-of_queue form memory queues place l (fault.UnitBlocks k) many e at h = h
-of_queue form memory queues place l (fault.UnitOrder k) many e at h = h
-of_queue form memory queues place l (fault.NoLun0 k) many e at h = h
-of_queue form memory queues place l (fault.UnitIdentity k) many e at h = h
-of_queue form memory queues place l (fault.UnitNaa k) many e at h = h
+of_queue form memory queues queue_index l fault.Pages many e at h = h
+of_queue form memory queues queue_index l fault.Features many e at h = h
+of_queue form memory queues queue_index l fault.QueueCount many e at h = absurd h
+of_queue form memory queues queue_index l fault.Workers many e at h = h
+of_queue form memory queues queue_index l fault.Handoff many e at h = h
+of_queue form memory queues queue_index l fault.UnitCount many e at h = h
+of_queue form memory queues queue_index l (fault.UnitLun k) many e at h = h
+of_queue form memory queues queue_index l (fault.UnitBlocks k) many e at h = h
+of_queue form memory queues queue_index l (fault.UnitOrder k) many e at h = h
+of_queue form memory queues queue_index l (fault.NoLun0 k) many e at h = h
+of_queue form memory queues queue_index l (fault.UnitIdentity k) many e at h = h
+of_queue form memory queues queue_index l (fault.UnitNaa k) many e at h = h
 
-pub of_unit : (units : List UnitSpec) (place : ℕ) (u : UnitSpec) (f : ConfigFault)
-    → is_within 1 64 (length units) ≡ true → first is_unit units ≡ Some place → slice_get units place ≡ Some u → IsUnitFault place u f → IsUnitsFault units f
-of_unit units place u (fault.UnitLun k) many e at h =
+pub of_unit : (units : List UnitSpec) (unit_index : ℕ) (u : UnitSpec) (f : ConfigFault)
+    → is_within 1 64 (length units) ≡ true → first is_unit units ≡ Some unit_index → slice_get units unit_index ≡ Some u → IsUnitFault unit_index u f → IsUnitsFault units f
+of_unit units unit_index u (fault.UnitLun k) many e at h =
     subst (λ n. FirstUnit units n (fault.UnitLun n)) (sym h.0) (record { many = many; first = e; unit = u; at = at; cause = (refl, h.1) })
-of_unit units place u (fault.UnitBlocks k) many e at h =
+of_unit units unit_index u (fault.UnitBlocks k) many e at h =
     subst (λ n. FirstUnit units n (fault.UnitBlocks n)) (sym h.0) (record { many = many; first = e; unit = u; at = at; cause = (refl, h.1, h.2) })
-of_unit units place u fault.Pages many e at h = h
-of_unit units place u fault.Features many e at h = h
-of_unit units place u fault.QueueCount many e at h = h
-of_unit units place u (fault.QueueSize k) many e at h = h
-of_unit units place u (fault.QueueLayout k cause) many e at h = h
-of_unit units place u fault.Workers many e at h = h
-of_unit units place u fault.Handoff many e at h = h
-of_unit units place u fault.UnitCount many e at h = absurd h
-of_unit units place u (fault.UnitOrder k) many e at h = absurd h
-of_unit units place u (fault.NoLun0 k) many e at h = absurd h
-of_unit units place u (fault.UnitIdentity k) many e at h =
+of_unit units unit_index u fault.Pages many e at h = h
+of_unit units unit_index u fault.Features many e at h = h
+of_unit units unit_index u fault.QueueCount many e at h = h
+of_unit units unit_index u (fault.QueueSize k) many e at h = h
+of_unit units unit_index u (fault.QueueLayout k cause) many e at h = h
+of_unit units unit_index u fault.Workers many e at h = h
+of_unit units unit_index u fault.Handoff many e at h = h
+of_unit units unit_index u fault.UnitCount many e at h = absurd h
+of_unit units unit_index u (fault.UnitOrder k) many e at h = absurd h
+of_unit units unit_index u (fault.NoLun0 k) many e at h = absurd h
+of_unit units unit_index u (fault.UnitIdentity k) many e at h =
     subst (λ n. FirstUnit units n (fault.UnitIdentity n)) (sym h.0) (record { many = many; first = e; unit = u; at = at; cause = (refl, h.1, h.2, h.3) })
-of_unit units place u (fault.UnitNaa k) many e at h = absurd h
+of_unit units unit_index u (fault.UnitNaa k) many e at h = absurd h
 
 -- a number that isn't 0 leaves the test to what stands behind it
 pub or_else : (n m : ℕ) (a b : Bool) → n ≡ m → (n ≡ 0 → ⊥) → a ≡ b → not a ≡ ((m == 0) || not b)
@@ -126,20 +126,20 @@ within_of (x ∷ xs) (suc k) u e = let rest = within_of xs k u e in omega (arith
 
 -- what the loop that looks for a fall knows: so far each unit stands above the one before it
 abbrev Rising : List UnitSpec → ℕ → Type 0
-Rising units place = (k : ℕ) → 0 < k → k < place → Rises units k
+Rising units index = (k : ℕ) → 0 < k → k < index → Rises units k
 
-pub none_falls : (units : List UnitSpec) (place : ℕ) → Rising units place → length units ≤ place → true ≡ is_rising (map address_of units)
-none_falls units place each past = sym (rising units (λ k a b e f.
+pub none_falls : (units : List UnitSpec) (index : ℕ) → Rising units index → length units ≤ index → true ≡ is_rising (map address_of units)
+none_falls units index each past = sym (rising units (λ k a b e f.
     let back : suc k - 1 ≡ k = omega arith in let below = within_of units (suc k) b f in
     each (suc k) (omega arith) (omega (arith, past, below)) a b (subst (λ (n : ℕ). slice_get units n ≡ Some a) (sym back) e) f))
 
 same : (a b : UnitSpec) → Some a ≡ Some b → a ≡ b
 same a b e = cc
 
-pub stays : (units : List UnitSpec) (place : ℕ) (a b : UnitSpec) → Rising units place → slice_get units (place - 1) ≡ Some a → slice_get units place ≡ Some b
-    → stands_before (address_of a) (address_of b) ≡ true → Rising units (place + 1)
-stays units place a b each e f g k positive below before here at_before at_here =
-    elim (below_next k place below) [
+pub stays : (units : List UnitSpec) (index : ℕ) (a b : UnitSpec) → Rising units index → slice_get units (index - 1) ≡ Some a → slice_get units index ≡ Some b
+    → stands_before (address_of a) (address_of b) ≡ true → Rising units (index + 1)
+stays units index a b each e f g k positive below before here at_before at_here =
+    elim (below_next k index below) [
       | inl less ↦ each k positive less before here at_before at_here
       | inr is ↦
           let p : a ≡ before = same a before (sym e ∙ subst (λ (n : ℕ). slice_get units (n - 1) ≡ Some before) is at_before) in
@@ -151,7 +151,7 @@ decided : (b : Bool) → ((b ≡ true) → ⊥) → false ≡ b
 decided true never = absurd (never refl)
 decided false never = refl
 
-pub falling : (units : List UnitSpec) (place : ℕ) (a b : UnitSpec) → 0 < place → slice_get units (place - 1) ≡ Some a → slice_get units place ≡ Some b
+pub falling : (units : List UnitSpec) (index : ℕ) (a b : UnitSpec) → 0 < index → slice_get units (index - 1) ≡ Some a → slice_get units index ≡ Some b
     → stands_before (address_of a) (address_of b) ≡ false → false ≡ is_rising (map address_of units)
-falling units place a b positive e f g = let next : place ≡ suc (place - 1) = omega (arith, positive) in decided (is_rising (map address_of units)) (λ r.
-    let h : stands_before (address_of a) (address_of b) ≡ true = each_rising units (place - 1) a b r e (subst (λ (n : ℕ). slice_get units n ≡ Some b) next f) in cc)
+falling units index a b positive e f g = let next : index ≡ suc (index - 1) = omega (arith, positive) in decided (is_rising (map address_of units)) (λ r.
+    let h : stands_before (address_of a) (address_of b) ≡ true = each_rising units (index - 1) a b r e (subst (λ (n : ℕ). slice_get units n ≡ Some b) next f) in cc)

@@ -18,7 +18,7 @@ pub const MOST_DESCRIPTORS: u16 = 1024;
 /// The most blocks of a unit, of 512 bytes each: a unit has at most 512 tebibytes.
 pub const MOST_BLOCKS: u64 = 1 << 40;
 
-/// The cause for which the device doesn't take a configuration. A place counts from 0; it is the first that has this
+/// The cause for which the device doesn't take a configuration. An index counts from 0; it is the first that has this
 /// cause.
 #[derive(Clone, Copy, Debug, PartialEq, Eq)]
 pub enum ConfigFault {
@@ -38,17 +38,17 @@ pub enum ConfigFault {
     Handoff,
     /// There are no units, or more than 64.
     UnitCount,
-    /// The unit at this place has a LUN above 16,383.
+    /// The unit at this index has a LUN above 16,383.
     UnitLun(usize),
-    /// The unit at this place has no blocks, or more than 2^40.
+    /// The unit at this index has no blocks, or more than 2^40.
     UnitBlocks(usize),
-    /// The unit at this place doesn't stand above the one before it, by target and LUN.
+    /// The unit at this index doesn't stand above the one before it, by target and LUN.
     UnitOrder(usize),
-    /// The target of the unit at this place has no LUN 0.
+    /// The target of the unit at this index has no LUN 0.
     NoLun0(usize),
-    /// The unit at this place says of itself what no unit may: [`Identity::is_valid`] denies it.
+    /// The unit at this index says of itself what no unit may: [`Identity::is_valid`] denies it.
     UnitIdentity(usize),
-    /// Another unit has the NAA designator of the unit at this place.
+    /// Another unit has the NAA designator of the unit at this index.
     UnitNaa(usize),
 }
 
@@ -58,17 +58,17 @@ impl fmt::Display for ConfigFault {
             ConfigFault::Pages => write!(f, "pages out of range"),
             ConfigFault::Features => write!(f, "features aren't offered"),
             ConfigFault::QueueCount => write!(f, "number of queues out of range"),
-            ConfigFault::QueueSize(place) => write!(f, "queue {place}: size out of range"),
-            ConfigFault::QueueLayout(place, fault) => write!(f, "queue {place}: {fault}"),
+            ConfigFault::QueueSize(index) => write!(f, "queue {index}: size out of range"),
+            ConfigFault::QueueLayout(index, fault) => write!(f, "queue {index}: {fault}"),
             ConfigFault::Workers => write!(f, "number of workers out of range"),
             ConfigFault::Handoff => write!(f, "room of the hand-off out of range"),
             ConfigFault::UnitCount => write!(f, "number of units out of range"),
-            ConfigFault::UnitLun(place) => write!(f, "unit {place}: LUN out of range"),
-            ConfigFault::UnitBlocks(place) => write!(f, "unit {place}: capacity out of range"),
-            ConfigFault::UnitOrder(place) => write!(f, "unit {place}: not above the one before"),
-            ConfigFault::NoLun0(place) => write!(f, "unit {place}: target without LUN 0"),
-            ConfigFault::UnitIdentity(place) => write!(f, "unit {place}: names out of range"),
-            ConfigFault::UnitNaa(place) => write!(f, "unit {place}: NAA of another unit"),
+            ConfigFault::UnitLun(index) => write!(f, "unit {index}: LUN out of range"),
+            ConfigFault::UnitBlocks(index) => write!(f, "unit {index}: capacity out of range"),
+            ConfigFault::UnitOrder(index) => write!(f, "unit {index}: not above the one before"),
+            ConfigFault::NoLun0(index) => write!(f, "unit {index}: target without LUN 0"),
+            ConfigFault::UnitIdentity(index) => write!(f, "unit {index}: names out of range"),
+            ConfigFault::UnitNaa(index) => write!(f, "unit {index}: NAA of another unit"),
         }
     }
 }
@@ -83,15 +83,15 @@ fn check_queue(form: Form, memory: u64, layout: &Layout) -> bool
 }
 
 /// Returns why a queue doesn't lie within the limits.
-fn fault_of_queue(form: Form, memory: u64, place: usize, layout: &Layout) -> ConfigFault
+fn fault_of_queue(form: Form, memory: u64, queue_index: usize, layout: &Layout) -> ConfigFault
     requires { is_queue form memory layout.now ≡ false }
-    ensures { IsQueueFault form memory place layout.now result }
+    ensures { IsQueueFault form memory queue_index layout.now result }
 {
     if layout.size < 2 || layout.size > MOST_DESCRIPTORS {
-        return ConfigFault::QueueSize(place);
+        return ConfigFault::QueueSize(queue_index);
     }
     match placement(form, memory, layout) {
-        Some(fault) => ConfigFault::QueueLayout(place, fault),
+        Some(fault) => ConfigFault::QueueLayout(queue_index, fault),
         None => unreachable!(),
     }
 }
@@ -114,7 +114,7 @@ pub(crate) fn fault_of_queues(form: Form, memory: u64, queues: &[Layout]) -> Opt
         return Some(ConfigFault::QueueCount);
     }
     match first_refused(form, memory, queues) {
-        Some(place) => Some(fault_of_queue(form, memory, place, &queues[place])),
+        Some(queue_index) => Some(fault_of_queue(form, memory, queue_index, &queues[queue_index])),
         None => None,
     }
 }
@@ -127,16 +127,16 @@ fn check_unit(unit: &UnitSpec) -> bool
 }
 
 /// Returns why a unit doesn't lie within the limits.
-fn fault_of_unit(place: usize, unit: &UnitSpec) -> ConfigFault
+fn fault_of_unit(unit_index: usize, unit: &UnitSpec) -> ConfigFault
     requires { is_unit unit.now ≡ false }
-    ensures { IsUnitFault place unit.now result }
+    ensures { IsUnitFault unit_index unit.now result }
 {
     if unit.lun > 16383 {
-        ConfigFault::UnitLun(place)
+        ConfigFault::UnitLun(unit_index)
     } else if unit.blocks < 1 || unit.blocks > MOST_BLOCKS {
-        ConfigFault::UnitBlocks(place)
+        ConfigFault::UnitBlocks(unit_index)
     } else {
-        ConfigFault::UnitIdentity(place)
+        ConfigFault::UnitIdentity(unit_index)
     }
 }
 
@@ -213,11 +213,11 @@ fn stands_above(before: &UnitSpec, unit: &UnitSpec) -> bool
 /// Returns the first unit that doesn't stand above the one before it.
 fn first_fall(units: &[UnitSpec]) -> Option<usize>
     ensures none { is_none result ≡ is_rising (map address_of units.now) }
-    ensures cause { IfSome result (λ place. Falls units.now place) }
+    ensures cause { IfSome result (λ index. Falls units.now index) }
 {
-    for place in 1..units.len() {
-        if !stands_above(&units[place - 1], &units[place]) {
-            return Some(place);
+    for unit_index in 1..units.len() {
+        if !stands_above(&units[unit_index - 1], &units[unit_index]) {
+            return Some(unit_index);
         }
     }
     None
@@ -231,17 +231,17 @@ pub(crate) fn fault_of_units(units: &[UnitSpec]) -> Option<ConfigFault>
     if units.len() < 1 || units.len() > 64 {
         return Some(ConfigFault::UnitCount);
     }
-    if let Some(place) = first_unfit(units) {
-        return Some(fault_of_unit(place, &units[place]));
+    if let Some(unit_index) = first_unfit(units) {
+        return Some(fault_of_unit(unit_index, &units[unit_index]));
     }
-    if let Some(place) = first_fall(units) {
-        return Some(ConfigFault::UnitOrder(place));
+    if let Some(unit_index) = first_fall(units) {
+        return Some(ConfigFault::UnitOrder(unit_index));
     }
-    if let Some(place) = first_lacking(units) {
-        return Some(ConfigFault::NoLun0(place));
+    if let Some(unit_index) = first_lacking(units) {
+        return Some(ConfigFault::NoLun0(unit_index));
     }
     match first_sharing(units) {
-        Some(place) => Some(ConfigFault::UnitNaa(place)),
+        Some(unit_index) => Some(ConfigFault::UnitNaa(unit_index)),
         None => None,
     }
 }

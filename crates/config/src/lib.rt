@@ -2,7 +2,7 @@
 //!
 //! # Proved
 //!
-//! A configuration is refused exactly where it lies outside the limits, by its cause and place.
+//! A configuration is refused exactly where it lies outside the limits, by its cause and index.
 #![tactic(auto)]
 
 mod config;

@@ -219,23 +219,23 @@ commit_named old (Transition.Commit k y q) ds x r o l e =
 commit_named old d ds x r o l e = absurd e
 
 -- the transition of a Commit in a history
-pub record IsRun (t : Ticket) (place : ℕ) (r : PlainReply) (d : Transition) : Type 0 where
+pub record IsRun (t : Ticket) (unit_index : ℕ) (r : PlainReply) (d : Transition) : Type 0 where
   pub job : PlainJob
   pub chain : job.chain.ticket ≡ t
   pub commit : IsCommit job r d
 
-pub runs_by : (old : PlainWorld) (d : Transition) (ds : List Transition) (place : ℕ) (t : Ticket) (r : PlainReply) → Opens old
-    → Leads old (d ∷ ds) → step_of place d ≡ Some (Step.Commit t r) → IsRun t place r d
-runs_by old d ds place t r o l e =
-    let x = commit_of d place t r e in
+pub runs_by : (old : PlainWorld) (d : Transition) (ds : List Transition) (unit_index : ℕ) (t : Ticket) (r : PlainReply) → Opens old
+    → Leads old (d ∷ ds) → step_of unit_index d ≡ Some (Step.Commit t r) → IsRun t unit_index r d
+runs_by old d ds unit_index t r o l e =
+    let x = commit_of d unit_index t r e in
     record { job = x.0; chain = sym (commit_named old d ds x.0 r o l x.3) ∙ x.2; commit = x.3 }
 
 never_ran : (old : PlainWorld) (x : PlainJob) (why : Reason) (ds : List Transition) → Opens old → Leads old ds
     → Happened (IsAbort x why) ds → NeverRan x.chain.ticket ds
-never_ran old x why ds o l a place r h =
+never_ran old x why ds o l a unit_index r h =
     let t = x.chain.ticket in
-    let q = done_at place (Step.Commit t r) ds h in
-    let run = runs_by old q.0 q.1 place t r o (leads_beginning old (q.0 ∷ q.1) ds q.2 l) q.3 in
+    let q = done_at unit_index (Step.Commit t r) ds h in
+    let run = runs_by old q.0 q.1 unit_index t r o (leads_beginning old (q.0 ∷ q.1) ds q.2 l) q.3 in
     let told = told_there (IsCommit run.job r) q.0 q.1 ds q.2 run.commit in
     let two = told_two (IsAbort x why) (IsCommit run.job r) (ends (only t)) (one_abort x why)
     (λ d e. one_commit t run.job r d run.chain e) (not_both x run.job why r) ds a told in

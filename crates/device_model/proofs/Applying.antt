@@ -96,16 +96,16 @@ applies Transition.Wake w h = h
 applies (Transition.Resume k x) w h =
     record { worker = h.worker; free = h.free; job = x; rest = h.rest; first = h.first }
 applies (Transition.Answer k x o xs) w h = (x, o, (h.out, h.seat))
-applies (Transition.Leave k place t jobs) w h = (place, t, (h.holds.out, h.holds.seat))
+applies (Transition.Leave k unit_index t jobs) w h = (unit_index, t, (h.holds.out, h.holds.seat))
 applies (Transition.Mark t p m jobs) w h =
     let g = h.marking in
-    record { opened = g.opened; there = g.there; place = p.unit; later = g.later; left = g.left }
-applies (Transition.Ask t place rule b) w h =
+    record { opened = g.opened; there = g.there; unit_index = p.unit; later = g.later; left = g.left }
+applies (Transition.Ask t unit_index rule b) w h =
     let g = h.marking in
-    record { opened = g.opened; there = g.there; place = place; later = g.later; left = g.left }
+    record { opened = g.opened; there = g.there; unit_index = unit_index; later = g.later; left = g.left }
 applies (Transition.MarkRefused t) w h =
     let g = h.marking in
-    record { opened = g.opened; there = g.there; place = h.place; later = g.later; left = g.left }
+    record { opened = g.opened; there = g.there; unit_index = h.unit_index; later = g.later; left = g.left }
 applies (Transition.Check t p) w h =
     let g = h.waiting in
     record {
@@ -123,8 +123,8 @@ applies (Transition.Respond c r xs) w h =
     let g = h.waiting in
     record { opened = g.opened; there = g.there; left = g.left; still = g.still }
 applies (Transition.Hard p jobs) w h = (h.unit, h.there)
-applies (Transition.Resize place blocks) w h = (h.unit, h.there, h.may)
-applies (Transition.Deal place x) w h = h
+applies (Transition.Resize unit_index blocks) w h = (h.unit, h.there, h.may)
+applies (Transition.Deal unit_index x) w h = h
 applies (Transition.Give e c xs) w h = (e, h.later, h.waits)
 applies (Transition.Miss e) w h = (e, h.later, h.waits)
 applies (Transition.Idle e) w h = absurd h

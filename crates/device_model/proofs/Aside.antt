@@ -21,7 +21,7 @@ use Rattle.device_model.specs.Transitions.{Transition}
 use Rattle.device_model.specs.Event.Hard.{hard_code}
 use Rattle.device_model.specs.After.{after}
 use Rattle.device_model.specs.Event.Wake.{Defers}
-use Rattle.device_model.specs.Happens.{May, Occurrence, Runs}
+use Rattle.device_model.specs.Happens.{MayHappen, Occurrence, Runs}
 use Rattle.device_model.specs.Standing.{IsAside, AreAside, NoneIsBacked}
 use Rattle.device_model.proofs.Lists.{same, there_change, at_other}
 use Rattle.device_model.proofs.Staying.{run_keeps, everywhere}
@@ -95,7 +95,7 @@ waits_backed w k x m =
 abbrev Waits : PlainWorld → Type 0
 Waits w = AllAside w.units w.aside
 
-transition_waits : (d : Transition) (w : PlainWorld) → May d w → Waits w → Waits (after d w)
+transition_waits : (d : Transition) (w : PlainWorld) → MayHappen d w → Waits w → Waits (after d w)
 transition_waits (Transition.Run x) w m h =
     all_on (stepped (Step.Enter x.entry)) x.unit w.units w.aside (λ u. (refl, λ t. refl)) h
 transition_waits (Transition.Park x) w m h = all_on (parking x) x.unit w.units w.aside (λ u. (refl, λ t. refl)) h
@@ -108,14 +108,14 @@ transition_waits (Transition.CommitBusy k x) w m h =
 transition_waits (Transition.Defer k x) w m h =
     each_push (AsideAt w.units) w.aside x h (m.holds.unit, m.holds.there, waits_backed w k x m, m.ready.is_unmarked)
 transition_waits Transition.Wake w m h = tt
-transition_waits (Transition.Leave k place t jobs) w m h =
-    all_on (stepped (Step.Leave t)) place w.units w.aside (λ u. (refl, λ t. refl)) h
+transition_waits (Transition.Leave k unit_index t jobs) w m h =
+    all_on (stepped (Step.Leave t)) unit_index w.units w.aside (λ u. (refl, λ t. refl)) h
 transition_waits (Transition.Mark t p how jobs) w m h = tt
 transition_waits (Transition.Hard p jobs) w m h = tt
-transition_waits (Transition.Resize place blocks) w m h =
-    all_on (stepped (Step.Resize blocks)) place w.units w.aside (λ u. (backed_resize blocks u, λ t. refl)) h
-transition_waits (Transition.Deal place x) w m h =
-    all_on (dealing x) place w.units w.aside (λ u. (backed_deal x u, λ t. refl)) h
+transition_waits (Transition.Resize unit_index blocks) w m h =
+    all_on (stepped (Step.Resize blocks)) unit_index w.units w.aside (λ u. (backed_resize blocks u, λ t. refl)) h
+transition_waits (Transition.Deal unit_index x) w m h =
+    all_on (dealing x) unit_index w.units w.aside (λ u. (backed_deal x u, λ t. refl)) h
 transition_waits d w m h = h
 
 left_on : (a b : Bool) → b ≡ false → (a || b) ≡ true → a ≡ true
@@ -167,7 +167,7 @@ no_job e = cc
 none_woken : (w : PlainWorld) → w.aside ≡ [] → w.woken ≡ [] → w.woken ++ w.aside ≡ []
 none_woken w a b = ap (λ l. l ++ w.aside) b ∙ a
 
-pub transition_bare : (d : Transition) (w : PlainWorld) → May d w → Bare w → Bare (after d w)
+pub transition_bare : (d : Transition) (w : PlainWorld) → MayHappen d w → Bare w → Bare (after d w)
 transition_bare (Transition.Run x) w m h =
     (not_backed (stepped (Step.Enter x.entry)) x.unit w.units (λ u. refl) h.0, h.1, h.2)
 transition_bare (Transition.Park x) w m h = (not_backed (parking x) x.unit w.units (λ u. refl) h.0, h.1, h.2)
@@ -181,16 +181,16 @@ transition_bare (Transition.Defer k x) w m h =
     absurd (clash (sym (waits_backed w k x m) ∙ h.0 x.unit m.holds.unit m.holds.there))
 transition_bare Transition.Wake w m h = absurd (no_job (sym h.1 ∙ m.waits))
 transition_bare (Transition.Resume k x) w m h = absurd (no_job (sym h.2 ∙ m.first))
-transition_bare (Transition.Leave k place t jobs) w m h =
-    (not_backed (stepped (Step.Leave t)) place w.units (λ u. refl) h.0, h.1, h.2)
+transition_bare (Transition.Leave k unit_index t jobs) w m h =
+    (not_backed (stepped (Step.Leave t)) unit_index w.units (λ u. refl) h.0, h.1, h.2)
 transition_bare (Transition.Mark t p how jobs) w m h =
     (not_backed (stepped (step_by how)) p.unit w.units (backed_mark how) h.0, refl, none_woken w h.1 h.2)
 transition_bare (Transition.Hard p jobs) w m h =
     (not_backed (stepped (Step.Reset hard_code)) p.unit w.units (λ u. refl) h.0, refl, none_woken w h.1 h.2)
-transition_bare (Transition.Resize place blocks) w m h =
-    (not_backed (stepped (Step.Resize blocks)) place w.units (backed_resize blocks) h.0, h.1, h.2)
-transition_bare (Transition.Deal place x) w m h =
-    (not_backed (dealing x) place w.units (backed_deal x) h.0, h.1, h.2)
+transition_bare (Transition.Resize unit_index blocks) w m h =
+    (not_backed (stepped (Step.Resize blocks)) unit_index w.units (backed_resize blocks) h.0, h.1, h.2)
+transition_bare (Transition.Deal unit_index x) w m h =
+    (not_backed (dealing x) unit_index w.units (backed_deal x) h.0, h.1, h.2)
 transition_bare d w m h = h
 
 pub run_bare : (old : PlainWorld) (trace : List Occurrence) (w : PlainWorld) → Opens old → Runs old trace w

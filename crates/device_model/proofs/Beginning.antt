@@ -18,7 +18,7 @@ OpensFresh (managed.Direct answer) = ⊤
 OpensFresh (managed.Opens f) = (f.found ≡ false) × (f.refused ≡ false)
 
 begun_fresh : (o : Result (Kind × List ℕ) FunctionResponse) → OpensFresh (decided_of_function (begun o))
-begun_fresh (Ok (kind, places)) = (refl, refl)
+begun_fresh (Ok (kind, unit_indices)) = (refl, refl)
 begun_fresh (Err response) = tt
 
 fresh_with_room : (units : List Address) (c : Control) → OpensFresh (decided_with_room units c)

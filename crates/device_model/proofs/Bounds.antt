@@ -61,7 +61,7 @@ hand_owed : (w : PlainWorld) (s : Hand) → HandOwns w s
 hand_owed w Hand.Empty h = omega (arith)
 hand_owed w (Hand.Taken x) h = let a = job_price w x h in omega (arith, a)
 hand_owed w (Hand.Done x o) h = let a = job_price w x h in omega (arith, a)
-hand_owed w (Hand.Answered place t) h = omega (arith)
+hand_owed w (Hand.Answered unit_index t) h = omega (arith)
 
 jobs_owed : (w : PlainWorld) (n : ℕ) (xs : List PlainJob) → n ≤ 7 → AllByRecursion (IsJob w) xs
     → sum_by (of_job (λ t. n)) xs ≤ sum_by (of_job price) xs
@@ -137,9 +137,9 @@ owed_at_start old trace w r =
 pub own_pays : (d : Transition) (w : PlainWorld) → Happens d w → IsOwn (event_of d) → pays d ≡ fetches price d + 2 * visited d
 own_pays (Transition.Poke x) w h o = absurd o
 own_pays (Transition.Hard p jobs) w h o = absurd o
-own_pays (Transition.Resize place blocks) w h o = absurd o
+own_pays (Transition.Resize unit_index blocks) w h o = absurd o
 own_pays Transition.Wake w h o = absurd o
-own_pays (Transition.Deal place x) w h o = absurd o
+own_pays (Transition.Deal unit_index x) w h o = absurd o
 own_pays (Transition.Idle e) w h o = absurd h
 own_pays d w h o = omega (arith)
 

@@ -17,7 +17,7 @@ use Rattle.device_model.specs.Transitions.{Transition}
 use Rattle.device_model.specs.Changing.{arriving, taking, slotted, broken_by, completing, directing, spending, with_hand, without_first, with_jobs, with_job, leaving, on_function}
 use Rattle.device_model.specs.Event.Hard.{hard_code}
 use Rattle.device_model.specs.After.{after}
-use Rattle.device_model.specs.Happens.{May}
+use Rattle.device_model.specs.Happens.{MayHappen}
 use Rattle.device_model.specs.Event.Enter.{Comes}
 use Rattle.device_model.specs.Found.{handed_out}
 use Rattle.device_model.specs.Laws.{in_hand, at_seat}
@@ -180,7 +180,7 @@ Brings v (Transition.Hold f) = IsOwned v f.chain
 Brings v d = ⊤
 
 -- what stood, and what was brought, stands in its place
-pub places : (v : PlainWorld) (d : Transition) (w : PlainWorld) → May d w → Brings v d → Stand v w → Stand v (after d w)
+pub places : (v : PlainWorld) (d : Transition) (w : PlainWorld) → MayHappen d w → Brings v d → Stand v w → Stand v (after d w)
 places v (Transition.Arrive f x) w m b h =
     let j = as_job v x f.chain m.chain m.ticket m.request b in
     let e = ap (λ (c : PlainChain). c.ticket.queue) m.chain in (
@@ -337,9 +337,9 @@ places v (Transition.Answer k x o xs) w m b h =
       h.4,
       h.5,
     )
-places v (Transition.Leave k place t jobs) w m b h =
-    let j = hands v jobs (Step.Leave t) place w.units m.holds.unit m.holds.there m.enables h.1 in
-    (h.0, steps v (Step.Leave t) place w.units h.1, leaves v jobs k w.seats j h.2, h.3, h.4, h.5)
+places v (Transition.Leave k unit_index t jobs) w m b h =
+    let j = hands v jobs (Step.Leave t) unit_index w.units m.holds.unit m.holds.there m.enables h.1 in
+    (h.0, steps v (Step.Leave t) unit_index w.units h.1, leaves v jobs k w.seats j h.2, h.3, h.4, h.5)
 places v (Transition.Mark t p s jobs) w m b h =
     let j = hands v jobs (step_by s) p.unit w.units m.marking.unit m.marking.unit_there m.releases h.1 in (
       h.0,
@@ -349,7 +349,7 @@ places v (Transition.Mark t p s jobs) w m b h =
       functions v (marking p) w.function h.4,
       h.5,
     )
-places v (Transition.Ask t place rule found) w m b h =
+places v (Transition.Ask t unit_index rule found) w m b h =
     (h.0, h.1, h.2, h.3, functions v (asking found) w.function h.4, h.5)
 places v (Transition.MarkRefused t) w m b h = (h.0, h.1, h.2, h.3, functions v failing w.function h.4, h.5)
 places v (Transition.Check t p) w m b h = (h.0, h.1, h.2, h.3, functions v checking w.function h.4, h.5)
@@ -365,11 +365,11 @@ places v (Transition.Hard p jobs) w m b h =
       h.4,
       h.5,
     )
-places v (Transition.Resize place blocks) w m b h =
-    (h.0, steps v (Step.Resize blocks) place w.units h.1, h.2, h.3, h.4, h.5)
-places v (Transition.Deal place x) w m b h = (
+places v (Transition.Resize unit_index blocks) w m b h =
+    (h.0, steps v (Step.Resize blocks) unit_index w.units h.1, h.2, h.3, h.4, h.5)
+places v (Transition.Deal unit_index x) w m b h = (
   h.0,
-  everywhere (λ i u. AllByRecursion (IsJob v) u.parked) (dealing x) place w.units (λ u at old. old) h.1,
+  everywhere (λ i u. AllByRecursion (IsJob v) u.parked) (dealing x) unit_index w.units (λ u at old. old) h.1,
   h.2,
   h.3,
   h.4,
@@ -407,7 +407,7 @@ hand_turns : (p : Ticket → ℕ) (u v : PlainWorld) → Turns p u v → (s : Ha
 hand_turns p u v t Hand.Empty h z = tt
 hand_turns p u v t (Hand.Taken x) h z = job_turns p u v t x h z
 hand_turns p u v t (Hand.Done x o) h z = job_turns p u v t x h z
-hand_turns p u v t (Hand.Answered place s) h z = tt
+hand_turns p u v t (Hand.Answered unit_index s) h z = tt
 
 jobs_turn : (p : Ticket → ℕ) (u v : PlainWorld) → Turns p u v → (xs : List PlainJob)
     → sum_by (of_job p) xs ≡ 0 → JobsOwn u xs → JobsOwn v xs
@@ -455,7 +455,7 @@ weightless_hand : (s : Hand) → in_hand (of_job weightless) s ≡ 0
 weightless_hand Hand.Empty = refl
 weightless_hand (Hand.Taken x) = refl
 weightless_hand (Hand.Done x o) = refl
-weightless_hand (Hand.Answered place t) = refl
+weightless_hand (Hand.Answered unit_index t) = refl
 
 weightless_seat : (s : Seat) → at_seat (of_job weightless) s ≡ 0
 weightless_seat s =

@@ -146,7 +146,7 @@ is_done (Hand.Done x o) = true
 is_done hand = false
 
 abbrev is_answered : Hand → Bool
-is_answered (Hand.Answered place t) = true
+is_answered (Hand.Answered unit_index t) = true
 is_answered hand = false
 
 abbrev is_empty_hand : Hand → Bool
@@ -163,8 +163,8 @@ commit_at w k Hand.Empty out at =
     inr (λ h. false_true (ap is_taken (one_hand w k Hand.Empty (Hand.Taken h.0) out h.1.0 at h.1.1)))
 commit_at w k (Hand.Done x o) out at =
     inr (λ h. false_true (ap is_taken (one_hand w k (Hand.Done x o) (Hand.Taken h.0) out h.1.0 at h.1.1)))
-commit_at w k (Hand.Answered place t) out at =
-    inr (λ h. false_true (ap is_taken (one_hand w k (Hand.Answered place t) (Hand.Taken h.0) out h.1.0 at h.1.1)))
+commit_at w k (Hand.Answered unit_index t) out at =
+    inr (λ h. false_true (ap is_taken (one_hand w k (Hand.Answered unit_index t) (Hand.Taken h.0) out h.1.0 at h.1.1)))
 
 answer_at : (w : PlainWorld) (k : ℕ) (hand : Hand) (out : List PlainJob) → At w k hand out
     → Decided w (Event.Answer k)
@@ -173,11 +173,11 @@ answer_at w k Hand.Empty out at =
     inr (λ h. false_true (ap is_done (one_hand w k Hand.Empty (Hand.Done h.0 h.1) out h.2.0 at h.2.1)))
 answer_at w k (Hand.Taken x) out at =
     inr (λ h. false_true (ap is_done (one_hand w k (Hand.Taken x) (Hand.Done h.0 h.1) out h.2.0 at h.2.1)))
-answer_at w k (Hand.Answered place t) out at =
-    inr (λ h. false_true (ap is_done (one_hand w k (Hand.Answered place t) (Hand.Done h.0 h.1) out h.2.0 at h.2.1)))
+answer_at w k (Hand.Answered unit_index t) out at =
+    inr (λ h. false_true (ap is_done (one_hand w k (Hand.Answered unit_index t) (Hand.Done h.0 h.1) out h.2.0 at h.2.1)))
 
 leave_at : (w : PlainWorld) (k : ℕ) (hand : Hand) (out : List PlainJob) → At w k hand out → Decided w (Event.Leave k)
-leave_at w k (Hand.Answered place t) out at = inl (place, t, (out, at))
+leave_at w k (Hand.Answered unit_index t) out at = inl (unit_index, t, (out, at))
 leave_at w k Hand.Empty out at =
     inr (λ h. false_true (ap is_answered (one_hand w k Hand.Empty (Hand.Answered h.0 h.1) out h.2.0 at h.2.1)))
 leave_at w k (Hand.Taken x) out at =
@@ -198,7 +198,7 @@ put_at w k Hand.Empty [] at = inr (λ h. no_job (one_out w k Hand.Empty Hand.Emp
 put_at w k Hand.Empty (x ∷ rest) at = inl (record { job = x; rest = rest; seat = at })
 put_at w k (Hand.Taken x) out at = inr (put_not_free w k (Hand.Taken x) out at refl)
 put_at w k (Hand.Done x o) out at = inr (put_not_free w k (Hand.Done x o) out at refl)
-put_at w k (Hand.Answered place t) out at = inr (put_not_free w k (Hand.Answered place t) out at refl)
+put_at w k (Hand.Answered unit_index t) out at = inr (put_not_free w k (Hand.Answered unit_index t) out at refl)
 
 take_not_free : (w : PlainWorld) (k : ℕ) (hand : Hand) (out : List PlainJob) → At w k hand out → is_empty_hand hand ≡ false
     → Never w (Event.Take k)
@@ -225,7 +225,7 @@ take_at w k Hand.Empty (x ∷ rest) (inl lt) at =
     inr (λ h. no_job (sym (one_out w k Hand.Empty Hand.Empty (x ∷ rest) [] at h.seat)))
 take_at w k (Hand.Taken x) out (inl lt) at = inr (take_not_free w k (Hand.Taken x) out at refl)
 take_at w k (Hand.Done x o) out (inl lt) at = inr (take_not_free w k (Hand.Done x o) out at refl)
-take_at w k (Hand.Answered place t) out (inl lt) at = inr (take_not_free w k (Hand.Answered place t) out at refl)
+take_at w k (Hand.Answered unit_index t) out (inl lt) at = inr (take_not_free w k (Hand.Answered unit_index t) out at refl)
 
 resume_not_free : (w : PlainWorld) (k : ℕ) (hand : Hand) (out : List PlainJob) → At w k hand out
     → is_empty_hand hand ≡ false → Never w (Event.Resume k)
@@ -244,7 +244,7 @@ resume_at w k hand out (inr le) at = inr (λ h. not_below k w.workers le h.worke
 resume_at w k Hand.Empty out (inl lt) at = resume_off w k out w.woken lt at refl
 resume_at w k (Hand.Taken x) out (inl lt) at = inr (resume_not_free w k (Hand.Taken x) out at refl)
 resume_at w k (Hand.Done x o) out (inl lt) at = inr (resume_not_free w k (Hand.Done x o) out at refl)
-resume_at w k (Hand.Answered place t) out (inl lt) at = inr (resume_not_free w k (Hand.Answered place t) out at refl)
+resume_at w k (Hand.Answered unit_index t) out (inl lt) at = inr (resume_not_free w k (Hand.Answered unit_index t) out at refl)
 
 commit_decided : (w : PlainWorld) (k : ℕ) (o : Option Seat) → slice_get w.seats k ≡ o → Decided w (Event.Commit k)
 commit_decided w k None at = inr (λ h. nothing (sym at ∙ h.1.1))
@@ -287,8 +287,8 @@ waits_of x y e = ap (λ (o : Opened). o.function.waits) e
 mark_at : (w : PlainWorld) (o : Opened) (left : List ℕ) → w.function ≡ Some o → o.function.left ≡ left
     → Decided w Event.Mark
 mark_at w o [] at e = inr (λ h. no_unit (sym e ∙ left_of o h.opened (one_there at h.there) ∙ h.left))
-mark_at w o (place ∷ later) at e =
-    inl (record { opened = o; there = at; place = place; later = later; left = e })
+mark_at w o (unit_index ∷ later) at e =
+    inl (record { opened = o; there = at; unit_index = unit_index; later = later; left = e })
 
 mark_decided : (w : PlainWorld) (o : Option Opened) → w.function ≡ o → Decided w Event.Mark
 mark_decided w None at = inr (λ h. nothing (sym at ∙ h.there))
@@ -297,7 +297,7 @@ mark_decided w (Some o) at = mark_at w o o.function.left at refl
 respond_at : (w : PlainWorld) (o : Opened) (left : List ℕ) (waits : List Place) → w.function ≡ Some o
     → o.function.left ≡ left → o.function.waits ≡ waits → Decided w Event.AnswerTmf
 respond_at w o [] [] at e f = inl (record { opened = o; there = at; left = e; still = f })
-respond_at w o (place ∷ later) waits at e f =
+respond_at w o (unit_index ∷ later) waits at e f =
     inr (λ h. no_unit (sym h.left ∙ left_of h.opened o (one_there h.there at) ∙ e))
 respond_at w o [] (m ∷ later) at e f =
     inr (λ h. no_mark (sym h.still ∙ waits_of h.opened o (one_there h.there at) ∙ f))
@@ -343,7 +343,7 @@ check_unit w o m later (Some u) at e f there =
 
 check_at : (w : PlainWorld) (o : Opened) (left : List ℕ) (waits : List Place) → w.function ≡ Some o
     → o.function.left ≡ left → o.function.waits ≡ waits → Decided w Event.Check
-check_at w o (place ∷ later) waits at e f =
+check_at w o (unit_index ∷ later) waits at e f =
     inr (λ h. no_unit (sym h.left ∙ left_of h.opened o (one_there h.there at) ∙ e))
 check_at w o [] [] at e f =
     inr (λ h. no_mark (sym f ∙ waits_of o h.opened (one_there at h.there) ∙ h.still))
@@ -378,10 +378,10 @@ decided w Event.Mark own = mark_decided w w.function refl
 decided w Event.Check own = check_decided w w.function refl
 decided w Event.AnswerTmf own = respond_decided w w.function refl
 decided w (Event.Prepare k) own = absurd own
-decided w (Event.Resize place blocks) own = absurd own
-decided w (Event.Hard place) own = absurd own
+decided w (Event.Resize unit_index blocks) own = absurd own
+decided w (Event.Hard unit_index) own = absurd own
 decided w Event.Wake own = absurd own
-decided w (Event.Deal place x) own = absurd own
+decided w (Event.Deal unit_index x) own = absurd own
 decided w (Event.Resume k) own = resume_decided w k (slice_get w.seats k) refl
 decided w Event.Raise own = raise_decided w w.waiting refl
 

@@ -10,7 +10,7 @@ use Rattle.unit_model.proofs.Tickets.{eq-same, same-true}
 use Rattle.device_model.specs.World.{Opened, PlainWorld, Opens}
 use Rattle.device_model.specs.Transitions.{Transition}
 use Rattle.device_model.specs.Changing.{bit}
-use Rattle.device_model.specs.Happens.{May, occurrence_of, world_of, Leads}
+use Rattle.device_model.specs.Happens.{MayHappen, occurrence_of, world_of, Leads}
 use Rattle.device_model.specs.Places.{only}
 use Rattle.device_model.specs.Standing.{AreOwned, FunctionOwns, IsOwned}
 use Rattle.device_model.specs.Weights.{fetches, uses, directs, answers}
@@ -134,7 +134,7 @@ low_function : (w : PlainWorld) (x : Opened) → w.function ≡ Some x → Funct
     → x.chain.ticket.queue ≡ 0
 low_function w x e h = (subst (FunctionOwns w) e h).0
 
-uses_one : (t : Ticket) (d : Transition) (w : PlainWorld) → 2 ≤ t.queue → May d w → AreOwned w
+uses_one : (t : Ticket) (d : Transition) (w : PlainWorld) → 2 ≤ t.queue → MayHappen d w → AreOwned w
     → uses (only t) d ≡ directs (only t) d + answers (only t) d
 uses_one t (Transition.UseBuffer f xs) w le m h =
     let z = other_queue t f.chain.ticket (let e = m.event in omega (arith, le, e)) in

@@ -14,7 +14,7 @@ use Rattle.scsi_codec.specs.declared.responses.ResponseCode.TheVariants as code
 use Rattle.scsi_codec.specs.declared.control_queue.Control.{Control}
 use Rattle.scsi_codec.specs.declared.control_queue.Control.TheVariants.{TaskManagement, AsynchronousNotification, MalformedFunction, MalformedNotification}
 use Rattle.scsi_codec.specs.declared.control_queue.FunctionResponse.{FunctionResponse}
-use Rattle.request_intake.specs.Inventory.{PlainInventory, has_target, is_cached, place_of, profile_of}
+use Rattle.request_intake.specs.Inventory.{PlainInventory, has_target, is_cached, index_of, profile_of}
 use Rattle.request_intake.specs.UnitRequest.{PlainRequest}
 use Rattle.request_intake.specs.Decision.{attribute_of, command_for, goes_both_ways, overruns, fails, decide_unit, decide_attribute, decide_command, decide_address, decide_reading, decided}
 use Rattle.request_intake.specs.declared.answer.ChainLengths.{ChainLengths}
@@ -35,37 +35,37 @@ use Rattle.task_mgmt.proofs.Deciding.{suits_with_room}
 -- the unit that it goes to is one of so many
 abbrev IsThere : ℕ → Decision → Type 0
 IsThere n (decision.Direct answer) = ⊤
-IsThere n (decision.Enter place r) = place < n
+IsThere n (decision.Enter unit_index r) = unit_index < n
 
 -- either way it is one of so many
 there_either : (b : Bool) (n : ℕ) (x y : Decision) → IsThere n x → IsThere n y → IsThere n (if b then x else y)
 there_either true n x y h g = h
 there_either false n x y h g = g
 
--- a place that was found is within the list
-found_within : (n k place : ℕ) → cond (nat_lt k n) (Some k) None ≡ Some place → place < n
-found_within n k place e = grind (arith, nat_tests)
+-- an index that was found is within the list
+found_within : (n k unit_index : ℕ) → cond (nat_lt k n) (Some k) None ≡ Some unit_index → unit_index < n
+found_within n k unit_index e = grind (arith, nat_tests)
 
 -- it goes to the unit of the address, which is there
 unit_there : (o : Option ℕ) (m : ℕ) (n : ChainLengths) (bytes : List ℕ) (r : Request) (a : TaskAttribute) (c : Command)
-    → ((place : ℕ) → o ≡ Some place → place < m) → IsThere m (decide_unit o n bytes r a c)
+    → ((unit_index : ℕ) → o ≡ Some unit_index → unit_index < m) → IsThere m (decide_unit o n bytes r a c)
 unit_there None m n bytes r a c h = tt
-unit_there (Some place) m n bytes r a c h = h place refl
+unit_there (Some unit_index) m n bytes r a c h = h unit_index refl
 
 -- whatever its task attribute
-attribute_there : (o : Option TaskAttribute) (place : Option ℕ) (m : ℕ) (n : ChainLengths) (bytes : List ℕ) (r : Request)
-    (c : Command) → ((at : ℕ) → place ≡ Some at → at < m) → IsThere m (decide_attribute o place n bytes r c)
-attribute_there None place m n bytes r c h = tt
-attribute_there (Some a) place m n bytes r c h = unit_there place m n bytes r a c h
+attribute_there : (o : Option TaskAttribute) (unit_index : Option ℕ) (m : ℕ) (n : ChainLengths) (bytes : List ℕ) (r : Request)
+    (c : Command) → ((at : ℕ) → unit_index ≡ Some at → at < m) → IsThere m (decide_attribute o unit_index n bytes r c)
+attribute_there None unit_index m n bytes r c h = tt
+attribute_there (Some a) unit_index m n bytes r c h = unit_there unit_index m n bytes r a c h
 
 -- whatever its command
 command_there : (units : List Address) (n : ChainLengths) (bytes : List ℕ) (r : Request) (c : Command)
-    → IsThere (length units) (decide_command (place_of units r.address) n bytes r c)
+    → IsThere (length units) (decide_command (index_of units r.address) n bytes r c)
 command_there units n bytes r c =
-    let place = place_of units r.address in
+    let unit_index = index_of units r.address in
     there_either (overruns n c) (length units) (fails code.Overrun)
-    (decide_attribute (attribute_of r.attribute) place n bytes r c) tt
-    (attribute_there (attribute_of r.attribute) place (length units) n bytes r c
+    (decide_attribute (attribute_of r.attribute) unit_index n bytes r c) tt
+    (attribute_there (attribute_of r.attribute) unit_index (length units) n bytes r c
     (λ at e. found_within (length units) _ at e))
 
 -- whatever its address
@@ -74,7 +74,7 @@ address_there : (units : PlainInventory) (n : ChainLengths) (bytes : List ℕ) (
 address_there units n bytes r =
     let c = command_for (is_cached units r.address) (profile_of units r.address) r.cdb in
     there_either (has_target units.addresses r.address.target) (length units.addresses)
-    (decide_command (place_of units.addresses r.address) n bytes r c) (fails code.BadTarget)
+    (decide_command (index_of units.addresses r.address) n bytes r c) (fails code.BadTarget)
     (command_there units.addresses n bytes r c) tt
 
 -- whatever was read
@@ -89,9 +89,9 @@ reading_there (Ok r) units n bytes =
     (address_there units n bytes r)
 
 -- the unit that a request goes to is there
-pub decided_there : (units : PlainInventory) (bytes : List ℕ) (n : ChainLengths) (place : ℕ) (r : PlainRequest)
-    → decided units bytes n ≡ decision.Enter place r → place < length units.addresses
-decided_there units bytes n place r e =
+pub decided_there : (units : PlainInventory) (bytes : List ℕ) (n : ChainLengths) (unit_index : ℕ) (r : PlainRequest)
+    → decided units bytes n ≡ decision.Enter unit_index r → unit_index < length units.addresses
+decided_there units bytes n unit_index r e =
     subst (IsThere (length units.addresses)) e (reading_there (reading bytes n.writable) units n bytes)
 
 -- Of a function
@@ -99,7 +99,7 @@ decided_there units bytes n place r e =
 -- its units are among so many, and it waits for no mark
 abbrev OpensThere : ℕ → ControlDecision → Type 0
 OpensThere n (managed.Direct answer) = ⊤
-OpensThere n (managed.Opens f) = AllByRecursion (λ place. place < n) f.left × (f.waits ≡ [])
+OpensThere n (managed.Opens f) = AllByRecursion (λ unit_index. unit_index < n) f.left × (f.waits ≡ [])
 
 -- it waits for no mark
 abbrev OpensNew : ControlDecision → Type 0
@@ -108,7 +108,7 @@ OpensNew (managed.Opens f) = f.waits ≡ []
 
 -- a function that begins waits for no mark
 begun_new : (o : Result (Kind × List ℕ) FunctionResponse) → OpensNew (decided_of_function (begun o))
-begun_new (Ok (kind, places)) = refl
+begun_new (Ok (kind, unit_indices)) = refl
 begun_new (Err response) = tt
 
 -- and so does what is decided with room
@@ -136,7 +136,7 @@ roomy m n e = grind (arith, nat_tests)
 -- the units of a function that opens are there, and it waits for no mark
 pub opened_there : (units : List Address) (c : Control) (writable : ℕ) (f : PlainFunction)
     → decided_of units c writable ≡ managed.Opens f
-    → AllByRecursion (λ place. place < length units) f.left × (f.waits ≡ [])
+    → AllByRecursion (λ unit_index. unit_index < length units) f.left × (f.waits ≡ [])
 opened_there units c writable f e =
     let n = length units in
     let d = decided_with_room units c in

@@ -39,14 +39,14 @@ use Rattle.device_model.proofs.Visits.{Listed, IsMarking, IsAsking, IsUnderWay, 
 -- Who has left was answered
 
 leave_one : (t : Ticket) (d : Transition) → IsLeave t d → 1 ≤ leaves (only t) d
-leave_one t (Transition.Leave k place u jobs) e = let n = only_one t u e in omega (arith, n)
+leave_one t (Transition.Leave k unit_index u jobs) e = let n = only_one t u e in omega (arith, n)
 leave_one t d e = absurd e
 
-left_answered : (old : PlainWorld) (ds : List Transition) (place : ℕ) (t : Ticket) → Opens old → Leads old ds
-    → has_left t (history_of place ds) ≡ true → Happened (IsAnswer t) ds
-left_answered old ds place t o l h =
-    let q = done_at place (Step.Leave t) ds (left_stands t (history_of place ds) h) in
-    let told = told_there (IsLeave t) q.0 q.1 ds q.2 (leave_of q.0 place t q.3) in
+left_answered : (old : PlainWorld) (ds : List Transition) (unit_index : ℕ) (t : Ticket) → Opens old → Leads old ds
+    → has_left t (history_of unit_index ds) ≡ true → Happened (IsAnswer t) ds
+left_answered old ds unit_index t o l h =
+    let q = done_at unit_index (Step.Leave t) ds (left_stands t (history_of unit_index ds) h) in
+    let told = told_there (IsLeave t) q.0 q.1 ds q.2 (leave_of q.0 unit_index t q.3) in
     let n = told_counts (IsLeave t) (leaves (only t)) (leave_one t) ds told in
     let few = (few_at old ds t o l).left in
     counted_told (answers (only t)) (IsAnswer t) (answer_is t) ds (omega (arith, n, few))
@@ -103,18 +103,18 @@ one_of_three (Querying rule) false false = inl refl
 -- Marks and looks
 
 -- the unit that is visited is one of the function
-visits_own : (old : PlainWorld) (ds : List Transition) (t : Ticket) (place : ℕ) (kind : Kind) → Opens old → Leads old ds
-    → IsMarkingNow (world_of old ds) t place kind → IsFor old.inventory ds t kind place
-visits_own old ds t place kind o l g =
+visits_own : (old : PlainWorld) (ds : List Transition) (t : Ticket) (unit_index : ℕ) (kind : Kind) → Opens old → Leads old ds
+    → IsMarkingNow (world_of old ds) t unit_index kind → IsFor old.inventory ds t kind unit_index
+visits_own old ds t unit_index kind o l g =
     let x = g.opened in
     let was = was_open old ds (world_of old ds).function x g.there (functions_at old ds o l) in
-    let here = subst (Among place) (sym g.left) (inl refl) in
-    let is : IsFor old.inventory ds x.chain.ticket kind place = record {
+    let here = subst (Among unit_index) (sym g.left) (inl refl) in
+    let is : IsFor old.inventory ds x.chain.ticket kind unit_index = record {
       begun = was.begun;
       does = was.kind ∙ g.does;
-      among = was.among place here;
+      among = was.among unit_index here;
     } in
-    subst (λ z. IsFor old.inventory ds z kind place) g.of is
+    subst (λ z. IsFor old.inventory ds z kind unit_index) g.of is
 
 -- what the step at a place met, for good
 abbrev Met : Place → List Entry → List Transition → Type 0
@@ -146,18 +146,18 @@ marks_so old t p m jobs past ds o l b =
       visit = visits_own old past t p.unit (Marking m) o l.0 g;
     }
 
-looks_so : (old : PlainWorld) (t : Ticket) (place : ℕ) (rule : Rule) (b : Bool) (ds : List Transition) → Opens old
-    → Leads old (Transition.Ask t place rule b ∷ ds)
-    → (b ≡ any_met rule (alive (history_of place ds))) × IsFor old.inventory ds t (Querying rule) place
-looks_so old t place rule b ds o l =
+looks_so : (old : PlainWorld) (t : Ticket) (unit_index : ℕ) (rule : Rule) (b : Bool) (ds : List Transition) → Opens old
+    → Leads old (Transition.Ask t unit_index rule b ∷ ds)
+    → (b ≡ any_met rule (alive (history_of unit_index ds))) × IsFor old.inventory ds t (Querying rule) unit_index
+looks_so old t unit_index rule b ds o l =
     let g = l.1.marking in
-    let steps = ((says_at old ds o l.0).units place g.unit g.unit_there).0.steps in
-    (l.1.is ∙ ap (λ h. any_met rule (alive h)) steps, visits_own old ds t place (Querying rule) o l.0 g)
+    let steps = ((says_at old ds o l.0).units unit_index g.unit g.unit_there).0.steps in
+    (l.1.is ∙ ap (λ h. any_met rule (alive h)) steps, visits_own old ds t unit_index (Querying rule) o l.0 g)
 
 -- The response
 
-none_left : (place : ℕ) (left : List ℕ) → left ≡ [] → Among place left → ⊥
-none_left place left e h = subst (Among place) e h
+none_left : (unit_index : ℕ) (left : List ℕ) → left ≡ [] → Among unit_index left → ⊥
+none_left unit_index left e h = subst (Among unit_index) e h
 
 none_waits : (p : Place) (waits : List Place) → waits ≡ [] → Listed p waits → ⊥
 none_waits p waits e h = subst (Listed p) e h
@@ -177,7 +177,7 @@ responds_so old c r xs ds o l =
     record {
       begun = was.begun;
       chain = was.chain;
-      visited = λ place i. elim (was.visits place i) [ inl q ↦ absurd (none_left place f.left g.left q) | inr q ↦ q ];
+      visited = λ unit_index i. elim (was.visits unit_index i) [ inl q ↦ absurd (none_left unit_index f.left g.left q) | inr q ↦ q ];
       clear = λ p told. elim (was.waits p told) [
         | inl q ↦ absurd (none_waits p f.waits g.still q)
         | inr q ↦ clear_of old ds p o l.0 q
@@ -201,8 +201,8 @@ are_over old ds o l =
     record {
       marks = λ t p m jobs past b.
           marks_so old t p m jobs past ds o (leads_beginning old (Transition.Mark t p m jobs ∷ past) ds b l) b;
-      looks = λ t place rule found past b.
-          looks_so old t place rule found past o (leads_beginning old (Transition.Ask t place rule found ∷ past) ds b l);
+      looks = λ t unit_index rule found past b.
+          looks_so old t unit_index rule found past o (leads_beginning old (Transition.Ask t unit_index rule found ∷ past) ds b l);
       responds = λ c r xs past b.
           responds_so old c r xs past o (leads_beginning old (Transition.Respond c r xs ∷ past) ds b l);
     }

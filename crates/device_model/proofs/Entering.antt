@@ -5,7 +5,7 @@ use Rattle.unit_model.specs.Steps.{Step}
 use Rattle.device_model.specs.Parts.{PlainFetch}
 use Rattle.device_model.specs.World.{PlainWorld, Opens}
 use Rattle.device_model.specs.Transitions.{Transition}
-use Rattle.device_model.specs.Happens.{May, world_of, Leads}
+use Rattle.device_model.specs.Happens.{MayHappen, world_of, Leads}
 use Rattle.device_model.specs.Event.Fetch.{Finds}
 use Rattle.device_model.specs.Places.{only}
 use Rattle.device_model.specs.Happened.{IsFetch}
@@ -17,16 +17,16 @@ use Rattle.device_model.proofs.Steps.{done_at, enter_of}
 use Rattle.device_model.proofs.Knowing.{entered_sent}
 use Rattle.device_model.proofs.Counts.{flows_at, few_at}
 
-as_fetched : (old : PlainWorld) (ds : List Transition) (place : ℕ) (e : Entry) → Opens old → Leads old ds
-    → Stands (Step.Enter e) (history_of place ds) → IsEntered old.inventory ds place e
-as_fetched old ds place e o l h =
-    let q = done_at place (Step.Enter e) ds h in
-    let x = enter_of q.0 place e q.3 in
+as_fetched : (old : PlainWorld) (ds : List Transition) (unit_index : ℕ) (e : Entry) → Opens old → Leads old ds
+    → Stands (Step.Enter e) (history_of unit_index ds) → IsEntered old.inventory ds unit_index e
+as_fetched old ds unit_index e o l h =
+    let q = done_at unit_index (Step.Enter e) ds h in
+    let x = enter_of q.0 unit_index e q.3 in
     let told = told_there (IsEnter x.0) q.0 q.1 ds q.2 x.3 in
     record { job = x.0; unit = x.1; entry = x.2; sent = entered_sent old ds x.0 o l told }
 
 -- a Fetch takes what its queue offers
-finds : (d : Transition) (f : PlainFetch) (w : PlainWorld) → IsFetch f d → May d w → Finds w f
+finds : (d : Transition) (f : PlainFetch) (w : PlainWorld) → IsFetch f d → MayHappen d w → Finds w f
 finds (Transition.Arrive g x) f w e m = subst (Finds w) e m.finds
 finds (Transition.Refuse g a) f w e m = subst (Finds w) e m.finds
 finds (Transition.Open g k) f w e m = subst (Finds w) e m.finds
@@ -47,5 +47,5 @@ are_entered old ds o l =
           let b = n.fetched in
           let c = f.entered (only t) in
           omega (arith, a, b, c);
-      as_fetched = λ place e h. as_fetched old ds place e o l h;
+      as_fetched = λ unit_index e h. as_fetched old ds unit_index e o l h;
     }

@@ -13,7 +13,7 @@ use Rattle.device_model.specs.Transitions.{Transition}
 use Rattle.device_model.specs.Event.Hard.{hard_report, reports_of}
 use Rattle.device_model.specs.Event.Resize.{change_report, change_reports}
 use Rattle.device_model.specs.After.{after}
-use Rattle.device_model.specs.Happens.{May, Leads, world_of}
+use Rattle.device_model.specs.Happens.{MayHappen, Leads, world_of}
 use Rattle.device_model.proofs.Staying.{tells_after}
 use Rattle.device_model.specs.EventBuffers.{arrived_of, given_of, raised_of, reported_of, missed_of, AreEvents}
 use Rattle.device_model.proofs.Traces.{leads_beginning}
@@ -31,7 +31,7 @@ gives : (g h a : List PlainChain) (c : PlainChain) (more : List PlainChain) → 
 gives g h a c more k e =
     ap (λ z. (g ++ c ∷ []) ++ drop 1 z) k ∙ append_assoc g (c ∷ []) more ∙ ap (λ z. g ++ z) (sym k) ∙ e
 
-order_transition : (d : Transition) (ds : List Transition) (w : PlainWorld) → InOrder ds w → May d w → InOrder (d ∷ ds) (after d w)
+order_transition : (d : Transition) (ds : List Transition) (w : PlainWorld) → InOrder ds w → MayHappen d w → InOrder (d ∷ ds) (after d w)
 order_transition (Transition.Hold f) ds w s h = pushes (given_of ds) w.buffers (arrived_of ds) f.chain s
 order_transition (Transition.Give e c xs) ds w s h = gives (given_of ds) w.buffers (arrived_of ds) c h.more h.held s
 order_transition d ds w s h = s
@@ -63,7 +63,7 @@ tells_as old [] = refl
 tells_as old (d ∷ ds) = tells_after d (world_of old ds) ∙ tells_as old ds
 
 turn_transition : (old : PlainWorld) (d : Transition) (ds : List Transition) (w : PlainWorld) → Says old ds w
-    → w.tells_changes ≡ old.tells_changes → InTurn old ds w → May d w → InTurn old (d ∷ ds) (after d w)
+    → w.tells_changes ≡ old.tells_changes → InTurn old ds w → MayHappen d w → InTurn old (d ∷ ds) (after d w)
 turn_transition old (Transition.Give e c xs) ds w says told_as s h =
     first_gone (reported_of ds) w.waiting (raised_of old ds) e h.later h.waits s
 turn_transition old (Transition.Miss e) ds w says told_as s h =
@@ -75,14 +75,14 @@ turn_transition old (Transition.Hard p jobs) ds w says told_as s h =
     ap (λ z. reported_of ds ++ (w.waiting ++ z)) now
     ∙ sym (append_assoc (reported_of ds) w.waiting (reports_of (slice_get old.units p.unit)))
     ∙ ap (λ z. z ++ reports_of (slice_get old.units p.unit)) s
-turn_transition old (Transition.Resize place blocks) ds w says told_as s h =
-    let told = (says.units place h.unit h.there).0 in
+turn_transition old (Transition.Resize unit_index blocks) ds w says told_as s h =
+    let told = (says.units unit_index h.unit h.there).0 in
     let tells = old.tells_changes in
-    let now = ap (λ b. change_reports b (slice_get w.units place)) told_as ∙ ap (λ u. change_reports tells u) h.there
+    let now = ap (λ b. change_reports b (slice_get w.units unit_index)) told_as ∙ ap (λ u. change_reports tells u) h.there
     ∙ same_change tells h.unit told.opened told.opening ∙ ap (λ u. change_reports tells u) (sym told.there) in
     ap (λ z. reported_of ds ++ (w.waiting ++ z)) now
-    ∙ sym (append_assoc (reported_of ds) w.waiting (change_reports tells (slice_get old.units place)))
-    ∙ ap (λ z. z ++ change_reports tells (slice_get old.units place)) s
+    ∙ sym (append_assoc (reported_of ds) w.waiting (change_reports tells (slice_get old.units unit_index)))
+    ∙ ap (λ z. z ++ change_reports tells (slice_get old.units unit_index)) s
 turn_transition old d ds w says told_as s h = s
 
 in_turn : (old : PlainWorld) (ds : List Transition) → Opens old → Leads old ds → InTurn old ds (world_of old ds)

@@ -18,7 +18,7 @@ use Rattle.device_model.specs.Transitions.{Transition}
 use Rattle.device_model.specs.Event.Hard.{hard_code}
 use Rattle.device_model.specs.Changing.{arriving, taking, slotted, broken_by, completing, directing, spending}
 use Rattle.device_model.specs.After.{after}
-use Rattle.device_model.specs.Happens.{May}
+use Rattle.device_model.specs.Happens.{MayHappen}
 use Rattle.device_model.specs.Event.Fetch.{Finds}
 use Rattle.device_model.specs.Event.Enter.{Comes}
 use Rattle.device_model.specs.Standing.{front_of, AreBehind, SlotIsLatest}
@@ -275,7 +275,7 @@ opens g f w h es more b =
     (λ y e. absurd (not_empty (sym slot ∙ e))) (omega (arith, now, m)) b
 
 -- each transition leaves the tickets in their order
-pub transition_orders : (d : Transition) (w : PlainWorld) → May d w → AreOrdered w → AreOrdered (after d w)
+pub transition_orders : (d : Transition) (w : PlainWorld) → MayHappen d w → AreOrdered w → AreOrdered (after d w)
 transition_orders (Transition.Arrive f x) w m h =
     let n = length w.inventory.addresses in
     let g = arriving f.chain (Slot.Arrived x) in
@@ -334,16 +334,16 @@ transition_orders (Transition.Commit k x r) w m h =
     units_on (length w.inventory.addresses) (Step.Commit x.entry.ticket r) x.unit w.units w.queues (λ i l. refl) h
 transition_orders (Transition.CommitBusy k x) w m h =
     units_on (length w.inventory.addresses) (Step.Busy x.entry.ticket) x.unit w.units w.queues (λ i l. refl) h
-transition_orders (Transition.Leave k place t jobs) w m h =
-    units_on (length w.inventory.addresses) (Step.Leave t) place w.units w.queues (λ i l. refl) h
+transition_orders (Transition.Leave k unit_index t jobs) w m h =
+    units_on (length w.inventory.addresses) (Step.Leave t) unit_index w.units w.queues (λ i l. refl) h
 transition_orders (Transition.Mark t p s jobs) w m h =
     units_on (length w.inventory.addresses) (step_by s) p.unit w.units w.queues (mark_floor s) h
 transition_orders (Transition.Hard p jobs) w m h =
     units_on (length w.inventory.addresses) (Step.Reset hard_code) p.unit w.units w.queues (λ i l. refl) h
-transition_orders (Transition.Resize place blocks) w m h =
-    units_on (length w.inventory.addresses) (Step.Resize blocks) place w.units w.queues (λ i l. refl) h
-transition_orders (Transition.Deal place x) w m h =
-    units_keep (length w.inventory.addresses) (dealing x) place w.units w.queues (λ u. refl) h
+transition_orders (Transition.Resize unit_index blocks) w m h =
+    units_on (length w.inventory.addresses) (Step.Resize blocks) unit_index w.units w.queues (λ i l. refl) h
+transition_orders (Transition.Deal unit_index x) w m h =
+    units_keep (length w.inventory.addresses) (dealing x) unit_index w.units w.queues (λ u. refl) h
 transition_orders d w m h = h
 
 -- a new queue has accepted none, and a new unit has no history
@@ -355,7 +355,7 @@ new_ordered w o i q at =
       floors = λ k u there. let z = ap (λ h. next_number i h) (o.units k u there).steps in omega (arith, z);
     }
 
--- a place within the list has its unit
+-- an index within the list has its unit
 unit_at : (us : List PlainUnit) (k : ℕ) → k < length us → (u : PlainUnit) × (slice_get us k ≡ Some u)
 unit_at [] k h = absurd (omega (arith, h))
 unit_at (u ∷ us) zero h = (u, refl)

@@ -24,7 +24,7 @@ use Rattle.device_model.specs.Transitions.{Transition}
 use Rattle.device_model.specs.Changing.{bit, arriving, taking, slotted, broken_by, completing, directing, spending, with_hand, without_first, with_jobs, leaving, on_function}
 use Rattle.device_model.specs.Event.Hard.{hard_code}
 use Rattle.device_model.specs.After.{after}
-use Rattle.device_model.specs.Happens.{May, Occurrence, Runs, transitions_of}
+use Rattle.device_model.specs.Happens.{MayHappen, Occurrence, Runs, transitions_of}
 use Rattle.device_model.specs.Event.Enter.{Comes}
 use Rattle.device_model.specs.Found.{handed_out}
 use Rattle.device_model.specs.Places.{of_chain, of_job, of_function, at_unit, accepted_count, only, log_accepted, log_used}
@@ -146,7 +146,7 @@ lets_go f s k qs q old at e =
     let b = ap (in_slot f) e in
     omega (arith, c, b)
 
-pub held_transition : (f : Weights) (w : PlainWorld) (d : Transition) → May d w → Flows f w d
+pub held_transition : (f : Weights) (w : PlainWorld) (d : Transition) → MayHappen d w → Flows f w d
 held_transition f w (Transition.Arrive g x) h =
     let n = g.chain.ticket.queue in
     let q = sum_change (in_queue f) (arriving g.chain (Slot.Arrived x)) n w.queues h.finds.queue h.finds.there in
@@ -248,9 +248,9 @@ held_transition f w (Transition.Answer k x o xs) h =
     let g = completing xs.seen x.chain in
     let q = same_sum (in_queue f) g x.chain.ticket.queue w.queues (λ z. refl) in
     omega (arith, s, q)
-held_transition f w (Transition.Leave k place t jobs) h =
-    let s = frees f k w.seats (Hand.Answered place t) h.holds.out jobs h.holds.seat in
-    let u = steps f.kept (Step.Leave t) place w.units h.holds.unit h.holds.there in
+held_transition f w (Transition.Leave k unit_index t jobs) h =
+    let s = frees f k w.seats (Hand.Answered unit_index t) h.holds.out jobs h.holds.seat in
+    let u = steps f.kept (Step.Leave t) unit_index w.units h.holds.unit h.holds.there in
     let j = ap (λ l. sum_by (of_job f.kept) l) h.enables in
     omega (arith, s, u, j)
 held_transition f w (Transition.Mark t p m jobs) h =
@@ -260,7 +260,7 @@ held_transition f w (Transition.Mark t p m jobs) h =
     let g = goes_on f.opened (marking p) w.function in
     let a = sum_by-append (of_job f.aside) w.woken w.aside in
     omega (arith, s, u, j, g, a)
-held_transition f w (Transition.Ask t place rule b) h = let g = goes_on f.opened (asking b) w.function in omega (arith, g)
+held_transition f w (Transition.Ask t unit_index rule b) h = let g = goes_on f.opened (asking b) w.function in omega (arith, g)
 held_transition f w (Transition.MarkRefused t) h = let g = goes_on f.opened failing w.function in omega (arith, g)
 held_transition f w (Transition.Check t p) h = let g = goes_on f.opened checking w.function in omega (arith, g)
 held_transition f w (Transition.Respond c r xs) h =
@@ -274,11 +274,11 @@ held_transition f w (Transition.Hard p jobs) h =
     let j = ap (λ l. sum_by (of_job f.kept) l) h.releases in
     let a = sum_by-append (of_job f.aside) w.woken w.aside in
     omega (arith, s, u, j, a)
-held_transition f w (Transition.Resize place blocks) h =
-    let u = stays f.kept (Step.Resize blocks) place w.units h.unit h.there refl in
+held_transition f w (Transition.Resize unit_index blocks) h =
+    let u = stays f.kept (Step.Resize blocks) unit_index w.units h.unit h.there refl in
     omega (arith, u)
-held_transition f w (Transition.Deal place x) h =
-    let u = same_sum (at_unit f.kept) (dealing x) place w.units (λ v. refl) in
+held_transition f w (Transition.Deal unit_index x) h =
+    let u = same_sum (at_unit f.kept) (dealing x) unit_index w.units (λ v. refl) in
     omega (arith, u)
 held_transition f w (Transition.Give e c xs) h =
     let q = same_sum (in_queue f) (completing xs.seen c) c.ticket.queue w.queues (λ z. refl) in
@@ -309,7 +309,7 @@ living_same : (p : Ticket → ℕ) (m : MarkBy) (u : PlainUnit)
 living_same p (Abort rule) u = refl
 living_same p (Reset c) u = refl
 
-entered_transition : (p : Ticket → ℕ) (d : Transition) (w : PlainWorld) → AreOwned w → May d w
+entered_transition : (p : Ticket → ℕ) (d : Transition) (w : PlainWorld) → AreOwned w → MayHappen d w
     → sum_by (entered_count p) (after d w).units ≡ sum_by (entered_count p) w.units + enters p d
 entered_transition p (Transition.Run x) w a h =
     let c = h.comes in
@@ -330,8 +330,8 @@ entered_transition p (Transition.Commit k x r) w a h =
 entered_transition p (Transition.CommitBusy k x) w a h =
     let u = same_sum (entered_count p) (stepped (Step.Busy x.entry.ticket)) x.unit w.units (λ v. refl) in
     omega (arith, u)
-entered_transition p (Transition.Leave k place t jobs) w a h =
-    let u = same_sum (entered_count p) (stepped (Step.Leave t)) place w.units (λ v. refl) in
+entered_transition p (Transition.Leave k unit_index t jobs) w a h =
+    let u = same_sum (entered_count p) (stepped (Step.Leave t)) unit_index w.units (λ v. refl) in
     omega (arith, u)
 entered_transition p (Transition.Mark t i m jobs) w a h =
     let u = same_sum (entered_count p) (stepped (step_by m)) i.unit w.units (λ v. enters_none p m v) in
@@ -339,15 +339,15 @@ entered_transition p (Transition.Mark t i m jobs) w a h =
 entered_transition p (Transition.Hard i jobs) w a h =
     let u = same_sum (entered_count p) (stepped (Step.Reset hard_code)) i.unit w.units (λ v. refl) in
     omega (arith, u)
-entered_transition p (Transition.Resize place blocks) w a h =
-    let u = same_sum (entered_count p) (stepped (Step.Resize blocks)) place w.units (λ v. refl) in
+entered_transition p (Transition.Resize unit_index blocks) w a h =
+    let u = same_sum (entered_count p) (stepped (Step.Resize blocks)) unit_index w.units (λ v. refl) in
     omega (arith, u)
-entered_transition p (Transition.Deal place x) w a h =
-    let u = same_sum (entered_count p) (dealing x) place w.units (λ v. refl) in
+entered_transition p (Transition.Deal unit_index x) w a h =
+    let u = same_sum (entered_count p) (dealing x) unit_index w.units (λ v. refl) in
     omega (arith, u)
 entered_transition p d w a h = omega (arith)
 
-alive_transition : (p : Ticket → ℕ) (d : Transition) (w : PlainWorld) → AreOwned w → May d w
+alive_transition : (p : Ticket → ℕ) (d : Transition) (w : PlainWorld) → AreOwned w → MayHappen d w
     → sum_by (living_count p) (after d w).units + leaves p d ≡ sum_by (living_count p) w.units + enters p d
 alive_transition p (Transition.Run x) w a h =
     let c = h.comes in
@@ -370,8 +370,8 @@ alive_transition p (Transition.Commit k x r) w a h =
 alive_transition p (Transition.CommitBusy k x) w a h =
     let u = same_sum (living_count p) (stepped (Step.Busy x.entry.ticket)) x.unit w.units (λ v. refl) in
     omega (arith, u)
-alive_transition p (Transition.Leave k place t jobs) w a h =
-    let u = sum_change (living_count p) (stepped (Step.Leave t)) place w.units h.holds.unit h.holds.there in
+alive_transition p (Transition.Leave k unit_index t jobs) w a h =
+    let u = sum_change (living_count p) (stepped (Step.Leave t)) unit_index w.units h.holds.unit h.holds.there in
     let l = alive_leave p t h.may.0 h.holds.unit.steps h.may.1 in
     omega (arith, u, l)
 alive_transition p (Transition.Mark t i m jobs) w a h =
@@ -380,11 +380,11 @@ alive_transition p (Transition.Mark t i m jobs) w a h =
 alive_transition p (Transition.Hard i jobs) w a h =
     let u = same_sum (living_count p) (stepped (Step.Reset hard_code)) i.unit w.units (λ v. refl) in
     omega (arith, u)
-alive_transition p (Transition.Resize place blocks) w a h =
-    let u = same_sum (living_count p) (stepped (Step.Resize blocks)) place w.units (λ v. refl) in
+alive_transition p (Transition.Resize unit_index blocks) w a h =
+    let u = same_sum (living_count p) (stepped (Step.Resize blocks)) unit_index w.units (λ v. refl) in
     omega (arith, u)
-alive_transition p (Transition.Deal place x) w a h =
-    let u = same_sum (living_count p) (dealing x) place w.units (λ v. refl) in
+alive_transition p (Transition.Deal unit_index x) w a h =
+    let u = same_sum (living_count p) (dealing x) unit_index w.units (λ v. refl) in
     omega (arith, u)
 alive_transition p d w a h = omega (arith)
 
@@ -467,7 +467,7 @@ accepted_was t w h =
 
 -- A run
 
-flows_transition : (d : Transition) (ds : List Transition) (w : PlainWorld) → AreOwned w → AreNumbered (after d w) → May d w
+flows_transition : (d : Transition) (ds : List Transition) (w : PlainWorld) → AreOwned w → AreNumbered (after d w) → MayHappen d w
     → IsFlowing ds w → IsFlowing (d ∷ ds) (after d w)
 flows_transition d ds w own numbered h s =
     let log : (p : Ticket → ℕ) → accepted_count p (after d w) ≡ sum_by (fetches p) (d ∷ ds) = λ p.

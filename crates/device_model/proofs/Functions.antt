@@ -8,13 +8,13 @@ use Rattle.device_model.specs.World.{Opened, PlainWorld, Opens}
 use Rattle.device_model.specs.Transitions.{Transition}
 use Rattle.device_model.specs.Changing.{on_function}
 use Rattle.device_model.specs.After.{after}
-use Rattle.device_model.specs.Happens.{May}
+use Rattle.device_model.specs.Happens.{MayHappen}
 use Rattle.device_model.specs.Standing.{FunctionIsThere}
 use Rattle.device_model.proofs.Deciding.{opened_there}
 
 -- the units that are left, and those of the marks, are among so many
 abbrev IsThere : ℕ → PlainFunction → Type 0
-IsThere n f = AllByRecursion (λ place. place < n) f.left × AllByRecursion (λ (p : Place). p.unit < n) f.waits
+IsThere n f = AllByRecursion (λ unit_index. unit_index < n) f.left × AllByRecursion (λ (p : Place). p.unit < n) f.waits
 
 -- what holds of all holds of all but the first
 pub all_drop : {X : Type 0} (P : X → Type 0) (xs : List X) → AllByRecursion P xs → AllByRecursion P (drop 1 xs)
@@ -46,13 +46,13 @@ FindsUnits w = FunctionIsThere (length w.inventory.addresses) w.function
 marks_there : (n : ℕ) (later : List ℕ) (p : Place) (f : PlainFunction) → f.left ≡ p.unit ∷ later → IsThere n f
     → IsThere n (marking p f)
 marks_there n later p f left h =
-    let unit : p.unit < n = (subst (AllByRecursion (λ place. place < n)) left h.0).0 in
-    (all_drop (λ place. place < n) f.left h.0, all_push (λ (q : Place). q.unit < n) f.waits p h.1 unit)
+    let unit : p.unit < n = (subst (AllByRecursion (λ unit_index. unit_index < n)) left h.0).0 in
+    (all_drop (λ unit_index. unit_index < n) f.left h.0, all_push (λ (q : Place). q.unit < n) f.waits p h.1 unit)
 
 -- the next unit is looked at
-looks_there : (n place : ℕ) (later : List ℕ) (b : Bool) (f : PlainFunction) → f.left ≡ place ∷ later → IsThere n f
+looks_there : (n unit_index : ℕ) (later : List ℕ) (b : Bool) (f : PlainFunction) → f.left ≡ unit_index ∷ later → IsThere n f
     → IsThere n (asking b f)
-looks_there n place later b f left h =
+looks_there n unit_index later b f left h =
     let unit : (next_look f).unit < n =
     subst (λ z. slice_index z 0 < n) (sym left) (subst (AllByRecursion (λ k. k < n)) left h.0).0 in
     (all_drop (λ k. k < n) f.left h.0, all_push (λ (q : Place). q.unit < n) f.waits (next_look f) h.1 unit)
@@ -62,7 +62,7 @@ pub new_finds : (w : PlainWorld) → Opens w → FindsUnits w
 new_finds w o = subst (FunctionIsThere (length w.inventory.addresses)) (sym o.function) tt
 
 -- each transition leaves the open function's units there
-pub transition_finds : (d : Transition) (w : PlainWorld) → May d w → FindsUnits w → FindsUnits (after d w)
+pub transition_finds : (d : Transition) (w : PlainWorld) → MayHappen d w → FindsUnits w → FindsUnits (after d w)
 transition_finds (Transition.Open f g) w m h =
     let c = m.decided in
     let n = length w.inventory.addresses in
@@ -74,12 +74,12 @@ transition_finds (Transition.Mark t p s jobs) w m h =
     let now : m.marking.opened ≡ x = same_function m.marking.there is in
     let left = subst (λ (z : Opened). z.function.left ≡ p.unit ∷ m.marking.later) now m.marking.left in
     marks_there n m.marking.later p x.function left i) h
-transition_finds (Transition.Ask t place rule b) w m h =
+transition_finds (Transition.Ask t unit_index rule b) w m h =
     let n = length w.inventory.addresses in
     goes_on n (asking b) w.function (λ x is i.
     let now : m.marking.opened ≡ x = same_function m.marking.there is in
-    let left = subst (λ (z : Opened). z.function.left ≡ place ∷ m.marking.later) now m.marking.left in
-    looks_there n place m.marking.later b x.function left i) h
+    let left = subst (λ (z : Opened). z.function.left ≡ unit_index ∷ m.marking.later) now m.marking.left in
+    looks_there n unit_index m.marking.later b x.function left i) h
 transition_finds (Transition.MarkRefused t) w m h = goes_on (length w.inventory.addresses) failing w.function (λ x is i. (tt, i.1)) h
 transition_finds (Transition.Check t p) w m h =
     let n = length w.inventory.addresses in

@@ -283,10 +283,10 @@ answers w k x o out own at =
       },
     )
 
-leaves : (w : PlainWorld) (k place : ℕ) (t : Ticket) (out : List PlainJob) → IsToLeave w place t
-    → SeatIs w k (Hand.Answered place t) out → Does w (Event.Leave k)
-leaves w k place t out l at = (
-  Transition.Leave k place t (handed_out l.unit (Step.Leave t)),
+leaves : (w : PlainWorld) (k unit_index : ℕ) (t : Ticket) (out : List PlainJob) → IsToLeave w unit_index t
+    → SeatIs w k (Hand.Answered unit_index t) out → Does w (Event.Leave k)
+leaves w k unit_index t out l at = (
+  Transition.Leave k unit_index t (handed_out l.unit (Step.Leave t)),
   refl,
   record {
     holds = record { out = out; seat = at; unit = l.unit; there = l.there };
@@ -300,13 +300,13 @@ leaves w k place t out l at = (
 its_units : (w : PlainWorld) (o : Opened) → IsFit w → w.function ≡ Some o → FunctionIsThere (length w.units) (Some o)
 its_units w o f e = subst (FunctionIsThere (length w.units)) e f.finds
 
-marks : (w : PlainWorld) (o : Opened) (place : ℕ) (later : List ℕ) (kind : Kind) → IsFit w → w.function ≡ Some o
-    → o.function.left ≡ place ∷ later → o.function.kind ≡ kind → Does w Event.Mark
-marks w o place later (Marking m) f at left kind =
+marks : (w : PlainWorld) (o : Opened) (unit_index : ℕ) (later : List ℕ) (kind : Kind) → IsFit w → w.function ≡ Some o
+    → o.function.left ≡ unit_index ∷ later → o.function.kind ≡ kind → Does w Event.Mark
+marks w o unit_index later (Marking m) f at left kind =
     let lt = (subst (AllByRecursion (λ k. k < length w.units)) left (its_units w o f at).0).0 in
-    let u = there w.units place lt in
+    let u = there w.units unit_index lt in
     let s = there w.seats 0 (let a = f.seated in omega (arith, a)) in
-    let p : Place = record { unit = place; place = length u.0.steps } in (
+    let p : Place = record { unit = unit_index; place = length u.0.steps } in (
       Transition.Mark o.chain.ticket p m (handed_out u.0 (step_by m)),
       refl,
       record {
@@ -327,10 +327,10 @@ marks w o place later (Marking m) f at left kind =
         seat_there = s.1;
       },
     )
-marks w o place later (Querying rule) f at left kind =
+marks w o unit_index later (Querying rule) f at left kind =
     let lt = (subst (AllByRecursion (λ k. k < length w.units)) left (its_units w o f at).0).0 in
-    let u = there w.units place lt in (
-      Transition.Ask o.chain.ticket place rule (any_met rule (alive u.0.steps)),
+    let u = there w.units unit_index lt in (
+      Transition.Ask o.chain.ticket unit_index rule (any_met rule (alive u.0.steps)),
       refl,
       record {
         marking =
@@ -408,10 +408,10 @@ raises w e later (c ∷ more) f waits held =
 does : (w : PlainWorld) (e : Event) → IsFit w → IsOwn e → (IsFetch e → ⊥) → Applies w e → Does w e
 does w (Event.Poke x) f own no_fetch h = absurd own
 does w (Event.Prepare k) f own no_fetch h = absurd own
-does w (Event.Resize place blocks) f own no_fetch h = absurd own
-does w (Event.Hard place) f own no_fetch h = absurd own
+does w (Event.Resize unit_index blocks) f own no_fetch h = absurd own
+does w (Event.Hard unit_index) f own no_fetch h = absurd own
 does w Event.Wake f own no_fetch h = absurd own
-does w (Event.Deal place x) f own no_fetch h = absurd own
+does w (Event.Deal unit_index x) f own no_fetch h = absurd own
 does w (Event.Resume k) f own no_fetch h =
     (Transition.Resume k h.job, refl, record { worker = h.worker; free = h.free; rest = h.rest; first = h.first })
 does w (Event.Fetch i) f own no_fetch h = absurd (no_fetch tt)
@@ -421,9 +421,9 @@ does w (Event.Put k) f own no_fetch h = puts w k f h
 does w (Event.Take k) f own no_fetch h = takes w k h
 does w (Event.Commit k) f own no_fetch (x, h) = commits w k x h.0 (f.at_work.seats k _ h.1).0 h.1
 does w (Event.Answer k) f own no_fetch (x, o, h) = answers w k x o h.0 (f.owned.seats k _ h.1).0.chain h.1
-does w (Event.Leave k) f own no_fetch (place, t, h) = leaves w k place t h.0 (f.at_work.seats k _ h.1).0 h.1
+does w (Event.Leave k) f own no_fetch (unit_index, t, h) = leaves w k unit_index t h.0 (f.at_work.seats k _ h.1).0 h.1
 does w Event.Mark f own no_fetch h =
-    marks w h.opened h.place h.later h.opened.function.kind f h.there h.left refl
+    marks w h.opened h.unit_index h.later h.opened.function.kind f h.there h.left refl
 does w Event.Check f own no_fetch h = checks w h
 does w Event.AnswerTmf f own no_fetch h = responds w f h
 does w Event.Raise f own no_fetch (e, later, h) = raises w e later w.buffers f h refl

@@ -14,7 +14,7 @@ use Rattle.device_model.specs.World.{PlainQueue, PlainWorld, Opens, change, Ever
 use Rattle.device_model.specs.Transitions.{Transition}
 use Rattle.device_model.specs.Changing.{bit, arriving, taking, slotted, broken_by, completing, directing, spending}
 use Rattle.device_model.specs.After.{after}
-use Rattle.device_model.specs.Happens.{May, Occurrence, Reached}
+use Rattle.device_model.specs.Happens.{MayHappen, Occurrence, Reached}
 use Rattle.device_model.specs.Lawful.{AreNumbered}
 use Rattle.device_model.specs.Places.{of_chain, standing_count, log_accepted, log_used, accepted_count, used_count}
 use Rattle.device_model.specs.Standing.{IsOwned, AreOwned, BuffersAreOutstanding}
@@ -56,7 +56,7 @@ uses_none g k qs e h = everywhere UsesOwn g k qs (λ q at n. subst (AreOf k) (sy
 new_uses : (w : PlainWorld) → Opens w → UseOwn w
 new_uses w o i q at = subst (AreOf i) (sym (o.queues i q at).used) tt
 
-transition_uses : (d : Transition) (w : PlainWorld) → May d w → UseOwn w → UseOwn (after d w)
+transition_uses : (d : Transition) (w : PlainWorld) → MayHappen d w → UseOwn w → UseOwn (after d w)
 transition_uses (Transition.Arrive f x) w m h =
     uses_none (arriving f.chain (Slot.Arrived x)) f.chain.ticket.queue w.queues (λ q. refl) h
 transition_uses (Transition.Refuse f a) w m h =

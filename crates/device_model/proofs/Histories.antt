@@ -12,7 +12,7 @@ use Rattle.device_model.specs.World.{PlainWorld, Opens, IsNewUnit, change, Every
 use Rattle.device_model.specs.Transitions.{Transition}
 use Rattle.device_model.specs.Event.Hard.{hard_code}
 use Rattle.device_model.specs.After.{after}
-use Rattle.device_model.specs.Happens.{May}
+use Rattle.device_model.specs.Happens.{MayHappen}
 use Rattle.device_model.specs.Found.{MayStep}
 use Rattle.device_model.specs.Lawful.{AreUnits}
 use Rattle.device_model.proofs.Lists.{same}
@@ -57,7 +57,7 @@ new_units w o i u at =
     let n : IsNewUnit u = o.units i u at in
     is_new u n.steps n.parked
 
-pub transition_units : (d : Transition) (w : PlainWorld) → May d w → AreUnits w → AreUnits (after d w)
+pub transition_units : (d : Transition) (w : PlainWorld) → MayHappen d w → AreUnits w → AreUnits (after d w)
 transition_units (Transition.Run x) w m h =
     one_goes (Step.Enter x.entry) x.unit w.units m.comes.unit m.comes.unit_there m.may m.blocked h
 transition_units (Transition.Park x) w m h =
@@ -70,13 +70,13 @@ transition_units (Transition.Commit k x r) w m h =
     (commit_steps m.holds.unit x.entry.ticket r m.may) tt h
 transition_units (Transition.CommitBusy k x) w m h =
     one_goes (Step.Busy x.entry.ticket) x.unit w.units m.holds.unit m.holds.there m.may tt h
-transition_units (Transition.Leave k place t jobs) w m h =
-    one_goes (Step.Leave t) place w.units m.holds.unit m.holds.there m.may tt h
+transition_units (Transition.Leave k unit_index t jobs) w m h =
+    one_goes (Step.Leave t) unit_index w.units m.holds.unit m.holds.there m.may tt h
 transition_units (Transition.Mark t p s jobs) w m h =
     let u = m.marking.unit in
     one_goes (step_by s) p.unit w.units u m.marking.unit_there (may_mark s u) (free_mark s u) h
 transition_units (Transition.Hard p jobs) w m h = one_goes (Step.Reset hard_code) p.unit w.units m.unit m.there tt tt h
-transition_units (Transition.Resize place blocks) w m h = one_goes (Step.Resize blocks) place w.units m.unit m.there m.may tt h
-transition_units (Transition.Deal place x) w m h =
-    one_changes (dealing x) place w.units m.unit m.there (λ is. record { lawful = is.lawful; holds = is.holds }) h
+transition_units (Transition.Resize unit_index blocks) w m h = one_goes (Step.Resize blocks) unit_index w.units m.unit m.there m.may tt h
+transition_units (Transition.Deal unit_index x) w m h =
+    one_changes (dealing x) unit_index w.units m.unit m.there (λ is. record { lawful = is.lawful; holds = is.holds }) h
 transition_units d w m h = h

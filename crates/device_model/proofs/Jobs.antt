@@ -110,8 +110,8 @@ kept p (Transition.Resume k x) w h =
 kept p (Transition.Answer k x o xs) w h =
     let t = turns p k w.seats (Hand.Done x o) (Hand.Answered x.unit x.chain.ticket) h.out h.seat in
     omega (arith, t)
-kept p (Transition.Leave k place t jobs) w h =
-    let f = frees p k w.seats (Hand.Answered place t) h.holds.out jobs h.holds.seat in
+kept p (Transition.Leave k unit_index t jobs) w h =
+    let f = frees p k w.seats (Hand.Answered unit_index t) h.holds.out jobs h.holds.seat in
     omega (arith, f)
 kept p (Transition.Mark t m how jobs) w h =
     let g = gets p 0 w.seats (sum_by p (all_off w)) h.seat jobs h.seat_there in

@@ -40,13 +40,13 @@ comes w x u s k at =
       seat_there = k.1;
     }
 
-abbrev holds : (w : PlainWorld) (k : ℕ) (hand : Hand) (place : ℕ) (u : PlainUnit) → HasHand w k hand
-    → slice_get w.units place ≡ Some u → HandAtUnit w k hand place
-holds w k hand place u s at = record { out = s.0; seat = s.1; unit = u; there = at }
+abbrev holds : (w : PlainWorld) (k : ℕ) (hand : Hand) (unit_index : ℕ) (u : PlainUnit) → HasHand w k hand
+    → slice_get w.units unit_index ≡ Some u → HandAtUnit w k hand unit_index
+holds w k hand unit_index u s at = record { out = s.0; seat = s.1; unit = u; there = at }
 
-abbrev marking : (w : PlainWorld) (t : Ticket) (place : ℕ) (kind : Kind) (u : PlainUnit) → VisitsNext w t place kind
-    → slice_get w.units place ≡ Some u → IsMarking w t place kind
-marking w t place kind u s at =
+abbrev marking : (w : PlainWorld) (t : Ticket) (unit_index : ℕ) (kind : Kind) (u : PlainUnit) → VisitsNext w t unit_index kind
+    → slice_get w.units unit_index ≡ Some u → IsMarking w t unit_index kind
+marking w t unit_index kind u s at =
     record {
       opened = s.opened;
       there = s.there;
@@ -119,8 +119,8 @@ joins Transition.Wake w s u q = s
 joins (Transition.Resume k x) w s u q = s
 joins (Transition.Answer k x o xs) w s u q =
     record { out = s.0; seat = s.1; queue = q.0; there = q.1; writes = q.2.0; seen = q.2.1 }
-joins (Transition.Leave k place t jobs) w s u q =
-    record { holds = holds w k (Hand.Answered place t) place u.0 s u.1; may = u.2.0; enables = u.2.1 }
+joins (Transition.Leave k unit_index t jobs) w s u q =
+    record { holds = holds w k (Hand.Answered unit_index t) unit_index u.0 s u.1; may = u.2.0; enables = u.2.1 }
 joins (Transition.Mark t p m jobs) w s u q =
     record {
       marking = marking w t p.unit (Marking m) u.0 s.0 u.1;
@@ -129,8 +129,8 @@ joins (Transition.Mark t p m jobs) w s u q =
       seat = s.1.0;
       seat_there = s.1.1;
     }
-joins (Transition.Ask t place rule b) w s u q =
-    record { marking = marking w t place (Querying rule) u.0 s u.1; is = u.2 }
+joins (Transition.Ask t unit_index rule b) w s u q =
+    record { marking = marking w t unit_index (Querying rule) u.0 s u.1; is = u.2 }
 joins (Transition.MarkRefused t) w s u q = s
 joins (Transition.Check t p) w s u q = record { later = s.0; waiting = s.1; unit = u.0; there = u.1; clear = u.2 }
 joins (Transition.Respond c r xs) w s u q =
@@ -145,8 +145,8 @@ joins (Transition.Respond c r xs) w s u q =
     }
 joins (Transition.Hard p jobs) w s u q =
     record { unit = u.0; there = u.1; before = u.2.0; releases = u.2.1; seat = s.0; seat_there = s.1 }
-joins (Transition.Resize place blocks) w s u q = record { unit = u.0; there = u.1; may = u.2 }
-joins (Transition.Deal place x) w s u q = record { unit = u.0; there = u.1; may = u.2 }
+joins (Transition.Resize unit_index blocks) w s u q = record { unit = u.0; there = u.1; may = u.2 }
+joins (Transition.Deal unit_index x) w s u q = record { unit = u.0; there = u.1; may = u.2 }
 joins (Transition.Give e c xs) w s u q =
     record {
       later = s.later;

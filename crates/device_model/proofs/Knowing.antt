@@ -17,7 +17,7 @@ use Rattle.device_model.specs.World.{PlainQueue, PlainWorld, Opens, AreAddressed
 use Rattle.command_model.specs.Identity.{told_by}
 use Rattle.device_model.specs.Addressed.{IsAddressed}
 use Rattle.device_model.specs.Transitions.{Transition}
-use Rattle.device_model.specs.Happens.{May, Occurrence, Reached, occurrence_of, world_of, Leads}
+use Rattle.device_model.specs.Happens.{MayHappen, Occurrence, Reached, occurrence_of, world_of, Leads}
 use Rattle.device_model.specs.Event.Commit.{CommitsUnknown}
 use Rattle.device_model.specs.Event.Enter.{EntersStale}
 use Rattle.device_model.specs.Found.{UnitIs}
@@ -32,7 +32,7 @@ use Rattle.device_model.specs.Inner.Happened.{IsEnter}
 use Rattle.device_model.specs.Histories.{history_of, Stands, AreHistories}
 use Rattle.device_model.specs.Entering.{IsSent}
 use Rattle.device_model.proofs.Traces.{in_run, leads_run, leads_beginning, told_at, beginning_tail, told_on}
-use Rattle.device_model.proofs.Steps.{step_in, place_in, step_is, done_at}
+use Rattle.device_model.proofs.Steps.{step_in, index_in, step_is, done_at}
 use Rattle.device_model.proofs.Saying.{Says, says_transition, says_new, sent_there}
 
 pub works_at : (old : PlainWorld) (ds : List Transition) → Opens old → Leads old ds → Works (world_of old ds)
@@ -75,7 +75,7 @@ never_lost k x w m h =
           })
     ]) refl
 
--- each unit has what stands in the inventory at its place
+-- each unit has what stands in the inventory at its index
 addressed_where : (old : PlainWorld) (ds : List Transition) (w : PlainWorld) → Opens old → w.inventory ≡ old.inventory → Says old ds w
     → AreAddressed w
 addressed_where old ds w o e h k u at =
@@ -156,32 +156,32 @@ there_at (x ∷ xs) zero h = (x, refl)
 there_at (x ∷ xs) (suc k) h = there_at xs k (omega (arith, h))
 
 -- the unit of a transition's step is there
-unit_in : (d : Transition) (w : PlainWorld) (s : Step) → May d w → step_in d ≡ Some s
-    → (u : PlainUnit) × UnitIs w (place_in d) u
+unit_in : (d : Transition) (w : PlainWorld) (s : Step) → MayHappen d w → step_in d ≡ Some s
+    → (u : PlainUnit) × UnitIs w (index_in d) u
 unit_in (Transition.Run x) w s m e = (m.comes.unit, m.comes.unit_there)
 unit_in (Transition.Park x) w s m e = (m.comes.unit, m.comes.unit_there)
 unit_in (Transition.EnterFull x) w s m e = (m.comes.unit, m.comes.unit_there)
 unit_in (Transition.Commit k x r) w s m e = (m.holds.unit, m.holds.there)
 unit_in (Transition.CommitBusy k x) w s m e = (m.holds.unit, m.holds.there)
-unit_in (Transition.Leave k place t jobs) w s m e = (m.holds.unit, m.holds.there)
+unit_in (Transition.Leave k unit_index t jobs) w s m e = (m.holds.unit, m.holds.there)
 unit_in (Transition.Mark t p (Abort rule) jobs) w s m e = (m.marking.unit, m.marking.unit_there)
 unit_in (Transition.Mark t p (Reset c) jobs) w s m e = (m.marking.unit, m.marking.unit_there)
 unit_in (Transition.Hard p jobs) w s m e = (m.unit, m.there)
-unit_in (Transition.Resize place blocks) w s m e = (m.unit, m.there)
+unit_in (Transition.Resize unit_index blocks) w s m e = (m.unit, m.there)
 unit_in d w s m e = absurd (nothing e)
 
-stands_there : (old : PlainWorld) (ds : List Transition) (place : ℕ) (s : Step) → Leads old ds
-    → Stands s (history_of place ds) → (u : PlainUnit) × UnitIs (world_of old ds) place u
-stands_there old ds place s l h =
-    let q = done_at place s ds h in
+stands_there : (old : PlainWorld) (ds : List Transition) (unit_index : ℕ) (s : Step) → Leads old ds
+    → Stands s (history_of unit_index ds) → (u : PlainUnit) × UnitIs (world_of old ds) unit_index u
+stands_there old ds unit_index s l h =
+    let q = done_at unit_index s ds h in
     let b = leads_beginning old (q.0 ∷ q.1) ds q.2 l in
-    let is = step_is place q.0 s q.3 in
+    let is = step_is unit_index q.0 s q.3 in
     let u = unit_in q.0 (world_of old q.1) s b.1 is.1 in
-    let n = within (world_of old q.1).units (place_in q.0) u.0 u.1 in
+    let n = within (world_of old q.1).units (index_in q.0) u.0 u.1 in
     let many = (parts_at old q.1 b.0).units in
     let now = (parts_at old ds l).units in
     let at = is.0 in
-    there_at (world_of old ds).units place (omega (arith, n, many, now, at))
+    there_at (world_of old ds).units unit_index (omega (arith, n, many, now, at))
 
 pub are_histories : (old : PlainWorld) (ds : List Transition) → Opens old → Leads old ds
     → AreHistories old ds (world_of old ds)
@@ -189,7 +189,7 @@ are_histories old ds o l =
     record {
       told = λ i u at. ((says_at old ds o l).units i u at).0;
       lawful = λ i u at. ((works_at old ds o l).0 i u at).lawful;
-      there = λ place s h. stands_there old ds place s l h;
+      there = λ unit_index s h. stands_there old ds unit_index s l h;
     }
 
 -- What entered

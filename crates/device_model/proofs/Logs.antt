@@ -11,7 +11,7 @@ use Rattle.device_model.specs.World.{PlainQueue, PlainWorld, Opens, change, Ever
 use Rattle.device_model.specs.Transitions.{Transition}
 use Rattle.device_model.specs.Changing.{bit, arriving, taking, slotted, broken_by, completing, directing, spending}
 use Rattle.device_model.specs.After.{after}
-use Rattle.device_model.specs.Happens.{Occurrence, May, Reached}
+use Rattle.device_model.specs.Happens.{Occurrence, MayHappen, Reached}
 use Rattle.device_model.specs.Lawful.{AreNumbered}
 use Rattle.device_model.specs.Places.{log_used, used_count, only}
 use Rattle.device_model.specs.Weights.{was_accepted, counts_in}
@@ -48,7 +48,7 @@ uses_none g k qs e h =
 abbrev AllAreOwn : PlainWorld → Type 0
 AllAreOwn w = Everywhere AreOwn w.queues
 
-own_transition : (d : Transition) (w : PlainWorld) → May d w → AllAreOwn w → AllAreOwn (after d w)
+own_transition : (d : Transition) (w : PlainWorld) → MayHappen d w → AllAreOwn w → AllAreOwn (after d w)
 own_transition (Transition.Arrive f x) w m h =
     uses_none (arriving f.chain (Slot.Arrived x)) f.chain.ticket.queue w.queues (λ q. refl) h
 own_transition (Transition.Refuse f a) w m h =
@@ -100,7 +100,7 @@ used_counts w i k q t at e =
     let c = only_one t t refl in
     omega (arith, a, b, c)
 
--- and twice where it stands at two places
+-- and twice where it stands at two indices
 used_twice : (w : PlainWorld) (i j k : ℕ) (q : PlainQueue) (t : Ticket) → slice_get w.queues i ≡ Some q
     → slice_get q.ring.log.used j ≡ Some t → slice_get q.ring.log.used k ≡ Some t → eqb j k ≡ false
     → 2 ≤ used_count (only t) w
@@ -140,7 +140,7 @@ are_logs old trace w r numbered s i q at =
           let mine : t.queue ≡ i = all_at (λ (u : Ticket). u.queue ≡ i) q.ring.log.used k t own e in
           let there = ap (λ n. slice_get w.queues n) mine ∙ at in
           let a = used_counts w i k q t at e in
-          let b = s.place t in
+          let b = s.stands t in
           let c = f.accepted (only t) in
           let d = f.once t in
           (mine, below w q t there (omega (arith, a, b, c, d)));

@@ -17,7 +17,7 @@ use Rattle.device_model.specs.Transitions.{Transition}
 use Rattle.device_model.specs.Changing.{on_function}
 use Rattle.device_model.specs.After.{after}
 use Rattle.device_model.specs.Applies.{Applies}
-use Rattle.device_model.specs.Happens.{May}
+use Rattle.device_model.specs.Happens.{MayHappen}
 use Rattle.device_model.specs.Standing.{FunctionIsThere, IsToCheck}
 use Rattle.device_model.specs.Inner.Standing.{AreLooks, LooksAreFree}
 use Rattle.device_model.proofs.Deciding.{opened_there}
@@ -59,7 +59,7 @@ pub new_looks : (w : PlainWorld) → Opens w → LooksFree w
 new_looks w o = subst LooksAreFree (sym o.function) tt
 
 -- each transition leaves a query's checks of no step
-pub transition_looks : (d : Transition) (w : PlainWorld) → May d w → LooksFree w → LooksFree (after d w)
+pub transition_looks : (d : Transition) (w : PlainWorld) → MayHappen d w → LooksFree w → LooksFree (after d w)
 transition_looks (Transition.Open f g) w m h =
     let c = m.decided in
     none_free g.kind g.waits (opened_there w.inventory.addresses c.0 (lengths_of f.chain).writable g c.2).1
@@ -68,7 +68,7 @@ transition_looks (Transition.Mark t p s jobs) w m h =
     let now : m.marking.opened ≡ x = same_function m.marking.there is in
     let kind = subst (λ (z : Opened). z.function.kind ≡ Marking s) now m.marking.does in
     marks_free x.function.kind s (x.function.waits ++ p ∷ []) kind) h
-transition_looks (Transition.Ask t place rule b) w m h =
+transition_looks (Transition.Ask t unit_index rule b) w m h =
     on_free (asking b) w.function (λ x is i. push_free x.function.kind x.function.waits (next_look x.function) refl i) h
 transition_looks (Transition.MarkRefused t) w m h = on_free failing w.function (λ x is i. i) h
 transition_looks (Transition.Check t p) w m h =

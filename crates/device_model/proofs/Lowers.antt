@@ -130,7 +130,7 @@ lowers (Transition.Answer k x o xs) w h =
     let a = held_transition owed w (Transition.Answer k x o xs) h in
     let b = still_whole (completing xs.seen x.chain) x.chain.ticket.queue w (λ q. refl) in
     omega (arith, a, b)
-lowers (Transition.Leave k place t jobs) w h = let a = held_transition owed w (Transition.Leave k place t jobs) h in omega (arith, a)
+lowers (Transition.Leave k unit_index t jobs) w h = let a = held_transition owed w (Transition.Leave k unit_index t jobs) h in omega (arith, a)
 lowers (Transition.Mark t p m jobs) w h =
     let a = held_transition owed w (Transition.Mark t p m jobs) h in
     let b = ap visits h.marking.there in
@@ -138,8 +138,8 @@ lowers (Transition.Mark t p m jobs) w h =
     let n = length_push h.marking.opened.function.waits p in
     let k = length-append w.woken w.aside in
     omega (arith, a, b, c, n, k)
-lowers (Transition.Ask t place rule found) w h =
-    let a = held_transition owed w (Transition.Ask t place rule found) h in
+lowers (Transition.Ask t unit_index rule found) w h =
+    let a = held_transition owed w (Transition.Ask t unit_index rule found) h in
     let f = h.marking.opened.function in
     let b = ap visits h.marking.there in
     let c = ap (λ o. visits (on_function (asking found) o)) h.marking.there in
@@ -166,12 +166,12 @@ lowers (Transition.Hard p jobs) w h =
     let m = reports_few (slice_get w.units p.unit) in
     let k = length-append w.woken w.aside in
     omega (arith, a, n, m, k)
-lowers (Transition.Resize place blocks) w h =
-    let a = held_transition owed w (Transition.Resize place blocks) h in
-    let n = length-append w.waiting (change_reports w.tells_changes (slice_get w.units place)) in
-    let m = changes_few w.tells_changes (slice_get w.units place) in
+lowers (Transition.Resize unit_index blocks) w h =
+    let a = held_transition owed w (Transition.Resize unit_index blocks) h in
+    let n = length-append w.waiting (change_reports w.tells_changes (slice_get w.units unit_index)) in
+    let m = changes_few w.tells_changes (slice_get w.units unit_index) in
     omega (arith, a, n, m)
-lowers (Transition.Deal place x) w h = let a = held_transition owed w (Transition.Deal place x) h in omega (arith, a)
+lowers (Transition.Deal unit_index x) w h = let a = held_transition owed w (Transition.Deal unit_index x) h in omega (arith, a)
 lowers (Transition.Give e c xs) w h =
     let a = held_transition owed w (Transition.Give e c xs) h in
     let b = still_whole (completing xs.seen c) c.ticket.queue w (λ q. refl) in

@@ -17,7 +17,7 @@ use Rattle.device_model.specs.Transitions.{Transition}
 use Rattle.device_model.specs.Changing.{bit, arriving, taking, slotted, broken_by, completing, directing, spending}
 use Rattle.device_model.specs.Event.Hard.{hard_code}
 use Rattle.device_model.specs.After.{after}
-use Rattle.device_model.specs.Happens.{May}
+use Rattle.device_model.specs.Happens.{MayHappen}
 use Rattle.device_model.specs.Found.{handed_out}
 use Rattle.device_model.specs.Laws.{in_hand, at_seat, jobs_out}
 use Rattle.device_model.proofs.Jobs.{turns, kept}
@@ -61,9 +61,9 @@ abbrev SlotIsNamed : Slot → Type 0
 SlotIsNamed (Slot.Arrived x) = misnamed x ≡ 0
 SlotIsNamed s = ⊤
 
--- the job is for the unit of this place
+-- the job is for the unit of this index
 abbrev pub IsFor : ℕ → PlainJob → Type 0
-IsFor place x = (x.unit ≡ place) × (misnamed x ≡ 0)
+IsFor unit_index x = (x.unit ≡ unit_index) × (misnamed x ≡ 0)
 
 abbrev QueuesAreNamed : List PlainQueue → Type 0
 QueuesAreNamed qs = Everywhere (λ i q. SlotIsNamed q.slot) qs
@@ -105,7 +105,7 @@ left_so : (g : PlainQueue → PlainQueue) (k : ℕ) (qs : List PlainQueue)
     → QueuesAreNamed (change g k qs)
 left_so g k qs f h = everywhere (λ i q. SlotIsNamed q.slot) g k qs (λ q at n. f q n) h
 
-queues_after : (d : Transition) (w : PlainWorld) → May d w → QueuesAreNamed w.queues → QueuesAreNamed (after d w).queues
+queues_after : (d : Transition) (w : PlainWorld) → MayHappen d w → QueuesAreNamed w.queues → QueuesAreNamed (after d w).queues
 queues_after (Transition.Arrive f x) w m h =
     let e = is_named x (m.ticket ∙ ap (λ c. c.ticket) (sym m.chain)) in
     refilled (arriving f.chain (Slot.Arrived x)) f.chain.ticket.queue w.queues (λ q. e) h
@@ -149,7 +149,7 @@ steps s k us h =
     everywhere (λ i u. AllByRecursion (IsFor i) u.parked) (stepped s) k us
     (λ u at n. all_filter (IsFor k) (λ j. not (is_job_of (released s u.steps) j)) u.parked n) h
 
-units_after : (d : Transition) (w : PlainWorld) → May d w → AreNamed w → UnitsHoldOwn (after d w).units
+units_after : (d : Transition) (w : PlainWorld) → MayHappen d w → AreNamed w → UnitsHoldOwn (after d w).units
 units_after (Transition.Run x) w m h = steps (Step.Enter x.entry) x.unit w.units h.1
 units_after (Transition.Park x) w m h =
     let c = m.comes in
@@ -159,12 +159,12 @@ units_after (Transition.Park x) w m h =
 units_after (Transition.EnterFull x) w m h = steps (Step.Full x.entry.ticket) x.unit w.units h.1
 units_after (Transition.Commit k x r) w m h = steps (Step.Commit x.entry.ticket r) x.unit w.units h.1
 units_after (Transition.CommitBusy k x) w m h = steps (Step.Busy x.entry.ticket) x.unit w.units h.1
-units_after (Transition.Leave k place t jobs) w m h = steps (Step.Leave t) place w.units h.1
+units_after (Transition.Leave k unit_index t jobs) w m h = steps (Step.Leave t) unit_index w.units h.1
 units_after (Transition.Mark t p s jobs) w m h = steps (step_by s) p.unit w.units h.1
 units_after (Transition.Hard p jobs) w m h = steps (Step.Reset hard_code) p.unit w.units h.1
-units_after (Transition.Resize place blocks) w m h = steps (Step.Resize blocks) place w.units h.1
-units_after (Transition.Deal place x) w m h =
-    everywhere (λ i u. AllByRecursion (IsFor i) u.parked) (dealing x) place w.units (λ u at n. n) h.1
+units_after (Transition.Resize unit_index blocks) w m h = steps (Step.Resize blocks) unit_index w.units h.1
+units_after (Transition.Deal unit_index x) w m h =
+    everywhere (λ i u. AllByRecursion (IsFor i) u.parked) (dealing x) unit_index w.units (λ u at n. n) h.1
 units_after d w m h = h.1
 
 -- The seats and the hand-off
@@ -186,7 +186,7 @@ given_named : (s : Step) (k : ℕ) (us : List PlainUnit) (u : PlainUnit) (jobs :
 given_named s k us u jobs at e h =
     ap (λ l. sum_by misnamed l) e ∙ none_misnamed k (handed_out u s) (given_own s k us u at h)
 
-outs_after : (d : Transition) (w : PlainWorld) → May d w → AreNamed w → jobs_out misnamed (after d w) ≡ 0
+outs_after : (d : Transition) (w : PlainWorld) → MayHappen d w → AreNamed w → jobs_out misnamed (after d w) ≡ 0
 outs_after (Transition.Run x) w m h =
     let c = m.comes in
     let e = in_slot c.queue.slot x c.arrived (h.0 x.chain.ticket.queue c.queue c.there) in
@@ -208,9 +208,9 @@ outs_after (Transition.Resume i x) w m h = let k = kept misnamed (Transition.Res
 outs_after (Transition.Answer i x o xs) w m h =
     let k = kept misnamed (Transition.Answer i x o xs) w m in
     omega (arith, k, h.2)
-outs_after (Transition.Leave i place t jobs) w m h =
-    let k = kept misnamed (Transition.Leave i place t jobs) w m in
-    let z = given_named (Step.Leave t) place w.units m.holds.unit jobs m.holds.there m.enables h.1 in
+outs_after (Transition.Leave i unit_index t jobs) w m h =
+    let k = kept misnamed (Transition.Leave i unit_index t jobs) w m in
+    let z = given_named (Step.Leave t) unit_index w.units m.holds.unit jobs m.holds.there m.enables h.1 in
     omega (arith, k, z, h.2)
 outs_after (Transition.Mark t p s jobs) w m h =
     let k = kept misnamed (Transition.Mark t p s jobs) w m in
@@ -222,7 +222,7 @@ outs_after (Transition.Hard p jobs) w m h =
     omega (arith, k, z, h.2)
 outs_after d w m h = h.2
 
-pub transition_names : (d : Transition) (w : PlainWorld) → May d w → AreNamed w → AreNamed (after d w)
+pub transition_names : (d : Transition) (w : PlainWorld) → MayHappen d w → AreNamed w → AreNamed (after d w)
 transition_names d w m h = (queues_after d w m h.0, units_after d w m h, outs_after d w m h)
 
 -- What a hand has goes by its chain's ticket

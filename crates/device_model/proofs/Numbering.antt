@@ -11,7 +11,7 @@ use Rattle.device_model.specs.World.{PlainQueue, PlainWorld, Opens, IsNewQueue, 
 use Rattle.device_model.specs.Transitions.{Transition}
 use Rattle.device_model.specs.Changing.{arriving, taking, slotted, broken_by, completing, directing, spending}
 use Rattle.device_model.specs.After.{after}
-use Rattle.device_model.specs.Happens.{May}
+use Rattle.device_model.specs.Happens.{MayHappen}
 use Rattle.device_model.specs.Lawful.{IsNumbered, AreNumbered}
 use Rattle.device_model.proofs.Staying.{everywhere}
 
@@ -71,7 +71,7 @@ new_numbered w o i q at =
       accepted = subst (λ (l : List Ticket). l ≡ tickets i (length l)) (sym n.accepted) refl;
     }
 
-pub transition_numbers : (d : Transition) (w : PlainWorld) → May d w → AreNumbered w → AreNumbered (after d w)
+pub transition_numbers : (d : Transition) (w : PlainWorld) → MayHappen d w → AreNumbered w → AreNumbered (after d w)
 transition_numbers (Transition.Arrive f x) w m h =
     let g = arriving f.chain (Slot.Arrived x) in
     accepting_one g f.chain.ticket.queue w.queues (λ q. refl) (λ q. refl) h

@@ -83,11 +83,11 @@ unrun old f d ds o l e =
     omega (arith, few, a, b, one, none, u, v)
 
 -- a Commit in a history counts
-run_counts : (old : PlainWorld) (ds : List Transition) (place : ℕ) (t : Ticket) (r : PlainReply) → Opens old → Leads old ds
-    → Stands (Step.Commit t r) (history_of place ds) → 1 ≤ sum_by (ends (only t)) ds
-run_counts old ds place t r o l h =
-    let q = done_at place (Step.Commit t r) ds h in
-    let run = runs_by old q.0 q.1 place t r o (leads_beginning old (q.0 ∷ q.1) ds q.2 l) q.3 in
+run_counts : (old : PlainWorld) (ds : List Transition) (unit_index : ℕ) (t : Ticket) (r : PlainReply) → Opens old → Leads old ds
+    → Stands (Step.Commit t r) (history_of unit_index ds) → 1 ≤ sum_by (ends (only t)) ds
+run_counts old ds unit_index t r o l h =
+    let q = done_at unit_index (Step.Commit t r) ds h in
+    let run = runs_by old q.0 q.1 unit_index t r o (leads_beginning old (q.0 ∷ q.1) ds q.2 l) q.3 in
     told_counts (IsCommit run.job r) (ends (only t)) (λ d e. one_commit t run.job r d run.chain e) ds
     (told_there (IsCommit run.job r) q.0 q.1 ds q.2 run.commit)
 
@@ -107,11 +107,11 @@ others old first f d ds o l e a is =
     omega (arith, n, used, few, one, u)
 
 -- who was answered doesn't commit again
-answered_ran : (old : PlainWorld) (first : Ticket) (place : ℕ) (r : PlainReply) (d : Transition) (ds : List Transition) → Opens old
-    → Leads old (d ∷ ds) → Happened (IsAnswer first) ds → step_of place d ≡ Some (Step.Commit first r) → ⊥
-answered_ran old first place r d ds o l a e =
+answered_ran : (old : PlainWorld) (first : Ticket) (unit_index : ℕ) (r : PlainReply) (d : Transition) (ds : List Transition) → Opens old
+    → Leads old (d ∷ ds) → Happened (IsAnswer first) ds → step_of unit_index d ≡ Some (Step.Commit first r) → ⊥
+answered_ran old first unit_index r d ds o l a e =
     let n = answered_counts first ds a in
-    let run = runs_by old d ds place first r o l e in
+    let run = runs_by old d ds unit_index first r o l e in
     let one = one_commit first run.job r d run.chain run.commit in
     let now = few_at old (d ∷ ds) first o l in
     let then = few_at old ds first o l.0 in
@@ -128,16 +128,16 @@ same_commit : (o : Option Step) (t u : Ticket) (r q : PlainReply) → o ≡ Some
 same_commit o t u r q e f = let both : Some (Step.Commit t r) ≡ Some (Step.Commit u q) = (cc) in cc
 
 pub in_order : (old : PlainWorld) (ds : List Transition) → Opens old → Leads old ds → AreInOrder ds
-in_order old [] o l first f d past place r q b e a c1 c2 = absurd c1
-in_order old (x ∷ ds) o l first f d past place r q (inl g) e a c1 c2 =
+in_order old [] o l first f d past unit_index r q b e a c1 c2 = absurd c1
+in_order old (x ∷ ds) o l first f d past unit_index r q (inl g) e a c1 c2 =
     let l2 = leads_beginning old (d ∷ past) (x ∷ ds) (inl g) l in
-    let n = run_counts old (x ∷ ds) place f.chain.ticket q o l c2 in
+    let n = run_counts old (x ∷ ds) unit_index f.chain.ticket q o l c2 in
     let z = unrun old f d past o l2 e in
     let same = ap (λ y. sum_by (ends (only f.chain.ticket)) y) g in
     absurd (omega (arith, n, z, same))
-in_order old (x ∷ ds) o l first f d past place r q (inr g) e a c1 c2 =
-    let new = step_of place x in
-    let h = history_of place ds in
+in_order old (x ∷ ds) o l first f d past unit_index r q (inr g) e a c1 c2 =
+    let new = step_of unit_index x in
+    let h = history_of unit_index ds in
     let A = Step.Commit first r in
     let B = Step.Commit f.chain.ticket q in
     let l2 = leads_beginning old (d ∷ past) ds g l.0 in
@@ -146,10 +146,10 @@ in_order old (x ∷ ds) o l first f d past place r q (inr g) e a c1 c2 =
         | inl e2 ↦ absurd (others old first f d past o l2 e a (same_commit new first f.chain.ticket r q e1 e2))
         | inr k2 ↦
             let told = told_on (IsAnswer first) past ds (beginning_tail d past ds g) a in
-            absurd (answered_ran old first place r x ds o l told e1)
+            absurd (answered_ran old first unit_index r x ds o l told e1)
       ]
       | inr k1 ↦ elim (stands_pushed new B h c2) [
         | inl e2 ↦ so_new new B (Stands A) h e2 k1
-        | inr k2 ↦ so_on new B (Stands A) h (in_order old ds o l.0 first f d past place r q g e a k1 k2)
+        | inr k2 ↦ so_on new B (Stands A) h (in_order old ds o l.0 first f d past unit_index r q g e a k1 k2)
       ]
     ]

@@ -12,7 +12,7 @@ use Rattle.device_model.specs.World.{PlainQueue, PlainWorld, Opens, change, all_
 use Rattle.device_model.specs.Transitions.{Transition}
 use Rattle.device_model.specs.Changing.{bit, arriving, taking, slotted, broken_by, completing, directing, spending}
 use Rattle.device_model.specs.After.{after}
-use Rattle.device_model.specs.Happens.{May, Occurrence, Runs}
+use Rattle.device_model.specs.Happens.{MayHappen, Occurrence, Runs}
 use Rattle.device_model.specs.Event.Fetch.{Finds}
 use Rattle.device_model.specs.Lawful.{AreNumbered}
 use Rattle.device_model.specs.Places.{only, standing_count}
@@ -85,7 +85,7 @@ meantime (Transition.Give e c xs) w = w
 meantime d w = after d w
 
 -- what is owned before
-first_owned : (d : Transition) (w : PlainWorld) → May d w → (c : PlainChain) → IsOwned w c → IsOwned (meantime d w) c
+first_owned : (d : Transition) (w : PlainWorld) → MayHappen d w → (c : PlainChain) → IsOwned w c → IsOwned (meantime d w) c
 first_owned (Transition.Arrive f x) w m c o =
     let r = m.finds.queue.ring in
     let none = free r w.memory f.chain f.bytes _ m.finds.taken in
@@ -136,7 +136,7 @@ first_owned (Transition.Give e u xs) w m c o = o
 first_owned d w m c o = owned_still w (after d w) c refl o
 
 -- what is accepted
-brought : (d : Transition) (w : PlainWorld) → May d w → Brings (meantime d w) d
+brought : (d : Transition) (w : PlainWorld) → MayHappen d w → Brings (meantime d w) d
 brought (Transition.Arrive f x) w m =
     taken w (after (Transition.Arrive f x) w) f (arriving f.chain (Slot.Arrived x)) m.finds refl m.finds.taken.owned
 brought (Transition.Refuse f a) w m =
@@ -165,7 +165,7 @@ used w v g u q c there is f own o =
     owned_after w v g u.ticket.queue q c there is (f mine) o
 
 -- what is owned afterwards
-then_owned : (d : Transition) (w : PlainWorld) → May d w → Stand w w → (c : PlainChain) → IsOwned (meantime d w) c
+then_owned : (d : Transition) (w : PlainWorld) → MayHappen d w → Stand w w → (c : PlainChain) → IsOwned (meantime d w) c
     → spared d c.ticket ≡ 0 → IsOwned (after d w) c
 then_owned (Transition.Direct u a xs) w m h c o z =
     let s = subst (SlotOwns w u.ticket.queue) m.ready (h.0 u.ticket.queue m.queue m.there) in
@@ -206,7 +206,7 @@ none_left t old new l e =
     omega (arith, a, b, l, e)
 
 -- what a transition used is none of what stands
-stands_nowhere : (d : Transition) (w : PlainWorld) → May d w → AtMostOnce w → standing_count (spared d) (after d w) ≡ 0
+stands_nowhere : (d : Transition) (w : PlainWorld) → MayHappen d w → AtMostOnce w → standing_count (spared d) (after d w) ≡ 0
 stands_nowhere (Transition.Direct c o xs) w m a =
     let p = only c.ticket in
     let d = Transition.Direct c o xs in
@@ -227,7 +227,7 @@ stands_nowhere (Transition.Poke x) w m a = no_weight (after (Transition.Poke x) 
 stands_nowhere d w m a = no_weight (after d w)
 
 -- each transition leaves what stands owned
-transition_owns : (d : Transition) (w : PlainWorld) → May d w → AtMostOnce w → Stand w w → Stand (after d w) (after d w)
+transition_owns : (d : Transition) (w : PlainWorld) → MayHappen d w → AtMostOnce w → Stand w w → Stand (after d w) (after d w)
 transition_owns d w m a h =
     let v = meantime d w in
     let before = turn weightless w v w (λ c o z. first_owned d w m c o) (no_weight w) h in

@@ -40,13 +40,13 @@ unit_part (Transition.CommitBusy k x) w h =
 unit_part (Transition.CommitAborted k x why) w h = (h.holds.unit, h.holds.there, (h.alive, h.marked), h.holds.there)
 unit_part (Transition.Defer k x) w h =
     (h.holds.unit, h.holds.there, (h.entry, h.ready, h.waits), h.holds.there)
-unit_part (Transition.Leave k place t jobs) w h =
+unit_part (Transition.Leave k unit_index t jobs) w h =
     let u = h.holds.unit in let at = h.holds.there in
-    (u, at, (h.may, h.enables), get_change (stepped (Step.Leave t)) place w.units u at)
+    (u, at, (h.may, h.enables), get_change (stepped (Step.Leave t)) unit_index w.units u at)
 unit_part (Transition.Mark t p m jobs) w h =
     let u = h.marking.unit in let at = h.marking.unit_there in
     (u, at, (h.before, h.releases), get_change (stepped (step_by m)) p.unit w.units u at)
-unit_part (Transition.Ask t place rule b) w h = (h.marking.unit, h.marking.unit_there, h.is, h.marking.unit_there)
+unit_part (Transition.Ask t unit_index rule b) w h = (h.marking.unit, h.marking.unit_there, h.is, h.marking.unit_there)
 unit_part (Transition.Check t p) w h = (h.unit, h.there, h.clear, h.there)
 unit_part (Transition.Hard p jobs) w h = (
   h.unit,
@@ -54,10 +54,10 @@ unit_part (Transition.Hard p jobs) w h = (
   (h.before, h.releases),
   get_change (stepped (Step.Reset hard_code)) p.unit w.units h.unit h.there,
 )
-unit_part (Transition.Resize place blocks) w h =
-    (h.unit, h.there, h.may, get_change (stepped (Step.Resize blocks)) place w.units h.unit h.there)
-unit_part (Transition.Deal place x) w h =
-    (h.unit, h.there, h.may, get_change (dealing x) place w.units h.unit h.there)
+unit_part (Transition.Resize unit_index blocks) w h =
+    (h.unit, h.there, h.may, get_change (stepped (Step.Resize blocks)) unit_index w.units h.unit h.there)
+unit_part (Transition.Deal unit_index x) w h =
+    (h.unit, h.there, h.may, get_change (dealing x) unit_index w.units h.unit h.there)
 unit_part (Transition.EnterStale x) w h = absurd h
 unit_part (Transition.CommitUnknown k x) w h = absurd h
 unit_part (Transition.Idle e) w h = absurd h

@@ -18,7 +18,7 @@ use Rattle.device_model.specs.Transitions.{Transition}
 use Rattle.device_model.specs.Changing.{arriving, taking, slotted, broken_by, completing, directing, spending, with_chain, on_function}
 use Rattle.device_model.specs.Event.Hard.{hard_code}
 use Rattle.device_model.specs.After.{after}
-use Rattle.device_model.specs.Happens.{May, Occurrence, Runs}
+use Rattle.device_model.specs.Happens.{MayHappen, Occurrence, Runs}
 use Rattle.device_model.specs.Event.Fetch.{Finds}
 use Rattle.device_model.specs.Found.{handed_out}
 use Rattle.device_model.specs.Laws.{at_seat, in_hand}
@@ -85,7 +85,7 @@ accepted p f w h =
     let b = ap p h.taken.ticket in
     omega (arith, a, b)
 
-pub moves : (p : Ticket → ℕ) (d : Transition) (w : PlainWorld) → May d w → Moves p d w (after d w)
+pub moves : (p : Ticket → ℕ) (d : Transition) (w : PlainWorld) → MayHappen d w → Moves p d w (after d w)
 moves p (Transition.Arrive f x) w h =
     let l = line p (arriving f.chain (Slot.Arrived x)) f.chain.ticket.queue w.queues h.finds.queue h.finds.there in
     let a = accepted p f w h.finds in
@@ -244,10 +244,10 @@ moves p (Transition.Answer k x o xs) w h =
       used = omega (arith, l.used, u);
       standing = omega (arith, l.slots, k);
     }
-moves p (Transition.Leave k place t jobs) w h =
-    let s = steps p (Step.Leave t) place w.units h.holds.unit h.holds.there in
+moves p (Transition.Leave k unit_index t jobs) w h =
+    let s = steps p (Step.Leave t) unit_index w.units h.holds.unit h.holds.there in
     let j = ap (λ l. sum_by (of_job p) l) h.enables in
-    let k = kept (of_job p) (Transition.Leave k place t jobs) w h in
+    let k = kept (of_job p) (Transition.Leave k unit_index t jobs) w h in
     record { accepted = omega (arith); used = omega (arith); standing = omega (arith, s, j, k) }
 moves p (Transition.Mark t m how jobs) w h =
     let s = steps p (step_by how) m.unit w.units h.marking.unit h.marking.unit_there in
@@ -260,13 +260,13 @@ moves p (Transition.Hard m jobs) w h =
     let j = ap (λ l. sum_by (of_job p) l) h.releases in
     let k = kept (of_job p) (Transition.Hard m jobs) w h in
     record { accepted = omega (arith); used = omega (arith); standing = omega (arith, s, j, k) }
-moves p (Transition.Resize place blocks) w h =
-    let s = stays p (Step.Resize blocks) place w.units h.unit h.there refl in
+moves p (Transition.Resize unit_index blocks) w h =
+    let s = stays p (Step.Resize blocks) unit_index w.units h.unit h.there refl in
     record { accepted = omega (arith); used = omega (arith); standing = omega (arith, s) }
-moves p (Transition.Deal place x) w h =
-    let s = sum_change (at_unit p) (dealing x) place w.units h.unit h.there in
+moves p (Transition.Deal unit_index x) w h =
+    let s = sum_change (at_unit p) (dealing x) unit_index w.units h.unit h.there in
     record { accepted = omega (arith); used = omega (arith); standing = omega (arith, s) }
-moves p (Transition.Ask t place rule b) w h =
+moves p (Transition.Ask t unit_index rule b) w h =
     let f = goes_on p (asking b) w.function in
     record { accepted = omega (arith); used = omega (arith); standing = omega (arith, f) }
 moves p (Transition.MarkRefused t) w h =

@@ -39,7 +39,7 @@ use Rattle.device_model.specs.Standing.{IsOwned, IsAside, FunctionIsThere}
 use Rattle.device_model.proofs.Places.{nothing_counts, balanced}
 use Rattle.device_model.proofs.Staying.{run_stays, run_keeps, units_listed}
 use Rattle.device_model.proofs.Owning.{owned}
-use Rattle.device_model.proofs.Tasks.{own, hand_count, seat_count, of_place, out_count}
+use Rattle.device_model.proofs.Tasks.{own, hand_count, seat_count, of_index, out_count}
 use Rattle.device_model.proofs.Working.{run_works, one, no_bit}
 use Rattle.device_model.proofs.Functions.{FindsUnits, new_finds, transition_finds}
 use Rattle.device_model.specs.Order.{IsNext, IsQuiet, IsAtRest, IsQuietOf, IsAtRestOf, AreBehindAside, waiting_count}
@@ -69,7 +69,7 @@ free_hand : (w : PlainWorld) (k : ℕ) (hand : Hand) (out : List PlainJob)
 free_hand w k Hand.Empty out at q = refl
 free_hand w k (Hand.Taken x) out at q = absurd (q.commit (x, (out, at)))
 free_hand w k (Hand.Done x o) out at q = absurd (q.answer (x, o, (out, at)))
-free_hand w k (Hand.Answered place t) out at q = absurd (q.leave (place, t, (out, at)))
+free_hand w k (Hand.Answered unit_index t) out at q = absurd (q.leave (unit_index, t, (out, at)))
 
 no_jobs : (w : PlainWorld) (k : ℕ) (out : List PlainJob)
     → slice_get w.seats k ≡ Some (record { hand = Hand.Empty; out = out }) → QuietSeat w k → out ≡ []
@@ -184,10 +184,10 @@ parked_goes_on o h (j ∷ jobs) l p = (
 
 -- so does one that waits for pages
 aside_count : (w : PlainWorld) (n : ℕ) (u : PlainUnit) (t : Ticket) (xs : List PlainJob) → slice_get w.units n ≡ Some u
-    → ended t u.steps ≡ true → AllByRecursion (IsAside w) xs → sum_by (of_place n (one t)) xs ≡ 0
+    → ended t u.steps ≡ true → AllByRecursion (IsAside w) xs → sum_by (of_index n (one t)) xs ≡ 0
 aside_count w n u t [] at on h = refl
 aside_count w n u t (x ∷ xs) at on h =
-    let here : of_place n (one t) x ≡ 0 =
+    let here : of_index n (one t) x ≡ 0 =
     (elim (eqb x.unit n) as (λ b. eqb x.unit n ≡ b → cond b (one t x.entry.ticket) 0 ≡ 0) [
       | true ↦ λ k.
           let is : h.0.unit ≡ u = same (sym h.0.there ∙ ap (λ i. slice_get w.units i) (eqb-true x.unit n k) ∙ at) in
@@ -199,21 +199,21 @@ aside_count w n u t (x ∷ xs) at on h =
       | false ↦ λ k. refl
     ]) refl in
     let rest = aside_count w n u t xs at on h.1 in
-    let c = sum_by-cons (of_place n (one t)) x xs in
+    let c = sum_by-cons (of_index n (one t)) x xs in
     omega (arith, here, rest, c)
 
--- no job for a place
+-- no job for the unit of an index
 none_for : (n : ℕ) (xs : List PlainJob) → AllByRecursion (λ (x : PlainJob). x.unit ≡ n → ⊥) xs
-    → sum_by (of_place n each_one) xs ≡ 0
+    → sum_by (of_index n each_one) xs ≡ 0
 none_for n [] h = refl
 none_for n (x ∷ xs) h =
-    let here : of_place n each_one x ≡ 0 =
+    let here : of_index n each_one x ≡ 0 =
     (elim (eqb x.unit n) as (λ b. eqb x.unit n ≡ b → cond b (each_one x.entry.ticket) 0 ≡ 0) [
       | true ↦ λ k. absurd (h.0 (eqb-true x.unit n k))
       | false ↦ λ k. refl
     ]) refl in
     let rest = none_for n xs h.1 in
-    let c = sum_by-cons (of_place n each_one) x xs in
+    let c = sum_by-cons (of_index n each_one) x xs in
     omega (arith, here, rest, c)
 
 -- each place of a mark is clear
@@ -234,8 +234,8 @@ its_place w m idle lt =
 stuck : (w : PlainWorld) (o : Opened) (left : List ℕ) (waits : List Place) → w.function ≡ Some o
     → o.function.left ≡ left → o.function.waits ≡ waits → AllByRecursion (λ (m : Place). m.unit < length w.units) waits
     → AreIdle w → Never w Event.Mark → Never w Event.Check → Never w Event.AnswerTmf → ⊥
-stuck w o (place ∷ later) waits at a b there idle mark check answer =
-    mark (record { opened = o; there = at; place = place; later = later; left = a })
+stuck w o (unit_index ∷ later) waits at a b there idle mark check answer =
+    mark (record { opened = o; there = at; unit_index = unit_index; later = later; left = a })
 stuck w o [] [] at a b there idle mark check answer =
     answer (record { opened = o; there = at; left = a; still = b })
 stuck w o [] (m ∷ later) at a b there idle mark check answer =
@@ -308,7 +308,7 @@ no_report w (report ∷ later) e never = absurd (never (report, later, e))
 bare_seat : (n : ℕ) (p : Ticket → ℕ) (s : Seat) → EmptySeat s → seat_count n p s ≡ 0
 bare_seat n p s e =
     let a = ap (hand_count n p) e.hand in
-    let b = ap (λ l. sum_by (of_place n p) l) e.out in
+    let b = ap (λ l. sum_by (of_index n p) l) e.out in
     omega (arith, a, b)
 
 bare : (p : Ticket → ℕ) (s : Seat) → EmptySeat s → at_seat (of_job p) s ≡ 0
@@ -348,11 +348,11 @@ quiet_rests_of asked old trace w r h =
       | inr q ↦ absurd (let le = q.0 in omega (arith, le, first))
     ] in
     let aside = run_aside old trace w r.opens r.runs in
-    let under_way : (n : ℕ) (p : Ticket → ℕ) → out_count n p w.seats (between w) ≡ sum_by (of_place n p) w.aside = λ n p.
+    let under_way : (n : ℕ) (p : Ticket → ℕ) → out_count n p w.seats (between w) ≡ sum_by (of_index n p) w.aside = λ n p.
     let a = nothing_counts (seat_count n p) w.seats (λ k s at. bare_seat n p s (seats k s at)) in
-    let b = between_sum (of_place n p) (all_off w) w.aside w.woken in
-    let c = ap (λ l. sum_by (of_place n p) l) off in
-    let d = ap (λ l. sum_by (of_place n p) l) woken in
+    let b = between_sum (of_index n p) (all_off w) w.aside w.woken in
+    let c = ap (λ l. sum_by (of_index n p) l) off in
+    let d = ap (λ l. sum_by (of_index n p) l) woken in
     omega (arith, a, b, c, d) in
     let idle : AreIdle w = λ i u at place.
     let is = working.0 i u at in

@@ -16,24 +16,24 @@ use Rattle.device_model.specs.World.{Seat, PlainWorld, Opens, Everywhere, all_of
 use Rattle.device_model.specs.Transitions.{Transition}
 use Rattle.device_model.specs.After.{after}
 use Rattle.device_model.specs.Changing.{with_job}
-use Rattle.device_model.specs.Happens.{May, Occurrence, Runs}
+use Rattle.device_model.specs.Happens.{MayHappen, Occurrence, Runs}
 use Rattle.device_model.proofs.Staying.{run_keeps, run_stays, everywhere}
 use Rattle.device_model.proofs.Sums.{counts_one}
-use Rattle.device_model.proofs.Tasks.{of_place, seat_count}
+use Rattle.device_model.proofs.Tasks.{of_index, seat_count}
 use Rattle.device_model.proofs.Working.{ToCommit, Works}
 use Rattle.device_model.proofs.Lists.{same}
 use Rattle.device_model.proofs.Named.{all_push}
 use Rattle.device_model.proofs.Off.{between_parts}
 
--- Places
+-- Indices
 
--- each place below the end has its item
+-- each index below the end has its item
 pub below_found : {X : Type 0} (xs : List X) (i : ℕ) → i < length xs → (x : X) × (slice_get xs i ≡ Some x)
 below_found [] i h = absurd (omega (arith, h))
 below_found (y ∷ xs) zero h = (y, refl)
 below_found (y ∷ xs) (suc i) h = below_found xs i (omega (arith, h))
 
--- 1 for a place below this one
+-- 1 for an index below this one
 abbrev below : ℕ → ℕ → ℕ
 below zero i = 0
 below (suc n) i = below n i + cond (eqb i n) 1 0
@@ -49,17 +49,17 @@ one_below (suc n) i h =
           omega (arith, a)
     ]) refl
 
--- the jobs for units below a place
+-- the jobs for units below an index
 abbrev under : ℕ → List PlainJob → ℕ
 under n xs = sum_by (λ (x : PlainJob). below n x.unit) xs
 
-under_next : (n : ℕ) (xs : List PlainJob) → under (suc n) xs ≡ under n xs + sum_by (of_place n each_one) xs
+under_next : (n : ℕ) (xs : List PlainJob) → under (suc n) xs ≡ under n xs + sum_by (of_index n each_one) xs
 under_next n [] = refl
 under_next n (x ∷ xs) =
     let a = under_next n xs in
     let b = sum_by-cons (λ (y : PlainJob). below (suc n) y.unit) x xs in
     let c = sum_by-cons (λ (y : PlainJob). below n y.unit) x xs in
-    let d = sum_by-cons (of_place n each_one) x xs in
+    let d = sum_by-cons (of_index n each_one) x xs in
     omega (arith, a, b, c, d)
 
 under_zero : (xs : List PlainJob) → under zero xs ≡ 0
@@ -69,8 +69,8 @@ under_zero (x ∷ xs) =
     let b = sum_by-cons (λ (y : PlainJob). below zero y.unit) x xs in
     omega (arith, a, b)
 
--- where no unit has more jobs than this, all those below a place have no more than so many times it
-few_under : (m n : ℕ) (xs : List PlainJob) → ((i : ℕ) → i < n → sum_by (of_place i each_one) xs ≤ m)
+-- where no unit has more jobs than this, all those below an index have no more than so many times it
+few_under : (m n : ℕ) (xs : List PlainJob) → ((i : ℕ) → i < n → sum_by (of_index i each_one) xs ≤ m)
     → under n xs ≤ m * n
 few_under m zero xs h = let a = under_zero xs in omega (arith, a)
 few_under m (suc n) xs h =
@@ -91,7 +91,7 @@ all_under us (x ∷ xs) h =
 
 -- a seat has no more jobs of a unit than there may be tasks
 few_of : (w : PlainWorld) (k : ℕ) (s : Seat) → Works w → slice_get w.seats k ≡ Some s → (n : ℕ) → n < length w.units
-    → sum_by (of_place n each_one) s.out ≤ 64
+    → sum_by (of_index n each_one) s.out ≤ 64
 few_of w k s h at n l =
     let u = below_found w.units n l in
     let is = h.0 n u.0 u.1 in
@@ -109,14 +109,14 @@ seats_room w h k s at =
 
 -- nor do more wait for pages, or are to be tried again
 few_wait : (w : PlainWorld) → Works w → (n : ℕ) → n < length w.units
-    → sum_by (of_place n each_one) (w.aside ++ w.woken) ≤ 64
+    → sum_by (of_index n each_one) (w.aside ++ w.woken) ≤ 64
 few_wait w h n l =
     let u = below_found w.units n l in
     let is = h.0 n u.0 u.1 in
     let b = h.2 n each_one u.0 u.1 in
     let o = weight_ones (alive u.0.steps) in
     let f = alive_few u.0.opening u.0.steps is.lawful in
-    let c = sum_by-append (of_place n each_one) (all_off w) (w.aside ++ w.woken) in
+    let c = sum_by-append (of_index n each_one) (all_off w) (w.aside ++ w.woken) in
     omega (arith, b, o, f, c)
 
 pub waiting_room : (w : PlainWorld) → Works w → length w.aside + length w.woken ≤ 64 * length w.units
@@ -132,7 +132,7 @@ waiting_room w h =
 abbrev HasRoom : PlainWorld → Type 0
 HasRoom w = Everywhere (λ k jobs. length jobs ≤ w.limit) w.handed_off
 
-transition_room : (d : Transition) (w : PlainWorld) → May d w → HasRoom w → HasRoom (after d w)
+transition_room : (d : Transition) (w : PlainWorld) → MayHappen d w → HasRoom w → HasRoom (after d w)
 transition_room (Transition.Put k x) w m h =
     everywhere (λ i jobs. length jobs ≤ w.limit) (with_job x) k w.handed_off
     (λ jobs at old.

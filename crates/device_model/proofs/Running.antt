@@ -6,7 +6,7 @@ use Rattle.device_model.specs.World.{PlainWorld}
 use Rattle.device_model.specs.Events.{Event}
 use Rattle.device_model.specs.Transitions.{Transition, Action, event_of, action_of}
 use Rattle.device_model.specs.After.{after}
-use Rattle.device_model.specs.Happens.{Occurrence, May, Runs, transitions_of, occurrence_of, world_of, Leads}
+use Rattle.device_model.specs.Happens.{Occurrence, MayHappen, Runs, transitions_of, occurrence_of, world_of, Leads}
 use Rattle.device_model.specs.Phases.{bytes_after}
 use Rattle.device_model.specs.Laws.{memory_after}
 
@@ -24,7 +24,7 @@ pub run_leads : (old : PlainWorld) (trace : List Occurrence) (w : PlainWorld) (r
     → Leads old (transitions_of old trace w r)
 run_leads old [] w r = tt
 run_leads old (e ∷ past) w r =
-    (run_leads old past r.0 r.1, subst (May r.2.transition) (run_world old past r.0 r.1) r.2.may)
+    (run_leads old past r.0 r.1, subst (MayHappen r.2.transition) (run_world old past r.0 r.1) r.2.may)
 
 abbrev both : Event → Action → Occurrence
 both e a = record { event = e; action = a }

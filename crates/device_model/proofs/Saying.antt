@@ -17,7 +17,7 @@ use Rattle.device_model.specs.Transitions.{Transition}
 use Rattle.device_model.specs.Event.Hard.{hard_code}
 use Rattle.device_model.specs.Changing.{arriving, taking, slotted, broken_by, completing, directing, spending, with_hand, without_first, with_jobs, with_job, leaving}
 use Rattle.device_model.specs.After.{after}
-use Rattle.device_model.specs.Happens.{May}
+use Rattle.device_model.specs.Happens.{MayHappen}
 use Rattle.device_model.specs.Event.Fetch.{DecidesRequest, IsDirect}
 use Rattle.device_model.specs.Found.{handed_out}
 use Rattle.device_model.proofs.Lists.{at_other}
@@ -25,7 +25,7 @@ use Rattle.device_model.proofs.Staying.{everywhere}
 use Rattle.device_model.proofs.Named.{all_filter, all_push}
 use Rattle.device_model.specs.Happened.{Happened, IsFetch, IsShed, IsLoss}
 use Rattle.device_model.specs.Inner.Happened.{IsEnter, IsFull, IsCommit, IsBusy, IsAbort}
-use Rattle.device_model.specs.Histories.{at_place, pushed, history_of, IsToldOf}
+use Rattle.device_model.specs.Histories.{at_index, pushed, history_of, IsToldOf}
 use Rattle.device_model.specs.Entering.{IsJobOf, IsSent}
 use Rattle.device_model.proofs.Off.{each_put, each_taken, none_between, between, between_all, between_parts, each_woken, each_push, first_taken}
 
@@ -74,13 +74,13 @@ abbrev pub HandSays : List Transition → Hand → Type 0
 HandSays ds Hand.Empty = ⊤
 HandSays ds (Hand.Taken x) = JobSays ds x
 HandSays ds (Hand.Done x o) = JobSays ds x × IsEndedBy x o ds
-HandSays ds (Hand.Answered place t) = ⊤
+HandSays ds (Hand.Answered unit_index t) = ⊤
 
 abbrev pub SeatSays : List Transition → Seat → Type 0
 SeatSays ds s = HandSays ds s.hand × Each (JobSays ds) s.out
 
 abbrev pub UnitSays : PlainWorld → List Transition → ℕ → PlainUnit → Type 0
-UnitSays old ds place u = IsToldOf old ds place u × Each (JobSays ds) u.parked
+UnitSays old ds unit_index u = IsToldOf old ds unit_index u × Each (JobSays ds) u.parked
 
 abbrev Slots : PlainInventory → List Transition → List PlainQueue → Type 0
 Slots units ds qs = Everywhere (λ i q. SlotSays units ds q.slot) qs
@@ -131,7 +131,7 @@ older_hand : (h : Hand) (d : Transition) (ds : List Transition) → HandSays ds 
 older_hand Hand.Empty d ds h = tt
 older_hand (Hand.Taken x) d ds h = inr h
 older_hand (Hand.Done x o) d ds h = (inr h.0, older_ended x o d ds h.1)
-older_hand (Hand.Answered place t) d ds h = tt
+older_hand (Hand.Answered unit_index t) d ds h = tt
 
 older_jobs : (xs : List PlainJob) (d : Transition) (ds : List Transition) → Each (JobSays ds) xs → Each (JobSays (d ∷ ds)) xs
 older_jobs xs d ds h = each_map (JobSays ds) (JobSays (d ∷ ds)) xs (λ x q. inr q) h
@@ -144,15 +144,15 @@ old_seats : (d : Transition) (ds : List Transition) (ss : List Seat) → Seats d
 old_seats d ds ss h i s e = (older_hand s.hand d ds (h i s e).0, older_jobs s.out d ds (h i s e).1)
 
 -- a unit that takes no step
-old_unit : (old : PlainWorld) (d : Transition) (ds : List Transition) (place : ℕ) (u : PlainUnit)
-    → history_of place (d ∷ ds) ≡ history_of place ds → UnitSays old ds place u → UnitSays old (d ∷ ds) place u
-old_unit old d ds place u e h = (
+old_unit : (old : PlainWorld) (d : Transition) (ds : List Transition) (unit_index : ℕ) (u : PlainUnit)
+    → history_of unit_index (d ∷ ds) ≡ history_of unit_index ds → UnitSays old ds unit_index u → UnitSays old (d ∷ ds) unit_index u
+old_unit old d ds unit_index u e h = (
   record { opened = h.0.opened; there = h.0.there; opening = h.0.opening; steps = h.0.steps ∙ sym e },
   older_jobs u.parked d ds h.1,
 )
 
 old_units : (old : PlainWorld) (d : Transition) (ds : List Transition) (us : List PlainUnit)
-    → ((place : ℕ) → history_of place (d ∷ ds) ≡ history_of place ds) → Units old ds us → Units old (d ∷ ds) us
+    → ((unit_index : ℕ) → history_of unit_index (d ∷ ds) ≡ history_of unit_index ds) → Units old ds us → Units old (d ∷ ds) us
 old_units old d ds us e h i u at = old_unit old d ds i u (e i) (h i u at)
 
 -- One part changes
@@ -204,7 +204,7 @@ steps_on : (old : PlainWorld) (d : Transition) (ds : List Transition) (g : Plain
     (us : List PlainUnit) → ((u : PlainUnit) → (g u).opening ≡ u.opening)
     → ((u : PlainUnit) → (g u).steps ≡ s ∷ u.steps)
     → ((u : PlainUnit) → Each (JobSays (d ∷ ds)) u.parked → Each (JobSays (d ∷ ds)) (g u).parked)
-    → ((i : ℕ) → history_of i (d ∷ ds) ≡ pushed (at_place i k s) (history_of i ds)) → Units old ds us
+    → ((i : ℕ) → history_of i (d ∷ ds) ≡ pushed (at_index i k s) (history_of i ds)) → Units old ds us
     → Units old (d ∷ ds) (change g k us)
 steps_on old d ds g s k us eo es ep eh h i y at =
     let o = at_other g k us i y at in
@@ -229,7 +229,7 @@ steps_on old d ds g s k us eo es ep eh h i y at =
 
 -- by which it may hand out jobs
 steps : (old : PlainWorld) (d : Transition) (ds : List Transition) (s : Step) (k : ℕ) (us : List PlainUnit)
-    → ((i : ℕ) → history_of i (d ∷ ds) ≡ pushed (at_place i k s) (history_of i ds)) → Units old ds us
+    → ((i : ℕ) → history_of i (d ∷ ds) ≡ pushed (at_index i k s) (history_of i ds)) → Units old ds us
     → Units old (d ∷ ds) (change (stepped s) k us)
 steps old d ds s k us eh h =
     steps_on old d ds (stepped s) s k us (λ u. refl) (λ u. refl)
@@ -252,7 +252,7 @@ sent_there units ds w x q i at e h = subst (SlotSays units ds) e (h i q at)
 -- the slots alone
 queues_alone : (old : PlainWorld) (d : Transition) (ds : List Transition) (w v : PlainWorld) → v.seats ≡ w.seats
     → between v ≡ between w → v.units ≡ w.units
-    → ((place : ℕ) → history_of place (d ∷ ds) ≡ history_of place ds) → Slots old.inventory (d ∷ ds) v.queues
+    → ((unit_index : ℕ) → history_of unit_index (d ∷ ds) ≡ history_of unit_index ds) → Slots old.inventory (d ∷ ds) v.queues
     → Says old ds w → Says old (d ∷ ds) v
 queues_alone old d ds w v a b c e q h =
     record {
@@ -265,7 +265,7 @@ queues_alone old d ds w v a b c e q h =
 -- One transition
 
 pub says_transition : (old : PlainWorld) (d : Transition) (ds : List Transition) (w : PlainWorld) → w.inventory ≡ old.inventory
-    → (IsLoss d → ⊥) → May d w → Says old ds w → Says old (d ∷ ds) (after d w)
+    → (IsLoss d → ⊥) → MayHappen d w → Says old ds w → Says old (d ∷ ds) (after d w)
 says_transition old (Transition.Arrive f x) ds w e n m h =
     let d = Transition.Arrive f x in
     let i = old.inventory in
@@ -449,15 +449,15 @@ says_transition old (Transition.Answer k x o xs) ds w e n m h =
       handed_off = older_jobs (between w) d ds h.handed_off;
       units = old_units old d ds w.units (λ i. refl) h.units;
     }
-says_transition old (Transition.Leave k place t jobs) ds w e n m h =
-    let d = Transition.Leave k place t jobs in
+says_transition old (Transition.Leave k unit_index t jobs) ds w e n m h =
+    let d = Transition.Leave k unit_index t jobs in
     let s = Step.Leave t in
-    let new = given old d ds s place w.units m.holds.unit jobs m.holds.there m.enables h.units in
+    let new = given old d ds s unit_index w.units m.holds.unit jobs m.holds.there m.enables h.units in
     record {
       slots = old_slots old.inventory d ds w.queues h.slots;
       seats = left_with d ds jobs k w.seats new h.seats;
       handed_off = older_jobs (between w) d ds h.handed_off;
-      units = steps old d ds s place w.units (λ i. refl) h.units;
+      units = steps old d ds s unit_index w.units (λ i. refl) h.units;
     }
 says_transition old (Transition.Mark t p how jobs) ds w e n m h =
     let d = Transition.Mark t p how jobs in
@@ -486,21 +486,21 @@ says_transition old (Transition.Hard p jobs) ds w e n m h =
           (older_jobs (between w) d ds h.handed_off);
       units = steps old d ds s p.unit w.units (λ i. refl) h.units;
     }
-says_transition old (Transition.Resize place blocks) ds w e n m h =
-    let d = Transition.Resize place blocks in
+says_transition old (Transition.Resize unit_index blocks) ds w e n m h =
+    let d = Transition.Resize unit_index blocks in
     record {
       slots = old_slots old.inventory d ds w.queues h.slots;
       seats = old_seats d ds w.seats h.seats;
       handed_off = older_jobs (between w) d ds h.handed_off;
-      units = steps old d ds (Step.Resize blocks) place w.units (λ i. refl) h.units;
+      units = steps old d ds (Step.Resize blocks) unit_index w.units (λ i. refl) h.units;
     }
-says_transition old (Transition.Deal place x) ds w e n m h =
-    let d = Transition.Deal place x in
+says_transition old (Transition.Deal unit_index x) ds w e n m h =
+    let d = Transition.Deal unit_index x in
     record {
       slots = old_slots old.inventory d ds w.queues h.slots;
       seats = old_seats d ds w.seats h.seats;
       handed_off = older_jobs (between w) d ds h.handed_off;
-      units = everywhere (UnitSays old (d ∷ ds)) (dealing x) place w.units (λ u at was. (
+      units = everywhere (UnitSays old (d ∷ ds)) (dealing x) unit_index w.units (λ u at was. (
         record { opened = was.0.opened; there = was.0.there; opening = was.0.opening; steps = was.0.steps },
         was.1,
       )) (old_units old d ds w.units (λ i. refl) h.units);

@@ -17,7 +17,7 @@ use Rattle.device_model.specs.Transitions.{Transition}
 use Rattle.device_model.specs.Event.Hard.{hard_code}
 use Rattle.device_model.specs.Changing.{arriving, taking, slotted, broken_by, completing, directing, spending, with_hand, without_first, with_jobs, with_job, leaving, completed}
 use Rattle.device_model.specs.After.{after}
-use Rattle.device_model.specs.Happens.{Occurrence, May, Runs}
+use Rattle.device_model.specs.Happens.{Occurrence, MayHappen, Runs}
 use Rattle.device_model.specs.Laws.{memory_after}
 use Rattle.device_model.specs.Lawful.{KeepsParts, LieIn, AllLieIn}
 use Rattle.device_model.proofs.Lists.{at_other}
@@ -42,7 +42,7 @@ many g zero (x ∷ xs) = refl
 many g (suc k) (x ∷ xs) = ap (λ n. suc n) (many g k xs)
 
 -- what holds of the opening and goes on with each transition holds of all that is reached
-pub run_keeps : (P : PlainWorld → Type 0) → ((d : Transition) (w : PlainWorld) → May d w → P w → P (after d w))
+pub run_keeps : (P : PlainWorld → Type 0) → ((d : Transition) (w : PlainWorld) → MayHappen d w → P w → P (after d w))
     → (old : PlainWorld) (trace : List Occurrence) (w : PlainWorld) → P old → Runs old trace w → P w
 run_keeps P f old [] w h r = subst P (sym r) h
 run_keeps P f old (e ∷ past) w h r =
@@ -133,14 +133,14 @@ so_many_after (Transition.Defer k x) w = (refl, refl, many (with_hand Hand.Empty
 so_many_after (Transition.Resume k x) w = (refl, refl, many (with_hand (Hand.Taken x)) k w.seats)
 so_many_after (Transition.Answer k x o xs) w =
     (used_many x.chain xs w, refl, many (with_hand (Hand.Answered x.unit x.chain.ticket)) k w.seats)
-so_many_after (Transition.Leave k place t jobs) w =
-    (refl, stepped_many (Step.Leave t) place w, many (leaving jobs) k w.seats)
+so_many_after (Transition.Leave k unit_index t jobs) w =
+    (refl, stepped_many (Step.Leave t) unit_index w, many (leaving jobs) k w.seats)
 so_many_after (Transition.Mark t p m jobs) w =
     (refl, stepped_many (step_by m) p.unit w, many (with_jobs jobs) 0 w.seats)
 so_many_after (Transition.Hard p jobs) w =
     (refl, stepped_many (Step.Reset hard_code) p.unit w, many (with_jobs jobs) w.workers w.seats)
-so_many_after (Transition.Resize place blocks) w = (refl, stepped_many (Step.Resize blocks) place w, refl)
-so_many_after (Transition.Deal place x) w = (refl, many (dealing x) place w.units, refl)
+so_many_after (Transition.Resize unit_index blocks) w = (refl, stepped_many (Step.Resize blocks) unit_index w, refl)
+so_many_after (Transition.Deal unit_index x) w = (refl, many (dealing x) unit_index w.units, refl)
 so_many_after (Transition.Respond c r xs) w = (used_many c xs w, refl, refl)
 so_many_after (Transition.Give e c xs) w = (used_many c xs w, refl, refl)
 so_many_after d w = (refl, refl, refl)

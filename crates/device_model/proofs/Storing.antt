@@ -91,107 +91,107 @@ given_loaded : (page : ℕ) (o : Option Ledger)
 given_loaded page None = refl
 given_loaded page (Some l) = ap (λ (s : Storage). Some s.given) (last_dealt l.dealings (Dealing.Load page) (opening l.content))
 
-pub given_stays : (d : Transition) (w : PlainWorld) (place : ℕ) (u v : PlainUnit) → UnitIs w place u → UnitIs (after d w) place v
-    → gives place d ≡ false → given_of v ≡ given_of u
-given_stays (Transition.Run x) w place u v at now off =
-    unchanged given_of (stepped (Step.Enter x.entry)) x.unit w.units (λ z. refl) place u v at now
-given_stays (Transition.Park x) w place u v at now off =
-    unchanged given_of (parking x) x.unit w.units (λ z. refl) place u v at now
-given_stays (Transition.EnterFull x) w place u v at now off =
-    unchanged given_of (stepped (Step.Full x.entry.ticket)) x.unit w.units (λ z. refl) place u v at now
-given_stays (Transition.Commit k x r) w place u v at now off =
-    unchanged given_of (stepped (Step.Commit x.entry.ticket r)) x.unit w.units (λ z. refl) place u v at now
-given_stays (Transition.CommitBusy k x) w place u v at now off =
-    unchanged given_of (stepped (Step.Busy x.entry.ticket)) x.unit w.units (λ z. refl) place u v at now
-given_stays (Transition.Leave k i t jobs) w place u v at now off =
-    unchanged given_of (stepped (Step.Leave t)) i w.units (λ z. refl) place u v at now
-given_stays (Transition.Mark t p (Abort rule) jobs) w place u v at now off =
-    unchanged given_of (stepped (step_by (Abort rule))) p.unit w.units (λ z. refl) place u v at now
-given_stays (Transition.Mark t p (Reset c) jobs) w place u v at now off =
-    unchanged given_of (stepped (step_by (Reset c))) p.unit w.units (λ z. refl) place u v at now
-given_stays (Transition.Hard p jobs) w place u v at now off =
-    unchanged given_of (stepped (Step.Reset hard_code)) p.unit w.units (λ z. refl) place u v at now
-given_stays (Transition.Resize k blocks) w place u v at now off =
-    ap (λ z. given_of z) (elsewhere (stepped (Step.Resize blocks)) k w.units place u v off at now)
-given_stays (Transition.Deal k (Dealing.Keep page)) w place u v at now off =
-    unchanged given_of (dealing (Dealing.Keep page)) k w.units (λ z. given_kept page z.storage) place u v at now
-given_stays (Transition.Deal k (Dealing.Lose page)) w place u v at now off =
-    unchanged given_of (dealing (Dealing.Lose page)) k w.units (λ z. given_lost page z.storage) place u v at now
-given_stays (Transition.Deal k (Dealing.Load page)) w place u v at now off =
-    unchanged given_of (dealing (Dealing.Load page)) k w.units (λ z. given_loaded page z.storage) place u v at now
-given_stays (Transition.Deal k (Dealing.Give page bytes)) w place u v at now off =
-    ap (λ z. given_of z) (elsewhere (dealing (Dealing.Give page bytes)) k w.units place u v off at now)
-given_stays (Transition.Deal k (Dealing.Cut blocks)) w place u v at now off =
-    ap (λ z. given_of z) (elsewhere (dealing (Dealing.Cut blocks)) k w.units place u v off at now)
-given_stays d w place u v at now off = ap (λ z. given_of z) (same (sym now ∙ at))
+pub given_stays : (d : Transition) (w : PlainWorld) (unit_index : ℕ) (u v : PlainUnit) → UnitIs w unit_index u → UnitIs (after d w) unit_index v
+    → gives unit_index d ≡ false → given_of v ≡ given_of u
+given_stays (Transition.Run x) w unit_index u v at now off =
+    unchanged given_of (stepped (Step.Enter x.entry)) x.unit w.units (λ z. refl) unit_index u v at now
+given_stays (Transition.Park x) w unit_index u v at now off =
+    unchanged given_of (parking x) x.unit w.units (λ z. refl) unit_index u v at now
+given_stays (Transition.EnterFull x) w unit_index u v at now off =
+    unchanged given_of (stepped (Step.Full x.entry.ticket)) x.unit w.units (λ z. refl) unit_index u v at now
+given_stays (Transition.Commit k x r) w unit_index u v at now off =
+    unchanged given_of (stepped (Step.Commit x.entry.ticket r)) x.unit w.units (λ z. refl) unit_index u v at now
+given_stays (Transition.CommitBusy k x) w unit_index u v at now off =
+    unchanged given_of (stepped (Step.Busy x.entry.ticket)) x.unit w.units (λ z. refl) unit_index u v at now
+given_stays (Transition.Leave k i t jobs) w unit_index u v at now off =
+    unchanged given_of (stepped (Step.Leave t)) i w.units (λ z. refl) unit_index u v at now
+given_stays (Transition.Mark t p (Abort rule) jobs) w unit_index u v at now off =
+    unchanged given_of (stepped (step_by (Abort rule))) p.unit w.units (λ z. refl) unit_index u v at now
+given_stays (Transition.Mark t p (Reset c) jobs) w unit_index u v at now off =
+    unchanged given_of (stepped (step_by (Reset c))) p.unit w.units (λ z. refl) unit_index u v at now
+given_stays (Transition.Hard p jobs) w unit_index u v at now off =
+    unchanged given_of (stepped (Step.Reset hard_code)) p.unit w.units (λ z. refl) unit_index u v at now
+given_stays (Transition.Resize k blocks) w unit_index u v at now off =
+    ap (λ z. given_of z) (elsewhere (stepped (Step.Resize blocks)) k w.units unit_index u v off at now)
+given_stays (Transition.Deal k (Dealing.Keep page)) w unit_index u v at now off =
+    unchanged given_of (dealing (Dealing.Keep page)) k w.units (λ z. given_kept page z.storage) unit_index u v at now
+given_stays (Transition.Deal k (Dealing.Lose page)) w unit_index u v at now off =
+    unchanged given_of (dealing (Dealing.Lose page)) k w.units (λ z. given_lost page z.storage) unit_index u v at now
+given_stays (Transition.Deal k (Dealing.Load page)) w unit_index u v at now off =
+    unchanged given_of (dealing (Dealing.Load page)) k w.units (λ z. given_loaded page z.storage) unit_index u v at now
+given_stays (Transition.Deal k (Dealing.Give page bytes)) w unit_index u v at now off =
+    ap (λ z. given_of z) (elsewhere (dealing (Dealing.Give page bytes)) k w.units unit_index u v off at now)
+given_stays (Transition.Deal k (Dealing.Cut blocks)) w unit_index u v at now off =
+    ap (λ z. given_of z) (elsewhere (dealing (Dealing.Cut blocks)) k w.units unit_index u v off at now)
+given_stays d w unit_index u v at now off = ap (λ z. given_of z) (same (sym now ∙ at))
 
-pub kept_stays : (d : Transition) (w : PlainWorld) (place : ℕ) (u v : PlainUnit) → UnitIs w place u → UnitIs (after d w) place v
-    → keeps place d ≡ false → kept_of v ≡ kept_of u
-kept_stays (Transition.Run x) w place u v at now off =
-    unchanged kept_of (stepped (Step.Enter x.entry)) x.unit w.units (λ z. refl) place u v at now
-kept_stays (Transition.Park x) w place u v at now off =
-    unchanged kept_of (parking x) x.unit w.units (λ z. refl) place u v at now
-kept_stays (Transition.EnterFull x) w place u v at now off =
-    unchanged kept_of (stepped (Step.Full x.entry.ticket)) x.unit w.units (λ z. refl) place u v at now
-kept_stays (Transition.Commit k x r) w place u v at now off =
-    unchanged kept_of (stepped (Step.Commit x.entry.ticket r)) x.unit w.units (λ z. refl) place u v at now
-kept_stays (Transition.CommitBusy k x) w place u v at now off =
-    unchanged kept_of (stepped (Step.Busy x.entry.ticket)) x.unit w.units (λ z. refl) place u v at now
-kept_stays (Transition.Leave k i t jobs) w place u v at now off =
-    unchanged kept_of (stepped (Step.Leave t)) i w.units (λ z. refl) place u v at now
-kept_stays (Transition.Mark t p (Abort rule) jobs) w place u v at now off =
-    unchanged kept_of (stepped (step_by (Abort rule))) p.unit w.units (λ z. refl) place u v at now
-kept_stays (Transition.Mark t p (Reset c) jobs) w place u v at now off =
-    unchanged kept_of (stepped (step_by (Reset c))) p.unit w.units (λ z. refl) place u v at now
-kept_stays (Transition.Hard p jobs) w place u v at now off =
-    unchanged kept_of (stepped (Step.Reset hard_code)) p.unit w.units (λ z. refl) place u v at now
-kept_stays (Transition.Resize k blocks) w place u v at now off =
-    ap (λ z. kept_of z) (elsewhere (stepped (Step.Resize blocks)) k w.units place u v off at now)
-kept_stays (Transition.Deal k (Dealing.Give page bytes)) w place u v at now off =
-    unchanged kept_of (dealing (Dealing.Give page bytes)) k w.units (λ z. kept_given page bytes z.storage) place u v at now
-kept_stays (Transition.Deal k (Dealing.Lose page)) w place u v at now off =
-    unchanged kept_of (dealing (Dealing.Lose page)) k w.units (λ z. kept_lost page z.storage) place u v at now
-kept_stays (Transition.Deal k (Dealing.Load page)) w place u v at now off =
-    unchanged kept_of (dealing (Dealing.Load page)) k w.units (λ z. kept_loaded page z.storage) place u v at now
-kept_stays (Transition.Deal k (Dealing.Keep page)) w place u v at now off =
-    ap (λ z. kept_of z) (elsewhere (dealing (Dealing.Keep page)) k w.units place u v off at now)
-kept_stays (Transition.Deal k (Dealing.Cut blocks)) w place u v at now off =
-    ap (λ z. kept_of z) (elsewhere (dealing (Dealing.Cut blocks)) k w.units place u v off at now)
-kept_stays d w place u v at now off = ap (λ z. kept_of z) (same (sym now ∙ at))
+pub kept_stays : (d : Transition) (w : PlainWorld) (unit_index : ℕ) (u v : PlainUnit) → UnitIs w unit_index u → UnitIs (after d w) unit_index v
+    → keeps unit_index d ≡ false → kept_of v ≡ kept_of u
+kept_stays (Transition.Run x) w unit_index u v at now off =
+    unchanged kept_of (stepped (Step.Enter x.entry)) x.unit w.units (λ z. refl) unit_index u v at now
+kept_stays (Transition.Park x) w unit_index u v at now off =
+    unchanged kept_of (parking x) x.unit w.units (λ z. refl) unit_index u v at now
+kept_stays (Transition.EnterFull x) w unit_index u v at now off =
+    unchanged kept_of (stepped (Step.Full x.entry.ticket)) x.unit w.units (λ z. refl) unit_index u v at now
+kept_stays (Transition.Commit k x r) w unit_index u v at now off =
+    unchanged kept_of (stepped (Step.Commit x.entry.ticket r)) x.unit w.units (λ z. refl) unit_index u v at now
+kept_stays (Transition.CommitBusy k x) w unit_index u v at now off =
+    unchanged kept_of (stepped (Step.Busy x.entry.ticket)) x.unit w.units (λ z. refl) unit_index u v at now
+kept_stays (Transition.Leave k i t jobs) w unit_index u v at now off =
+    unchanged kept_of (stepped (Step.Leave t)) i w.units (λ z. refl) unit_index u v at now
+kept_stays (Transition.Mark t p (Abort rule) jobs) w unit_index u v at now off =
+    unchanged kept_of (stepped (step_by (Abort rule))) p.unit w.units (λ z. refl) unit_index u v at now
+kept_stays (Transition.Mark t p (Reset c) jobs) w unit_index u v at now off =
+    unchanged kept_of (stepped (step_by (Reset c))) p.unit w.units (λ z. refl) unit_index u v at now
+kept_stays (Transition.Hard p jobs) w unit_index u v at now off =
+    unchanged kept_of (stepped (Step.Reset hard_code)) p.unit w.units (λ z. refl) unit_index u v at now
+kept_stays (Transition.Resize k blocks) w unit_index u v at now off =
+    ap (λ z. kept_of z) (elsewhere (stepped (Step.Resize blocks)) k w.units unit_index u v off at now)
+kept_stays (Transition.Deal k (Dealing.Give page bytes)) w unit_index u v at now off =
+    unchanged kept_of (dealing (Dealing.Give page bytes)) k w.units (λ z. kept_given page bytes z.storage) unit_index u v at now
+kept_stays (Transition.Deal k (Dealing.Lose page)) w unit_index u v at now off =
+    unchanged kept_of (dealing (Dealing.Lose page)) k w.units (λ z. kept_lost page z.storage) unit_index u v at now
+kept_stays (Transition.Deal k (Dealing.Load page)) w unit_index u v at now off =
+    unchanged kept_of (dealing (Dealing.Load page)) k w.units (λ z. kept_loaded page z.storage) unit_index u v at now
+kept_stays (Transition.Deal k (Dealing.Keep page)) w unit_index u v at now off =
+    ap (λ z. kept_of z) (elsewhere (dealing (Dealing.Keep page)) k w.units unit_index u v off at now)
+kept_stays (Transition.Deal k (Dealing.Cut blocks)) w unit_index u v at now off =
+    ap (λ z. kept_of z) (elsewhere (dealing (Dealing.Cut blocks)) k w.units unit_index u v off at now)
+kept_stays d w unit_index u v at now off = ap (λ z. kept_of z) (same (sym now ∙ at))
 
-pub unkept_stays : (d : Transition) (w : PlainWorld) (place : ℕ) (u v : PlainUnit) → UnitIs w place u → UnitIs (after d w) place v
-    → gives place d ≡ false → keeps place d ≡ false → unkept_of v ≡ unkept_of u
-unkept_stays (Transition.Run x) w place u v at now ungiven unkept =
-    unchanged unkept_of (stepped (Step.Enter x.entry)) x.unit w.units (λ z. refl) place u v at now
-unkept_stays (Transition.Park x) w place u v at now ungiven unkept =
-    unchanged unkept_of (parking x) x.unit w.units (λ z. refl) place u v at now
-unkept_stays (Transition.EnterFull x) w place u v at now ungiven unkept =
-    unchanged unkept_of (stepped (Step.Full x.entry.ticket)) x.unit w.units (λ z. refl) place u v at now
-unkept_stays (Transition.Commit k x r) w place u v at now ungiven unkept =
-    unchanged unkept_of (stepped (Step.Commit x.entry.ticket r)) x.unit w.units (λ z. refl) place u v at now
-unkept_stays (Transition.CommitBusy k x) w place u v at now ungiven unkept =
-    unchanged unkept_of (stepped (Step.Busy x.entry.ticket)) x.unit w.units (λ z. refl) place u v at now
-unkept_stays (Transition.Leave k i t jobs) w place u v at now ungiven unkept =
-    unchanged unkept_of (stepped (Step.Leave t)) i w.units (λ z. refl) place u v at now
-unkept_stays (Transition.Mark t p (Abort rule) jobs) w place u v at now ungiven unkept =
-    unchanged unkept_of (stepped (step_by (Abort rule))) p.unit w.units (λ z. refl) place u v at now
-unkept_stays (Transition.Mark t p (Reset c) jobs) w place u v at now ungiven unkept =
-    unchanged unkept_of (stepped (step_by (Reset c))) p.unit w.units (λ z. refl) place u v at now
-unkept_stays (Transition.Hard p jobs) w place u v at now ungiven unkept =
-    unchanged unkept_of (stepped (Step.Reset hard_code)) p.unit w.units (λ z. refl) place u v at now
-unkept_stays (Transition.Resize k blocks) w place u v at now ungiven unkept =
-    ap (λ z. unkept_of z) (elsewhere (stepped (Step.Resize blocks)) k w.units place u v unkept at now)
-unkept_stays (Transition.Deal k (Dealing.Give page bytes)) w place u v at now ungiven unkept =
-    ap (λ z. unkept_of z) (elsewhere (dealing (Dealing.Give page bytes)) k w.units place u v ungiven at now)
-unkept_stays (Transition.Deal k (Dealing.Lose page)) w place u v at now ungiven unkept =
-    unchanged unkept_of (dealing (Dealing.Lose page)) k w.units (λ z. unkept_lost page z.storage) place u v at now
-unkept_stays (Transition.Deal k (Dealing.Load page)) w place u v at now ungiven unkept =
-    unchanged unkept_of (dealing (Dealing.Load page)) k w.units (λ z. unkept_loaded page z.storage) place u v at now
-unkept_stays (Transition.Deal k (Dealing.Keep page)) w place u v at now ungiven unkept =
-    ap (λ z. unkept_of z) (elsewhere (dealing (Dealing.Keep page)) k w.units place u v unkept at now)
-unkept_stays (Transition.Deal k (Dealing.Cut blocks)) w place u v at now ungiven unkept =
-    ap (λ z. unkept_of z) (elsewhere (dealing (Dealing.Cut blocks)) k w.units place u v unkept at now)
-unkept_stays d w place u v at now ungiven unkept = ap (λ z. unkept_of z) (same (sym now ∙ at))
+pub unkept_stays : (d : Transition) (w : PlainWorld) (unit_index : ℕ) (u v : PlainUnit) → UnitIs w unit_index u → UnitIs (after d w) unit_index v
+    → gives unit_index d ≡ false → keeps unit_index d ≡ false → unkept_of v ≡ unkept_of u
+unkept_stays (Transition.Run x) w unit_index u v at now ungiven unkept =
+    unchanged unkept_of (stepped (Step.Enter x.entry)) x.unit w.units (λ z. refl) unit_index u v at now
+unkept_stays (Transition.Park x) w unit_index u v at now ungiven unkept =
+    unchanged unkept_of (parking x) x.unit w.units (λ z. refl) unit_index u v at now
+unkept_stays (Transition.EnterFull x) w unit_index u v at now ungiven unkept =
+    unchanged unkept_of (stepped (Step.Full x.entry.ticket)) x.unit w.units (λ z. refl) unit_index u v at now
+unkept_stays (Transition.Commit k x r) w unit_index u v at now ungiven unkept =
+    unchanged unkept_of (stepped (Step.Commit x.entry.ticket r)) x.unit w.units (λ z. refl) unit_index u v at now
+unkept_stays (Transition.CommitBusy k x) w unit_index u v at now ungiven unkept =
+    unchanged unkept_of (stepped (Step.Busy x.entry.ticket)) x.unit w.units (λ z. refl) unit_index u v at now
+unkept_stays (Transition.Leave k i t jobs) w unit_index u v at now ungiven unkept =
+    unchanged unkept_of (stepped (Step.Leave t)) i w.units (λ z. refl) unit_index u v at now
+unkept_stays (Transition.Mark t p (Abort rule) jobs) w unit_index u v at now ungiven unkept =
+    unchanged unkept_of (stepped (step_by (Abort rule))) p.unit w.units (λ z. refl) unit_index u v at now
+unkept_stays (Transition.Mark t p (Reset c) jobs) w unit_index u v at now ungiven unkept =
+    unchanged unkept_of (stepped (step_by (Reset c))) p.unit w.units (λ z. refl) unit_index u v at now
+unkept_stays (Transition.Hard p jobs) w unit_index u v at now ungiven unkept =
+    unchanged unkept_of (stepped (Step.Reset hard_code)) p.unit w.units (λ z. refl) unit_index u v at now
+unkept_stays (Transition.Resize k blocks) w unit_index u v at now ungiven unkept =
+    ap (λ z. unkept_of z) (elsewhere (stepped (Step.Resize blocks)) k w.units unit_index u v unkept at now)
+unkept_stays (Transition.Deal k (Dealing.Give page bytes)) w unit_index u v at now ungiven unkept =
+    ap (λ z. unkept_of z) (elsewhere (dealing (Dealing.Give page bytes)) k w.units unit_index u v ungiven at now)
+unkept_stays (Transition.Deal k (Dealing.Lose page)) w unit_index u v at now ungiven unkept =
+    unchanged unkept_of (dealing (Dealing.Lose page)) k w.units (λ z. unkept_lost page z.storage) unit_index u v at now
+unkept_stays (Transition.Deal k (Dealing.Load page)) w unit_index u v at now ungiven unkept =
+    unchanged unkept_of (dealing (Dealing.Load page)) k w.units (λ z. unkept_loaded page z.storage) unit_index u v at now
+unkept_stays (Transition.Deal k (Dealing.Keep page)) w unit_index u v at now ungiven unkept =
+    ap (λ z. unkept_of z) (elsewhere (dealing (Dealing.Keep page)) k w.units unit_index u v unkept at now)
+unkept_stays (Transition.Deal k (Dealing.Cut blocks)) w unit_index u v at now ungiven unkept =
+    ap (λ z. unkept_of z) (elsewhere (dealing (Dealing.Cut blocks)) k w.units unit_index u v unkept at now)
+unkept_stays d w unit_index u v at now ungiven unkept = ap (λ z. unkept_of z) (same (sym now ∙ at))
 
 -- whether a page is lost, by a storage
 abbrev lost_by_storage : ℕ → Option Ledger → Bool
@@ -204,60 +204,60 @@ lost_on p x None off = refl
 lost_on p x (Some l) off = lost-last p false l.dealings x ∙ off (lost_by p false l.dealings)
 
 -- it is said of another unit's page, or of another page
-told_else : (k page : ℕ) (x : Dealing) (w : PlainWorld) (place p : ℕ) (u v : PlainUnit)
-    → (eqb p page ≡ false → (was : Bool) → lost_after p was x ≡ was) → UnitIs w place u
-    → UnitIs (after (Transition.Deal k x) w) place v → (here : Bool) → eqb k place ≡ here → (same_page : Bool)
+told_else : (k page : ℕ) (x : Dealing) (w : PlainWorld) (unit_index p : ℕ) (u v : PlainUnit)
+    → (eqb p page ≡ false → (was : Bool) → lost_after p was x ≡ was) → UnitIs w unit_index u
+    → UnitIs (after (Transition.Deal k x) w) unit_index v → (here : Bool) → eqb k unit_index ≡ here → (same_page : Bool)
     → eqb p page ≡ same_page → (here && same_page) ≡ false → lost_of p v ≡ lost_of p u
-told_else k page x w place p u v else_same at now false off same_page is untold =
-    ap (λ z. lost_of p z) (elsewhere (dealing x) k w.units place u v off at now)
-told_else k page x w place p u v else_same at now true on false off untold =
-    unchanged (lost_of p) (dealing x) k w.units (λ z. lost_on p x z.storage (else_same off)) place u v at now
-told_else k page x w place p u v else_same at now true on true off untold = absurd (let f : false ≡ true = sym untold in cc)
+told_else k page x w unit_index p u v else_same at now false off same_page is untold =
+    ap (λ z. lost_of p z) (elsewhere (dealing x) k w.units unit_index u v off at now)
+told_else k page x w unit_index p u v else_same at now true on false off untold =
+    unchanged (lost_of p) (dealing x) k w.units (λ z. lost_on p x z.storage (else_same off)) unit_index u v at now
+told_else k page x w unit_index p u v else_same at now true on true off untold = absurd (let f : false ≡ true = sym untold in cc)
 
-pub lost_stays : (d : Transition) (w : PlainWorld) (place p : ℕ) (u v : PlainUnit) → UnitIs w place u → UnitIs (after d w) place v
-    → tells place p d ≡ false → lost_of p v ≡ lost_of p u
-lost_stays (Transition.Run x) w place p u v at now off =
-    unchanged (lost_of p) (stepped (Step.Enter x.entry)) x.unit w.units (λ z. refl) place u v at now
-lost_stays (Transition.Park x) w place p u v at now off =
-    unchanged (lost_of p) (parking x) x.unit w.units (λ z. refl) place u v at now
-lost_stays (Transition.EnterFull x) w place p u v at now off =
-    unchanged (lost_of p) (stepped (Step.Full x.entry.ticket)) x.unit w.units (λ z. refl) place u v at now
-lost_stays (Transition.Commit k x r) w place p u v at now off =
-    unchanged (lost_of p) (stepped (Step.Commit x.entry.ticket r)) x.unit w.units (λ z. refl) place u v at now
-lost_stays (Transition.CommitBusy k x) w place p u v at now off =
-    unchanged (lost_of p) (stepped (Step.Busy x.entry.ticket)) x.unit w.units (λ z. refl) place u v at now
-lost_stays (Transition.Leave k i t jobs) w place p u v at now off =
-    unchanged (lost_of p) (stepped (Step.Leave t)) i w.units (λ z. refl) place u v at now
-lost_stays (Transition.Mark t q (Abort rule) jobs) w place p u v at now off =
-    unchanged (lost_of p) (stepped (step_by (Abort rule))) q.unit w.units (λ z. refl) place u v at now
-lost_stays (Transition.Mark t q (Reset c) jobs) w place p u v at now off =
-    unchanged (lost_of p) (stepped (step_by (Reset c))) q.unit w.units (λ z. refl) place u v at now
-lost_stays (Transition.Hard q jobs) w place p u v at now off =
-    unchanged (lost_of p) (stepped (Step.Reset hard_code)) q.unit w.units (λ z. refl) place u v at now
-lost_stays (Transition.Resize k blocks) w place p u v at now off =
+pub lost_stays : (d : Transition) (w : PlainWorld) (unit_index p : ℕ) (u v : PlainUnit) → UnitIs w unit_index u → UnitIs (after d w) unit_index v
+    → tells unit_index p d ≡ false → lost_of p v ≡ lost_of p u
+lost_stays (Transition.Run x) w unit_index p u v at now off =
+    unchanged (lost_of p) (stepped (Step.Enter x.entry)) x.unit w.units (λ z. refl) unit_index u v at now
+lost_stays (Transition.Park x) w unit_index p u v at now off =
+    unchanged (lost_of p) (parking x) x.unit w.units (λ z. refl) unit_index u v at now
+lost_stays (Transition.EnterFull x) w unit_index p u v at now off =
+    unchanged (lost_of p) (stepped (Step.Full x.entry.ticket)) x.unit w.units (λ z. refl) unit_index u v at now
+lost_stays (Transition.Commit k x r) w unit_index p u v at now off =
+    unchanged (lost_of p) (stepped (Step.Commit x.entry.ticket r)) x.unit w.units (λ z. refl) unit_index u v at now
+lost_stays (Transition.CommitBusy k x) w unit_index p u v at now off =
+    unchanged (lost_of p) (stepped (Step.Busy x.entry.ticket)) x.unit w.units (λ z. refl) unit_index u v at now
+lost_stays (Transition.Leave k i t jobs) w unit_index p u v at now off =
+    unchanged (lost_of p) (stepped (Step.Leave t)) i w.units (λ z. refl) unit_index u v at now
+lost_stays (Transition.Mark t q (Abort rule) jobs) w unit_index p u v at now off =
+    unchanged (lost_of p) (stepped (step_by (Abort rule))) q.unit w.units (λ z. refl) unit_index u v at now
+lost_stays (Transition.Mark t q (Reset c) jobs) w unit_index p u v at now off =
+    unchanged (lost_of p) (stepped (step_by (Reset c))) q.unit w.units (λ z. refl) unit_index u v at now
+lost_stays (Transition.Hard q jobs) w unit_index p u v at now off =
+    unchanged (lost_of p) (stepped (Step.Reset hard_code)) q.unit w.units (λ z. refl) unit_index u v at now
+lost_stays (Transition.Resize k blocks) w unit_index p u v at now off =
     unchanged (lost_of p) (stepped (Step.Resize blocks)) k w.units
-    (λ z. lost_on p (Dealing.Cut (min (capacity_of z.opening z.steps) blocks)) z.storage (λ was. refl)) place u v at now
-lost_stays (Transition.Deal k (Dealing.Give page bytes)) w place p u v at now off =
-    unchanged (lost_of p) (dealing (Dealing.Give page bytes)) k w.units (λ z. lost_on p (Dealing.Give page bytes) z.storage (λ was. refl)) place u v at now
-lost_stays (Transition.Deal k (Dealing.Cut blocks)) w place p u v at now off =
-    unchanged (lost_of p) (dealing (Dealing.Cut blocks)) k w.units (λ z. lost_on p (Dealing.Cut blocks) z.storage (λ was. refl)) place u v at now
-lost_stays (Transition.Deal k (Dealing.Lose page)) w place p u v at now off =
-    told_else k page (Dealing.Lose page) w place p u v (lose-else p page) at now (eqb k place) refl (eqb p page) refl off
-lost_stays (Transition.Deal k (Dealing.Load page)) w place p u v at now off =
-    told_else k page (Dealing.Load page) w place p u v (load-else p page) at now (eqb k place) refl (eqb p page) refl off
-lost_stays (Transition.Deal k (Dealing.Keep page)) w place p u v at now off =
-    told_else k page (Dealing.Keep page) w place p u v (keep-else p page) at now (eqb k place) refl (eqb p page) refl off
-lost_stays d w place p u v at now off = ap (λ z. lost_of p z) (same (sym now ∙ at))
+    (λ z. lost_on p (Dealing.Cut (min (capacity_of z.opening z.steps) blocks)) z.storage (λ was. refl)) unit_index u v at now
+lost_stays (Transition.Deal k (Dealing.Give page bytes)) w unit_index p u v at now off =
+    unchanged (lost_of p) (dealing (Dealing.Give page bytes)) k w.units (λ z. lost_on p (Dealing.Give page bytes) z.storage (λ was. refl)) unit_index u v at now
+lost_stays (Transition.Deal k (Dealing.Cut blocks)) w unit_index p u v at now off =
+    unchanged (lost_of p) (dealing (Dealing.Cut blocks)) k w.units (λ z. lost_on p (Dealing.Cut blocks) z.storage (λ was. refl)) unit_index u v at now
+lost_stays (Transition.Deal k (Dealing.Lose page)) w unit_index p u v at now off =
+    told_else k page (Dealing.Lose page) w unit_index p u v (lose-else p page) at now (eqb k unit_index) refl (eqb p page) refl off
+lost_stays (Transition.Deal k (Dealing.Load page)) w unit_index p u v at now off =
+    told_else k page (Dealing.Load page) w unit_index p u v (load-else p page) at now (eqb k unit_index) refl (eqb p page) refl off
+lost_stays (Transition.Deal k (Dealing.Keep page)) w unit_index p u v at now off =
+    told_else k page (Dealing.Keep page) w unit_index p u v (keep-else p page) at now (eqb k unit_index) refl (eqb p page) refl off
+lost_stays d w unit_index p u v at now off = ap (λ z. lost_of p z) (same (sym now ∙ at))
 
 -- a deal is one of the unit's storage alone
-pub deals_alone : (w : PlainWorld) (place : ℕ) (x : Dealing) (u : PlainUnit) → UnitIs w place u
-    → UnitIs (after (Transition.Deal place x) w) place (dealing x u)
-deals_alone w place x u at = get_change (dealing x) place w.units u at
+pub deals_alone : (w : PlainWorld) (unit_index : ℕ) (x : Dealing) (u : PlainUnit) → UnitIs w unit_index u
+    → UnitIs (after (Transition.Deal unit_index x) w) unit_index (dealing x u)
+deals_alone w unit_index x u at = get_change (dealing x) unit_index w.units u at
 
 -- what a unit is behind a deal with its storage
-dealt_so : (w : PlainWorld) (place : ℕ) (x : Dealing) (u v : PlainUnit) → UnitIs w place u
-    → UnitIs (after (Transition.Deal place x) w) place v → v ≡ dealing x u
-dealt_so w place x u v at now = same (sym now ∙ deals_alone w place x u at)
+dealt_so : (w : PlainWorld) (unit_index : ℕ) (x : Dealing) (u v : PlainUnit) → UnitIs w unit_index u
+    → UnitIs (after (Transition.Deal unit_index x) w) unit_index v → v ≡ dealing x u
+dealt_so w unit_index x u v at now = same (sym now ∙ deals_alone w unit_index x u at)
 
 lost_now : (p : ℕ) (o : Option Ledger) → is_some o ≡ true → lost_by_storage p (option_map (and_then (Dealing.Lose p)) o) ≡ true
 lost_now p None never = let no : false ≡ true = never in cc
@@ -272,21 +272,21 @@ kept_now p None = refl
 kept_now p (Some l) = keep-last p false l.dealings
 
 -- a page is lost once the host said that it can't read it
-pub lost_then : (w : PlainWorld) (place p : ℕ) (u v : PlainUnit) → UnitIs w place u
-    → UnitIs (after (Transition.Deal place (Dealing.Lose p)) w) place v → is_backed u ≡ true → lost_of p v ≡ true
-lost_then w place p u v at now backed =
-    ap (λ (z : PlainUnit). lost_of p z) (dealt_so w place (Dealing.Lose p) u v at now) ∙ lost_now p u.storage backed
+pub lost_then : (w : PlainWorld) (unit_index p : ℕ) (u v : PlainUnit) → UnitIs w unit_index u
+    → UnitIs (after (Transition.Deal unit_index (Dealing.Lose p)) w) unit_index v → is_backed u ≡ true → lost_of p v ≡ true
+lost_then w unit_index p u v at now backed =
+    ap (λ (z : PlainUnit). lost_of p z) (dealt_so w unit_index (Dealing.Lose p) u v at now) ∙ lost_now p u.storage backed
 
 -- and isn't once it read it, or wrote it
-pub loaded_then : (w : PlainWorld) (place p : ℕ) (u v : PlainUnit) → UnitIs w place u
-    → UnitIs (after (Transition.Deal place (Dealing.Load p)) w) place v → lost_of p v ≡ false
-loaded_then w place p u v at now =
-    ap (λ (z : PlainUnit). lost_of p z) (dealt_so w place (Dealing.Load p) u v at now) ∙ loaded_now p u.storage
+pub loaded_then : (w : PlainWorld) (unit_index p : ℕ) (u v : PlainUnit) → UnitIs w unit_index u
+    → UnitIs (after (Transition.Deal unit_index (Dealing.Load p)) w) unit_index v → lost_of p v ≡ false
+loaded_then w unit_index p u v at now =
+    ap (λ (z : PlainUnit). lost_of p z) (dealt_so w unit_index (Dealing.Load p) u v at now) ∙ loaded_now p u.storage
 
-pub kept_then : (w : PlainWorld) (place p : ℕ) (u v : PlainUnit) → UnitIs w place u
-    → UnitIs (after (Transition.Deal place (Dealing.Keep p)) w) place v → lost_of p v ≡ false
-kept_then w place p u v at now =
-    ap (λ (z : PlainUnit). lost_of p z) (dealt_so w place (Dealing.Keep p) u v at now) ∙ kept_now p u.storage
+pub kept_then : (w : PlainWorld) (unit_index p : ℕ) (u v : PlainUnit) → UnitIs w unit_index u
+    → UnitIs (after (Transition.Deal unit_index (Dealing.Keep p)) w) unit_index v → lost_of p v ≡ false
+kept_then w unit_index p u v at now =
+    ap (λ (z : PlainUnit). lost_of p z) (dealt_so w unit_index (Dealing.Keep p) u v at now) ∙ kept_now p u.storage
 
 -- a flush that may end with GOOD is durable
 pub flush_kept : (w : PlainWorld) (k : ℕ) (x : PlainJob) (r : PlainReply) (u : PlainUnit) (e : Entry) (l : Ledger) (left : Blocks) (b : ℕ)

@@ -22,7 +22,7 @@ use Rattle.device_model.specs.Transitions.{Transition}
 use Rattle.device_model.specs.Changing.{with_hand, without_first, with_jobs, with_job, leaving}
 use Rattle.device_model.specs.Event.Hard.{hard_code}
 use Rattle.device_model.specs.After.{after}
-use Rattle.device_model.specs.Happens.{May}
+use Rattle.device_model.specs.Happens.{MayHappen}
 use Rattle.device_model.specs.Found.{handed_out}
 use Rattle.device_model.proofs.Lists.{same, at_other}
 use Rattle.device_model.proofs.Jobs.{sum_change}
@@ -35,21 +35,21 @@ use Rattle.device_model.proofs.Off.{off_put, off_taken, between, between_sum, wo
 abbrev pub own : (Ticket → ℕ) → PlainJob → ℕ
 own p x = p x.entry.ticket
 
--- a job counts for the unit of its place
-abbrev pub of_place : ℕ → (Ticket → ℕ) → PlainJob → ℕ
-of_place n p x = cond (eqb x.unit n) (p x.entry.ticket) 0
+-- a job counts for the unit of its index
+abbrev pub of_index : ℕ → (Ticket → ℕ) → PlainJob → ℕ
+of_index n p x = cond (eqb x.unit n) (p x.entry.ticket) 0
 
 abbrev pub hand_count : ℕ → (Ticket → ℕ) → Hand → ℕ
 hand_count n p Hand.Empty = 0
-hand_count n p (Hand.Taken x) = of_place n p x
-hand_count n p (Hand.Done x o) = of_place n p x
-hand_count n p (Hand.Answered place t) = cond (eqb place n) (p t) 0
+hand_count n p (Hand.Taken x) = of_index n p x
+hand_count n p (Hand.Done x o) = of_index n p x
+hand_count n p (Hand.Answered unit_index t) = cond (eqb unit_index n) (p t) 0
 
 abbrev pub seat_count : ℕ → (Ticket → ℕ) → Seat → ℕ
-seat_count n p s = hand_count n p s.hand + sum_by (of_place n p) s.out
+seat_count n p s = hand_count n p s.hand + sum_by (of_index n p) s.out
 
 abbrev pub out_count : ℕ → (Ticket → ℕ) → List Seat → List PlainJob → ℕ
-out_count n p seats off = sum_by (seat_count n p) seats + sum_by (of_place n p) off
+out_count n p seats off = sum_by (seat_count n p) seats + sum_by (of_index n p) off
 
 -- the tasks alive of the unit are those that it holds jobs of, and this many
 abbrev UnitBalances : ℕ → (Ticket → ℕ) → List PlainUnit → ℕ → Type 0
@@ -68,10 +68,10 @@ seat hand out = record { hand = hand; out = out }
 gets : (n : ℕ) (p : Ticket → ℕ) (k : ℕ) (seats : List Seat) (s : Seat) (jobs : List PlainJob)
     → slice_get seats k ≡ Some s
     → sum_by (seat_count n p) (change (with_jobs jobs) k seats)
-    ≡ sum_by (seat_count n p) seats + sum_by (of_place n p) jobs
+    ≡ sum_by (seat_count n p) seats + sum_by (of_index n p) jobs
 gets n p k seats s jobs at =
     let c = sum_change (seat_count n p) (with_jobs jobs) k seats s at in
-    let a = sum_by-append (of_place n p) s.out jobs in
+    let a = sum_by-append (of_index n p) s.out jobs in
     omega (arith, c, a)
 
 -- a seat's hand changes
@@ -86,33 +86,33 @@ turns n p k seats old new out at =
 -- a free seat's first job goes
 goes : (n : ℕ) (p : Ticket → ℕ) (k : ℕ) (seats : List Seat) (new : Hand) (x : PlainJob) (rest : List PlainJob)
     → slice_get seats k ≡ Some (seat Hand.Empty (x ∷ rest))
-    → sum_by (seat_count n p) (change (without_first new) k seats) + of_place n p x
+    → sum_by (seat_count n p) (change (without_first new) k seats) + of_index n p x
     ≡ sum_by (seat_count n p) seats + hand_count n p new
 goes n p k seats new x rest at =
     let c = sum_change (seat_count n p) (without_first new) k seats (seat Hand.Empty (x ∷ rest)) at in
-    let a = sum_by-cons (of_place n p) x rest in
+    let a = sum_by-cons (of_index n p) x rest in
     omega (arith, c, a)
 
 -- a seat's task leaves
 frees : (n : ℕ) (p : Ticket → ℕ) (k : ℕ) (seats : List Seat) (old : Hand) (out jobs : List PlainJob)
     → slice_get seats k ≡ Some (seat old out)
     → sum_by (seat_count n p) (change (leaving jobs) k seats) + hand_count n p old
-    ≡ sum_by (seat_count n p) seats + sum_by (of_place n p) jobs
+    ≡ sum_by (seat_count n p) seats + sum_by (of_index n p) jobs
 frees n p k seats old out jobs at =
     let c = sum_change (seat_count n p) (leaving jobs) k seats (seat old out) at in
-    let a = sum_by-append (of_place n p) out jobs in
+    let a = sum_by-append (of_index n p) out jobs in
     omega (arith, c, a)
 
 -- what a transition brings from a unit, and what leaves its unit by it
 abbrev came : ℕ → (Ticket → ℕ) → Transition → ℕ
-came n p (Transition.Run x) = of_place n p x
-came n p (Transition.Leave k place t jobs) = sum_by (of_place n p) jobs
-came n p (Transition.Mark t m s jobs) = sum_by (of_place n p) jobs
-came n p (Transition.Hard m jobs) = sum_by (of_place n p) jobs
+came n p (Transition.Run x) = of_index n p x
+came n p (Transition.Leave k unit_index t jobs) = sum_by (of_index n p) jobs
+came n p (Transition.Mark t m s jobs) = sum_by (of_index n p) jobs
+came n p (Transition.Hard m jobs) = sum_by (of_index n p) jobs
 came n p d = 0
 
 abbrev gone : ℕ → (Ticket → ℕ) → Transition → ℕ
-gone n p (Transition.Leave k place t jobs) = cond (eqb place n) (p t) 0
+gone n p (Transition.Leave k unit_index t jobs) = cond (eqb unit_index n) (p t) 0
 gone n p d = 0
 
 abbrev Flows : ℕ → (Ticket → ℕ) → Transition → PlainWorld → Type 0
@@ -121,23 +121,23 @@ Flows n p d w =
     ≡ out_count n p w.seats (between w) + came n p d
 
 -- a transition adds what it brings to what is under way, and takes away what leaves
-flows : (n : ℕ) (p : Ticket → ℕ) (d : Transition) (w : PlainWorld) → May d w → AreNamed w → Flows n p d w
+flows : (n : ℕ) (p : Ticket → ℕ) (d : Transition) (w : PlainWorld) → MayHappen d w → AreNamed w → Flows n p d w
 flows n p (Transition.Run x) w m h =
     let c = m.comes in
     let g = gets n p (owner w.workers x.chain.ticket.queue) w.seats c.seat (x ∷ []) c.seat_there in
     omega (arith, g)
 flows n p (Transition.Put k x) w m h =
     let g = goes n p k w.seats Hand.Empty x m.rest m.seat in
-    let a = off_put (of_place n p) k w.handed_off m.off x m.there in
-    let b = between_sum (of_place n p) (all_off w) w.aside w.woken in
-    let c = between_sum (of_place n p) (all_of (change (with_job x) k w.handed_off)) w.aside w.woken in
+    let a = off_put (of_index n p) k w.handed_off m.off x m.there in
+    let b = between_sum (of_index n p) (all_off w) w.aside w.woken in
+    let c = between_sum (of_index n p) (all_of (change (with_job x) k w.handed_off)) w.aside w.woken in
     omega (arith, g, a, b, c)
 flows n p (Transition.Keep k x) w m h = let g = goes n p k w.seats (Hand.Taken x) x m.rest m.seat in omega (arith, g)
 flows n p (Transition.Take k from x) w m h =
     let t = turns n p k w.seats Hand.Empty (Hand.Taken x) [] m.seat in
-    let a = off_taken (of_place n p) from w.handed_off x m.rest m.handed_off in
-    let b = between_sum (of_place n p) (all_off w) w.aside w.woken in
-    let c = between_sum (of_place n p) (all_of (change (drop 1) from w.handed_off)) w.aside w.woken in
+    let a = off_taken (of_index n p) from w.handed_off x m.rest m.handed_off in
+    let b = between_sum (of_index n p) (all_off w) w.aside w.woken in
+    let c = between_sum (of_index n p) (all_of (change (drop 1) from w.handed_off)) w.aside w.woken in
     omega (arith, t, a, b, c)
 flows n p (Transition.Commit k x r) w m h =
     let new = Hand.Done x (Outcome.Ended (Ending.Replied r)) in
@@ -157,33 +157,33 @@ flows n p (Transition.CommitUnknown k x) w m h =
     omega (arith, t)
 flows n p (Transition.Defer k x) w m h =
     let t = turns n p k w.seats (Hand.Taken x) Hand.Empty m.holds.out m.holds.seat in
-    let a = sum_by_push (of_place n p) w.aside x in
-    let b = between_sum (of_place n p) (all_off w) w.aside w.woken in
-    let c = between_sum (of_place n p) (all_off w) (w.aside ++ x ∷ []) w.woken in
+    let a = sum_by_push (of_index n p) w.aside x in
+    let b = between_sum (of_index n p) (all_off w) w.aside w.woken in
+    let c = between_sum (of_index n p) (all_off w) (w.aside ++ x ∷ []) w.woken in
     omega (arith, t, a, b, c)
 flows n p Transition.Wake w m h =
-    let a = woken_sum (of_place n p) (all_off w) w.aside w.woken in
+    let a = woken_sum (of_index n p) (all_off w) w.aside w.woken in
     omega (arith, a)
 flows n p (Transition.Resume k x) w m h =
     let t = turns n p k w.seats Hand.Empty (Hand.Taken x) m.free.0 m.free.1 in
-    let a = first_counts (of_place n p) w.woken x m.rest m.first in
-    let b = between_sum (of_place n p) (all_off w) w.aside w.woken in
-    let c = between_sum (of_place n p) (all_off w) w.aside (drop 1 w.woken) in
+    let a = first_counts (of_index n p) w.woken x m.rest m.first in
+    let b = between_sum (of_index n p) (all_off w) w.aside w.woken in
+    let c = between_sum (of_index n p) (all_off w) w.aside (drop 1 w.woken) in
     omega (arith, t, a, b, c)
 flows n p (Transition.Answer k x o xs) w m h =
     let t = turns n p k w.seats (Hand.Done x o) (Hand.Answered x.unit x.chain.ticket) m.out m.seat in
     let e = ap (λ i. cond (eqb x.unit n) (p i) 0) (done_is_named k x o m.out w m.seat h) in
     omega (arith, t, e)
-flows n p (Transition.Leave k place t jobs) w m h =
-    let f = frees n p k w.seats (Hand.Answered place t) m.holds.out jobs m.holds.seat in
+flows n p (Transition.Leave k unit_index t jobs) w m h =
+    let f = frees n p k w.seats (Hand.Answered unit_index t) m.holds.out jobs m.holds.seat in
     omega (arith, f)
 flows n p (Transition.Mark t i s jobs) w m h =
     let g = gets n p 0 w.seats m.seat jobs m.seat_there in
-    let a = woken_sum (of_place n p) (all_off w) w.aside w.woken in
+    let a = woken_sum (of_index n p) (all_off w) w.aside w.woken in
     omega (arith, g, a)
 flows n p (Transition.Hard i jobs) w m h =
     let g = gets n p w.workers w.seats m.seat jobs m.seat_there in
-    let a = woken_sum (of_place n p) (all_off w) w.aside w.woken in
+    let a = woken_sum (of_index n p) (all_off w) w.aside w.woken in
     omega (arith, g, a)
 flows n p d w m h = omega (arith)
 
@@ -227,12 +227,12 @@ nought true = refl
 nought false = refl
 
 -- what jobs for one unit count
-for_place : (n : ℕ) (p : Ticket → ℕ) (k : ℕ) (jobs : List PlainJob) → AllByRecursion (IsFor k) jobs
-    → sum_by (of_place n p) jobs ≡ cond (eqb k n) (sum_by (own p) jobs) 0
-for_place n p k [] h = sym (nought (eqb k n))
-for_place n p k (j ∷ jobs) h =
-    let a = for_place n p k jobs h.1 in
-    let b = sum_by-cons (of_place n p) j jobs in
+for_index : (n : ℕ) (p : Ticket → ℕ) (k : ℕ) (jobs : List PlainJob) → AllByRecursion (IsFor k) jobs
+    → sum_by (of_index n p) jobs ≡ cond (eqb k n) (sum_by (own p) jobs) 0
+for_index n p k [] h = sym (nought (eqb k n))
+for_index n p k (j ∷ jobs) h =
+    let a = for_index n p k jobs h.1 in
+    let b = sum_by-cons (of_index n p) j jobs in
     let c = split (eqb k n) (own p j) (sum_by (own p) jobs) (sum_by (own p) (j ∷ jobs)) (sum_by-cons (own p) j jobs) in
     let d = ap (λ i. cond (eqb i n) (p j.entry.ticket) 0) h.0.0 in
     omega (arith, a, b, c, d)
@@ -261,11 +261,11 @@ keeps_all p s u e =
 -- a step after which the same tasks are alive, and that hands out jobs
 gives : (n : ℕ) (p : Ticket → ℕ) (s : Step) (k : ℕ) (us : List PlainUnit) (u : PlainUnit) (jobs : List PlainJob)
     (out out' : ℕ) → slice_get us k ≡ Some u → alive (s ∷ u.steps) ≡ alive u.steps → jobs ≡ handed_out u s
-    → UnitsHoldOwn us → out' + 0 ≡ out + sum_by (of_place n p) jobs → UnitBalances n p us out
+    → UnitsHoldOwn us → out' + 0 ≡ out + sum_by (of_index n p) jobs → UnitBalances n p us out
     → UnitBalances n p (change (stepped s) k us) out'
 gives n p s k us u jobs out out' at same_alive e holds f h =
     let c = parted p s u in
-    let j = ap (λ l. sum_by (of_place n p) l) e ∙ for_place n p k (handed_out u s) (given_own s k us u at holds) in
+    let j = ap (λ l. sum_by (of_index n p) l) e ∙ for_index n p k (handed_out u s) (given_own s k us u at holds) in
     let a = ap (weight p) same_alive in
     let z = nought (eqb k n) in
     moves n p (stepped s) k us u (sum_by (own p) (handed_out u s)) 0 out out' at (omega (arith, c, a))
@@ -285,7 +285,7 @@ same_mark : (s : MarkBy) (past : List Step) → alive (step_by s ∷ past) ≡ a
 same_mark (Abort rule) past = refl
 same_mark (Reset c) past = refl
 
-pub transition_balances : (d : Transition) (w : PlainWorld) → May d w → AreNamed w → AreBalanced w → AreBalanced (after d w)
+pub transition_balances : (d : Transition) (w : PlainWorld) → MayHappen d w → AreNamed w → AreBalanced w → AreBalanced (after d w)
 transition_balances (Transition.Run x) w m names h n p =
     let d = Transition.Run x in
     let out = out_count n p w.seats (between w) in
@@ -318,18 +318,18 @@ transition_balances (Transition.CommitBusy k x) w m names h n p =
     let out' = out_count n p (after d w).seats (between (after d w)) in
     calm n p (Step.Busy x.entry.ticket) x.unit w.units m.holds.unit out out' m.holds.there refl refl
     (flows n p d w m names) (h n p)
-transition_balances (Transition.Leave k place t jobs) w m names h n p =
-    let d = Transition.Leave k place t jobs in
+transition_balances (Transition.Leave k unit_index t jobs) w m names h n p =
+    let d = Transition.Leave k unit_index t jobs in
     let s = Step.Leave t in
     let u = m.holds.unit in
     let out = out_count n p w.seats (between w) in
     let out' = out_count n p (after d w).seats (between (after d w)) in
     let c = parted p s u in
-    let g = given_own s place w.units u m.holds.there names.1 in
-    let j = ap (λ l. sum_by (of_place n p) l) m.enables ∙ for_place n p place (handed_out u s) g in
+    let g = given_own s unit_index w.units u m.holds.there names.1 in
+    let j = ap (λ l. sum_by (of_index n p) l) m.enables ∙ for_index n p unit_index (handed_out u s) g in
     let a = alive_leave p t m.may.0 u.steps m.may.1 in
     let f = flows n p d w m names in
-    moves n p (stepped s) place w.units u (sum_by (own p) (handed_out u s)) (p t) out out' m.holds.there
+    moves n p (stepped s) unit_index w.units u (sum_by (own p) (handed_out u s)) (p t) out out' m.holds.there
     (omega (arith, c, a)) (omega (arith, f, j)) (h n p)
 transition_balances (Transition.Mark t i s jobs) w m names h n p =
     let d = Transition.Mark t i s jobs in
@@ -344,12 +344,12 @@ transition_balances (Transition.Hard i jobs) w m names h n p =
     let out' = out_count n p (after d w).seats (between (after d w)) in
     gives n p (Step.Reset hard_code) i.unit w.units m.unit jobs out out' m.there refl m.releases names.1
     (flows n p d w m names) (h n p)
-transition_balances (Transition.Resize place blocks) w m names h n p =
+transition_balances (Transition.Resize unit_index blocks) w m names h n p =
     let out = out_count n p w.seats (between w) in
-    calm n p (Step.Resize blocks) place w.units m.unit out out m.there refl refl refl (h n p)
-transition_balances (Transition.Deal place x) w m names h n p =
+    calm n p (Step.Resize blocks) unit_index w.units m.unit out out m.there refl refl refl (h n p)
+transition_balances (Transition.Deal unit_index x) w m names h n p =
     let out = out_count n p w.seats (between w) in
-    moves n p (dealing x) place w.units m.unit 0 0 out out m.there (omega (arith)) refl (h n p)
+    moves n p (dealing x) unit_index w.units m.unit 0 0 out out m.there (omega (arith)) refl (h n p)
 transition_balances d w m names h n p =
     let f = flows n p d w m names in
     λ u at. let b = h n p u at in omega (arith, b, f)
@@ -359,7 +359,7 @@ transition_balances d w m names h n p =
 no_weight : (n : ℕ) (p : Ticket → ℕ) (s : Seat) → IsNewSeat s → seat_count n p s ≡ 0
 no_weight n p s is =
     let a = ap (hand_count n p) is.hand in
-    let b = ap (λ l. sum_by (of_place n p) l) is.out in
+    let b = ap (λ l. sum_by (of_index n p) l) is.out in
     omega (arith, a, b)
 
 pub new_balanced : (w : PlainWorld) → Opens w → AreBalanced w
@@ -368,5 +368,5 @@ new_balanced w o n p u at =
     let a = ap (alive_count p) is.steps in
     let b = ap (λ l. sum_by (own p) l) is.parked in
     let c = nothing_counts (seat_count n p) w.seats (λ i s there. no_weight n p s (o.seats i s there)) in
-    let d = ap (λ l. sum_by (of_place n p) l) (none_between w o.handed_off o.aside o.woken) in
+    let d = ap (λ l. sum_by (of_index n p) l) (none_between w o.handed_off o.aside o.woken) in
     omega (arith, a, b, c, d)

@@ -2,7 +2,7 @@
 use Rattle.std.proofs.Common.{◌≡◌, List, [], ◌∷◌, map, refl, sym, ap, subst, inl, inr}
 use Rattle.device_model.specs.World.{PlainWorld}
 use Rattle.device_model.specs.Transitions.{Transition}
-use Rattle.device_model.specs.Happens.{Occurrence, May, Runs, transitions_of, occurrence_of, world_of, Leads}
+use Rattle.device_model.specs.Happens.{Occurrence, MayHappen, Runs, transitions_of, occurrence_of, world_of, Leads}
 use Rattle.device_model.proofs.Running.{run_world, run_leads}
 use Rattle.device_model.specs.Happened.{Happened, IsBeginning}
 
@@ -33,7 +33,7 @@ in_run P old f trace w r =
 
 -- what holds of the opening and goes on with each transition holds of all that they lead to
 pub leads_keep : (P : List Transition → PlainWorld → Type 0) (old : PlainWorld) → P [] old
-    → ((d : Transition) (ds : List Transition) → Leads old ds → May d (world_of old ds) → P ds (world_of old ds)
+    → ((d : Transition) (ds : List Transition) → Leads old ds → MayHappen d (world_of old ds) → P ds (world_of old ds)
     → P (d ∷ ds) (world_of old (d ∷ ds)))
     → (ds : List Transition) → Leads old ds → P ds (world_of old ds)
 leads_keep P old new on [] l = new

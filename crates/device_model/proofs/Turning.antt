@@ -3,12 +3,12 @@ use Rattle.std.proofs.Common.{◌≡◌, Bool, true, false, refl}
 use Rattle.device_model.specs.World.{PlainWorld}
 use Rattle.device_model.specs.Events.{Event}
 use Rattle.device_model.specs.Transitions.{Transition, action_of}
-use Rattle.device_model.specs.Happens.{Happens, May}
+use Rattle.device_model.specs.Happens.{Happens, MayHappen}
 use Rattle.device_model.specs.Turns.{Turns, IsStep}
 use Rattle.device_model.proofs.Applying.{idles}
 
 -- what happens may
-pub may : (d : Transition) (w : PlainWorld) → Happens d w → May d w
+pub may : (d : Transition) (w : PlainWorld) → Happens d w → MayHappen d w
 may (Transition.Poke x) w h = h
 may (Transition.Arrive f x) w h = h
 may (Transition.Refuse f a) w h = h
@@ -33,15 +33,15 @@ may (Transition.Defer k x) w h = h
 may Transition.Wake w h = h
 may (Transition.Resume k x) w h = h
 may (Transition.Answer k x o xs) w h = h
-may (Transition.Leave k place t jobs) w h = h
+may (Transition.Leave k unit_index t jobs) w h = h
 may (Transition.Mark t p m jobs) w h = h
-may (Transition.Ask t place rule b) w h = h
+may (Transition.Ask t unit_index rule b) w h = h
 may (Transition.MarkRefused t) w h = h
 may (Transition.Check t p) w h = h
 may (Transition.Respond c r xs) w h = h
 may (Transition.Hard p jobs) w h = h
-may (Transition.Resize place blocks) w h = h
-may (Transition.Deal place x) w h = h
+may (Transition.Resize unit_index blocks) w h = h
+may (Transition.Deal unit_index x) w h = h
 may (Transition.Give e c xs) w h = h
 may (Transition.Miss e) w h = h
 may (Transition.Idle e) w h = absurd h
@@ -73,15 +73,15 @@ changes (Transition.Defer k x) w h = refl
 changes Transition.Wake w h = refl
 changes (Transition.Resume k x) w h = refl
 changes (Transition.Answer k x o xs) w h = refl
-changes (Transition.Leave k place t jobs) w h = refl
+changes (Transition.Leave k unit_index t jobs) w h = refl
 changes (Transition.Mark t p m jobs) w h = refl
-changes (Transition.Ask t place rule b) w h = refl
+changes (Transition.Ask t unit_index rule b) w h = refl
 changes (Transition.MarkRefused t) w h = refl
 changes (Transition.Check t p) w h = refl
 changes (Transition.Respond c r xs) w h = refl
 changes (Transition.Hard p jobs) w h = refl
-changes (Transition.Resize place blocks) w h = refl
-changes (Transition.Deal place x) w h = refl
+changes (Transition.Resize unit_index blocks) w h = refl
+changes (Transition.Deal unit_index x) w h = refl
 changes (Transition.Give e c xs) w h = refl
 changes (Transition.Miss e) w h = refl
 

@@ -54,9 +54,9 @@ pub record IsUnderWay (old : PlainWorld) (ds : List Transition) (x : Opened) : T
   pub begun : IsBegun old.inventory ds x.chain.ticket
   pub chain : begun.fetch.chain ≡ x.chain
   pub kind : begun.function.kind ≡ x.function.kind
-  pub among : (place : ℕ) → Among place x.function.left → Among place begun.function.left
-  pub visits : (place : ℕ) → Among place begun.function.left
-      → Among place x.function.left ⊎ (Happened (IsVisit x.chain.ticket place) ds ⊎ Happened (IsFail x.chain.ticket) ds)
+  pub among : (unit_index : ℕ) → Among unit_index x.function.left → Among unit_index begun.function.left
+  pub visits : (unit_index : ℕ) → Among unit_index begun.function.left
+      → Among unit_index x.function.left ⊎ (Happened (IsVisit x.chain.ticket unit_index) ds ⊎ Happened (IsFail x.chain.ticket) ds)
   pub waits : (p : Place) → Happened (IsMark x.chain.ticket p) ds
       → Listed p x.function.waits ⊎ AreGone p.place (history_of p.unit ds)
   pub found : (x.function.found ≡ true) ↔ Happened (IsFound x.chain.ticket) ds
@@ -131,15 +131,15 @@ begun_on old t d ds h =
     record { fetch = h.fetch; fetched = inr h.fetched; ticket = h.ticket; function = h.function; decided = h.decided }
 
 abbrev AreVisited : Ticket → List ℕ → (ℕ → Type 0) → List Transition → Type 0
-AreVisited t units P ds = (place : ℕ) → Among place units → P place ⊎ (Happened (IsVisit t place) ds ⊎ Happened (IsFail t) ds)
+AreVisited t units P ds = (unit_index : ℕ) → Among unit_index units → P unit_index ⊎ (Happened (IsVisit t unit_index) ds ⊎ Happened (IsFail t) ds)
 
 -- one unit less is left, and it was visited
 visits_on : (t : Ticket) (units : List ℕ) (P Q : ℕ → Type 0) (d : Transition) (ds : List Transition)
-    → ((place : ℕ) → P place → Q place ⊎ (IsVisit t place d ⊎ IsFail t d)) → AreVisited t units P ds
+    → ((unit_index : ℕ) → P unit_index → Q unit_index ⊎ (IsVisit t unit_index d ⊎ IsFail t d)) → AreVisited t units P ds
     → AreVisited t units Q (d ∷ ds)
-visits_on t units P Q d ds f h place i =
-    elim (h place i) [
-      | inl p ↦ elim (f place p) [
+visits_on t units P Q d ds f h unit_index i =
+    elim (h unit_index i) [
+      | inl p ↦ elim (f unit_index p) [
         | inl q ↦ inl q
         | inr q ↦ elim q [ inl v ↦ inr (inl (inl v)) | inr v ↦ inr (inr (inl v)) ]
       ]
@@ -157,8 +157,8 @@ function_on old d ds (Some x) other quiet calm k h =
       chain = h.chain;
       kind = h.kind;
       among = h.among;
-      visits = visits_on t h.begun.function.left (λ place. Among place x.function.left)
-          (λ place. Among place x.function.left) d ds (λ place p. inl p) h.visits;
+      visits = visits_on t h.begun.function.left (λ unit_index. Among unit_index x.function.left)
+          (λ unit_index. Among unit_index x.function.left) d ds (λ unit_index p. inl p) h.visits;
       waits = λ p told. elim told [
         | inl q ↦ absurd (other t p q)
         | inr q ↦ waits_on d ds x.function.waits p (k t p q).1 (h.waits p q)
@@ -235,8 +235,8 @@ functions_open old f g ds o l s =
         begun = record { fetch = f; fetched = inl refl; ticket = refl; function = g; decided = decided };
         chain = refl;
         kind = refl;
-        among = λ place i. i;
-        visits = λ place i. inl i;
+        among = λ unit_index i. i;
+        visits = λ unit_index i. inl i;
         waits = λ p told. elim told [ inl q ↦ absurd q | inr q ↦ absurd (new (s.marks t p q).0) ];
         found = (
           λ q. absurd (off_on fresh.0 q),
@@ -256,22 +256,22 @@ functions_open old f g ds o l s =
 
 -- Look, mark, fail, check
 
-among_drop : (place : ℕ) (left : List ℕ) → Among place (drop 1 left) → Among place left
-among_drop place [] h = h
-among_drop place (k ∷ left) h = inr h
+among_drop : (unit_index : ℕ) (left : List ℕ) → Among unit_index (drop 1 left) → Among unit_index left
+among_drop unit_index [] h = h
+among_drop unit_index (k ∷ left) h = inr h
 
-among_next : (place k : ℕ) (later left : List ℕ) → left ≡ k ∷ later → Among place left
-    → (k ≡ place) ⊎ Among place (drop 1 left)
-among_next place k later left e h =
-    elim (subst (Among place) e h) [
+among_next : (unit_index k : ℕ) (later left : List ℕ) → left ≡ k ∷ later → Among unit_index left
+    → (k ≡ unit_index) ⊎ Among unit_index (drop 1 left)
+among_next unit_index k later left e h =
+    elim (subst (Among unit_index) e h) [
       | inl q ↦ inl q
-      | inr q ↦ inr (subst (λ z. Among place (drop 1 z)) (sym e) q)
+      | inr q ↦ inr (subst (λ z. Among unit_index (drop 1 z)) (sym e) q)
     ]
 
-found_now : (t u : Ticket) (place : ℕ) (rule : Rule) (b found : Bool) (ds : List Transition) → u ≡ t
-    → ((found ≡ true) ↔ Happened (IsFound t) ds) → ((b || found) ≡ true) ↔ Happened (IsFound t) (Transition.Ask u place rule b ∷ ds)
-found_now t u place rule true found ds e h = (λ q. inl (e, refl), λ told. refl)
-found_now t u place rule false found ds e h =
+found_now : (t u : Ticket) (unit_index : ℕ) (rule : Rule) (b found : Bool) (ds : List Transition) → u ≡ t
+    → ((found ≡ true) ↔ Happened (IsFound t) ds) → ((b || found) ≡ true) ↔ Happened (IsFound t) (Transition.Ask u unit_index rule b ∷ ds)
+found_now t u unit_index rule true found ds e h = (λ q. inl (e, refl), λ told. refl)
+found_now t u unit_index rule false found ds e h =
     (λ q. inr (h.0 q), λ told. elim told [ inl q ↦ let k = q.1 in absurd (cc) | inr q ↦ h.1 q ])
 
 asking_kind : (kind : Kind) (rule : Rule) → kind ≡ Querying rule → IsAsking kind
@@ -290,11 +290,11 @@ listed_push p q [] h = absurd h
 listed_push p q (x ∷ ps) (inl e) = inl e
 listed_push p q (x ∷ ps) (inr h) = inr (listed_push p q ps h)
 
-functions_ask : (old : PlainWorld) (t : Ticket) (place : ℕ) (rule : Rule) (b : Bool) (ds : List Transition) (w : PlainWorld)
-    → Asks w t place rule b → FunctionsSay old ds w.function
-    → FunctionsSay old (Transition.Ask t place rule b ∷ ds) (on_function (asking b) w.function)
-functions_ask old t place rule b ds w m s =
-    let d = Transition.Ask t place rule b in
+functions_ask : (old : PlainWorld) (t : Ticket) (unit_index : ℕ) (rule : Rule) (b : Bool) (ds : List Transition) (w : PlainWorld)
+    → Asks w t unit_index rule b → FunctionsSay old ds w.function
+    → FunctionsSay old (Transition.Ask t unit_index rule b ∷ ds) (on_function (asking b) w.function)
+functions_ask old t unit_index rule b ds w m s =
+    let d = Transition.Ask t unit_index rule b in
     let g = m.marking in
     let x = g.opened in
     let f = x.function in
@@ -306,7 +306,7 @@ functions_ask old t place rule b ds w m s =
       kind = was.kind;
       among = λ k i. was.among k (among_drop k f.left i);
       visits = visits_on u was.begun.function.left (λ k. Among k f.left) (λ k. Among k (drop 1 f.left)) d ds
-          (λ k p. elim (among_next k place g.later f.left g.left p) [
+          (λ k p. elim (among_next k unit_index g.later f.left g.left p) [
             | inl e ↦ inr (inl (sym g.of, e))
             | inr q ↦ inl q
           ]) was.visits;
@@ -317,7 +317,7 @@ functions_ask old t place rule b ds w m s =
           | inr i ↦ inr i
         ]
       ];
-      found = found_now u t place rule b f.found ds (sym g.of) was.found;
+      found = found_now u t unit_index rule b f.found ds (sym g.of) was.found;
       failed = told_same (IsFail u) d ds f.refused (λ q. q) was.failed;
       asks = λ q. asking_kind f.kind rule g.does;
       marks = was.marks;
@@ -475,7 +475,7 @@ pub functions_transition : (old : PlainWorld) (d : Transition) (ds : List Transi
     → FunctionsSay old ds (world_of old ds).function
     → FunctionsSay old (d ∷ ds) (after d (world_of old ds)).function
 functions_transition old (Transition.Open f g) ds o l s = functions_open old f g ds o l s
-functions_transition old (Transition.Ask t place rule b) ds o l s = functions_ask old t place rule b ds (world_of old ds) l.1 s
+functions_transition old (Transition.Ask t unit_index rule b) ds o l s = functions_ask old t unit_index rule b ds (world_of old ds) l.1 s
 functions_transition old (Transition.Mark t p m jobs) ds o l s =
     functions_mark old t p m jobs ds (world_of old ds) (says_at old ds o l.0) l.1 s
 functions_transition old (Transition.MarkRefused t) ds o l s = functions_fail old t ds (world_of old ds) l.1 s

@@ -14,7 +14,7 @@ use Rattle.device_model.specs.World.{Seat, PlainWorld}
 use Rattle.device_model.specs.Events.{Event}
 use Rattle.device_model.specs.Transitions.{Transition, event_of}
 use Rattle.device_model.specs.After.{after}
-use Rattle.device_model.specs.Happens.{Happens, May, Occurrence, Reached, world_of}
+use Rattle.device_model.specs.Happens.{Happens, MayHappen, Occurrence, Reached, world_of}
 use Rattle.device_model.specs.Found.{UnitIs, HasHand, HandAtUnit}
 use Rattle.device_model.specs.Places.{of_chain, of_job, only, accepted_count, used_count}
 use Rattle.device_model.specs.Standing.{NoneIsBacked}
@@ -38,7 +38,7 @@ waits_once t old trace w r =
 
 -- Aside and woken
 
-pub aside_moves : (p : PlainJob → ℕ) (w : PlainWorld) (d : Transition) → May d w
+pub aside_moves : (p : PlainJob → ℕ) (w : PlainWorld) (d : Transition) → MayHappen d w
     → sum_by p (after d w).aside + sum_by p (rouses w d) ≡ sum_by p w.aside + sum_by p (deferred d)
 aside_moves p w (Transition.Defer k x) m = let a = sum_by_push p w.aside x in omega (arith, a)
 aside_moves p w Transition.Wake m = omega (arith)
@@ -46,7 +46,7 @@ aside_moves p w (Transition.Mark t i how jobs) m = omega (arith)
 aside_moves p w (Transition.Hard i jobs) m = omega (arith)
 aside_moves p w d m = omega (arith)
 
-pub woken_moves : (p : PlainJob → ℕ) (w : PlainWorld) (d : Transition) → May d w
+pub woken_moves : (p : PlainJob → ℕ) (w : PlainWorld) (d : Transition) → MayHappen d w
     → sum_by p (after d w).woken + sum_by p (resumed d) ≡ sum_by p w.woken + sum_by p (rouses w d)
 woken_moves p w (Transition.Resume k x) m = let a = first_counts p w.woken x m.rest m.first in omega (arith, a)
 woken_moves p w Transition.Wake m = let a = sum_by-append p w.woken w.aside in omega (arith, a)

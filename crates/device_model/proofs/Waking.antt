@@ -324,8 +324,8 @@ fetch_wakes (Transition.Respond c r xs) w i m h = inr tt
 fetch_wakes (Transition.Give e c xs) w i m h = inr tt
 fetch_wakes (Transition.Mark t p how jobs) w i m h =
     inl (fetch_same (after (Transition.Mark t p how jobs) w) w i refl refl (still_none (marking p) w.function) h)
-fetch_wakes (Transition.Ask t place rule b) w i m h =
-    inl (fetch_same (after (Transition.Ask t place rule b) w) w i refl refl (still_none (asking b) w.function) h)
+fetch_wakes (Transition.Ask t unit_index rule b) w i m h =
+    inl (fetch_same (after (Transition.Ask t unit_index rule b) w) w i refl refl (still_none (asking b) w.function) h)
 fetch_wakes (Transition.MarkRefused t) w i m h =
     inl (fetch_same (after (Transition.MarkRefused t) w) w i refl refl (still_none failing w.function) h)
 fetch_wakes (Transition.Check t p) w i m h =
@@ -375,16 +375,16 @@ taken_free e = cc
 done_free : {x : PlainJob} {o : Outcome} → Hand.Done x o ≡ Hand.Empty → ⊥
 done_free e = cc
 
-answered_free : {place : ℕ} {t : Ticket} → Hand.Answered place t ≡ Hand.Empty → ⊥
+answered_free : {unit_index : ℕ} {t : Ticket} → Hand.Answered unit_index t ≡ Hand.Empty → ⊥
 answered_free e = cc
 
 taken_done : {x y : PlainJob} {o : Outcome} → Hand.Taken x ≡ Hand.Done y o → ⊥
 taken_done e = cc
 
-taken_answered : {x : PlainJob} {place : ℕ} {t : Ticket} → Hand.Taken x ≡ Hand.Answered place t → ⊥
+taken_answered : {x : PlainJob} {unit_index : ℕ} {t : Ticket} → Hand.Taken x ≡ Hand.Answered unit_index t → ⊥
 taken_answered e = cc
 
-done_answered : {x : PlainJob} {o : Outcome} {place : ℕ} {t : Ticket} → Hand.Done x o ≡ Hand.Answered place t → ⊥
+done_answered : {x : PlainJob} {o : Outcome} {unit_index : ℕ} {t : Ticket} → Hand.Done x o ≡ Hand.Answered unit_index t → ⊥
 done_answered e = cc
 
 -- Commit
@@ -426,7 +426,7 @@ commit_wakes (Transition.Resume k x) w j m (y, h) =
 commit_wakes (Transition.Answer k x o xs) w j m (y, h) =
     let new = Hand.Answered x.unit x.chain.ticket in
     inl (y, hand_other (with_hand new) k w.seats j (Hand.Taken y) new (λ z. refl) taken_answered h)
-commit_wakes (Transition.Leave k place t jobs) w j m (y, h) =
+commit_wakes (Transition.Leave k unit_index t jobs) w j m (y, h) =
     inl (y, hand_other (leaving jobs) k w.seats j (Hand.Taken y) Hand.Empty (λ z. refl) taken_free h)
 commit_wakes (Transition.Mark t p how jobs) w j m (y, h) =
     inl (y, hand_kept (with_jobs jobs) 0 w.seats j (Hand.Taken y) (λ z. refl) h)
@@ -476,7 +476,7 @@ answer_wakes (Transition.Resume k x) w j m (y, o, h) =
 answer_wakes (Transition.Answer k x b xs) w j m (y, o, h) =
     let new = Hand.Answered x.unit x.chain.ticket in
     inl (y, o, hand_other (with_hand new) k w.seats j (Hand.Done y o) new (λ z. refl) done_answered h)
-answer_wakes (Transition.Leave k place t jobs) w j m (y, o, h) =
+answer_wakes (Transition.Leave k unit_index t jobs) w j m (y, o, h) =
     inl (y, o, hand_other (leaving jobs) k w.seats j (Hand.Done y o) Hand.Empty (λ z. refl) done_free h)
 answer_wakes (Transition.Mark t p how jobs) w j m (y, o, h) =
     inl (y, o, hand_kept (with_jobs jobs) 0 w.seats j (Hand.Done y o) (λ z. refl) h)
@@ -488,51 +488,51 @@ answer_wakes d w j m h = inl h
 
 leave_wakes : (d : Transition) (w : PlainWorld) (j : ℕ) → Happens d w → Applies (after d w) (Event.Leave j)
     → Either w d (Event.Leave j)
-leave_wakes (Transition.Run x) w j m (place, t, h) =
+leave_wakes (Transition.Run x) w j m (unit_index, t, h) =
     let k = owner w.workers x.chain.ticket.queue in
-    inl (place, t, hand_kept (with_jobs (x ∷ [])) k w.seats j (Hand.Answered place t) (λ z. refl) h)
-leave_wakes (Transition.Put k x) w j m (place, t, h) =
-    let was = Hand.Answered place t in
-    inl (place, t, hand_other (without_first Hand.Empty) k w.seats j was Hand.Empty (λ z. refl) answered_free h)
-leave_wakes (Transition.Keep k x) w j m (place, t, h) =
-    let was = Hand.Answered place t in
+    inl (unit_index, t, hand_kept (with_jobs (x ∷ [])) k w.seats j (Hand.Answered unit_index t) (λ z. refl) h)
+leave_wakes (Transition.Put k x) w j m (unit_index, t, h) =
+    let was = Hand.Answered unit_index t in
+    inl (unit_index, t, hand_other (without_first Hand.Empty) k w.seats j was Hand.Empty (λ z. refl) answered_free h)
+leave_wakes (Transition.Keep k x) w j m (unit_index, t, h) =
+    let was = Hand.Answered unit_index t in
     let new = Hand.Taken x in
-    inl (place, t, hand_other (without_first new) k w.seats j was new (λ z. refl) (λ e. taken_answered (sym e)) h)
-leave_wakes (Transition.Take k from x) w j m (place, t, h) =
-    let was = Hand.Answered place t in
+    inl (unit_index, t, hand_other (without_first new) k w.seats j was new (λ z. refl) (λ e. taken_answered (sym e)) h)
+leave_wakes (Transition.Take k from x) w j m (unit_index, t, h) =
+    let was = Hand.Answered unit_index t in
     let new = Hand.Taken x in
-    inl (place, t, hand_other (with_hand new) k w.seats j was new (λ z. refl) (λ e. taken_answered (sym e)) h)
-leave_wakes (Transition.Commit k x r) w j m (place, t, h) =
-    let was = Hand.Answered place t in
+    inl (unit_index, t, hand_other (with_hand new) k w.seats j was new (λ z. refl) (λ e. taken_answered (sym e)) h)
+leave_wakes (Transition.Commit k x r) w j m (unit_index, t, h) =
+    let was = Hand.Answered unit_index t in
     let new = Hand.Done x (Outcome.Ended (Ending.Replied r)) in
-    inl (place, t, hand_other (with_hand new) k w.seats j was new (λ z. refl) (λ e. done_answered (sym e)) h)
-leave_wakes (Transition.CommitBusy k x) w j m (place, t, h) =
-    let was = Hand.Answered place t in
+    inl (unit_index, t, hand_other (with_hand new) k w.seats j was new (λ z. refl) (λ e. done_answered (sym e)) h)
+leave_wakes (Transition.CommitBusy k x) w j m (unit_index, t, h) =
+    let was = Hand.Answered unit_index t in
     let new = Hand.Done x (Outcome.Ended Ending.Busy) in
-    inl (place, t, hand_other (with_hand new) k w.seats j was new (λ z. refl) (λ e. done_answered (sym e)) h)
-leave_wakes (Transition.CommitAborted k x why) w j m (place, t, h) =
-    let was = Hand.Answered place t in
+    inl (unit_index, t, hand_other (with_hand new) k w.seats j was new (λ z. refl) (λ e. done_answered (sym e)) h)
+leave_wakes (Transition.CommitAborted k x why) w j m (unit_index, t, h) =
+    let was = Hand.Answered unit_index t in
     let new = Hand.Done x (Outcome.Ended (Ending.Aborted why)) in
-    inl (place, t, hand_other (with_hand new) k w.seats j was new (λ z. refl) (λ e. done_answered (sym e)) h)
+    inl (unit_index, t, hand_other (with_hand new) k w.seats j was new (λ z. refl) (λ e. done_answered (sym e)) h)
 leave_wakes (Transition.CommitUnknown k x) w j m h = absurd m
-leave_wakes (Transition.Defer k x) w j m (place, t, h) =
-    let was = Hand.Answered place t in
-    inl (place, t, hand_other (with_hand Hand.Empty) k w.seats j was Hand.Empty (λ z. refl) answered_free h)
-leave_wakes (Transition.Resume k x) w j m (place, t, h) =
-    let was = Hand.Answered place t in
+leave_wakes (Transition.Defer k x) w j m (unit_index, t, h) =
+    let was = Hand.Answered unit_index t in
+    inl (unit_index, t, hand_other (with_hand Hand.Empty) k w.seats j was Hand.Empty (λ z. refl) answered_free h)
+leave_wakes (Transition.Resume k x) w j m (unit_index, t, h) =
+    let was = Hand.Answered unit_index t in
     let new = Hand.Taken x in
-    inl (place, t, hand_other (with_hand new) k w.seats j was new (λ z. refl) (λ e. taken_answered (sym e)) h)
-leave_wakes (Transition.Answer k x o xs) w j m (place, t, h) =
-    elim (hand_was (with_hand (Hand.Answered x.unit x.chain.ticket)) k w.seats j (Hand.Answered place t) h) [
+    inl (unit_index, t, hand_other (with_hand new) k w.seats j was new (λ z. refl) (λ e. taken_answered (sym e)) h)
+leave_wakes (Transition.Answer k x o xs) w j m (unit_index, t, h) =
+    elim (hand_was (with_hand (Hand.Answered x.unit x.chain.ticket)) k w.seats j (Hand.Answered unit_index t) h) [
       | inl p ↦ inr (inr (inl (ap Event.Leave p.0)))
-      | inr old ↦ inl (place, t, old)
+      | inr old ↦ inl (unit_index, t, old)
     ]
-leave_wakes (Transition.Leave k u s jobs) w j m (place, t, h) =
-    inl (place, t, hand_other (leaving jobs) k w.seats j (Hand.Answered place t) Hand.Empty (λ z. refl) answered_free h)
-leave_wakes (Transition.Mark s p how jobs) w j m (place, t, h) =
-    inl (place, t, hand_kept (with_jobs jobs) 0 w.seats j (Hand.Answered place t) (λ z. refl) h)
-leave_wakes (Transition.Hard p jobs) w j m (place, t, h) =
-    inl (place, t, hand_kept (with_jobs jobs) w.workers w.seats j (Hand.Answered place t) (λ z. refl) h)
+leave_wakes (Transition.Leave k u s jobs) w j m (unit_index, t, h) =
+    inl (unit_index, t, hand_other (leaving jobs) k w.seats j (Hand.Answered unit_index t) Hand.Empty (λ z. refl) answered_free h)
+leave_wakes (Transition.Mark s p how jobs) w j m (unit_index, t, h) =
+    inl (unit_index, t, hand_kept (with_jobs jobs) 0 w.seats j (Hand.Answered unit_index t) (λ z. refl) h)
+leave_wakes (Transition.Hard p jobs) w j m (unit_index, t, h) =
+    inl (unit_index, t, hand_kept (with_jobs jobs) w.workers w.seats j (Hand.Answered unit_index t) (λ z. refl) h)
 leave_wakes d w j m h = inl h
 
 -- Put
@@ -600,8 +600,8 @@ put_wakes (Transition.Resume k x) w j m h =
 put_wakes (Transition.Answer k x o xs) w j m h =
     let new = Hand.Answered x.unit x.chain.ticket in
     inl (put_not (after (Transition.Answer k x o xs) w) w (with_hand new) k j new refl (λ z. refl) answered_free h)
-put_wakes (Transition.Leave k place t jobs) w j m h =
-    elim (put_was (after (Transition.Leave k place t jobs) w) w (leaving jobs) k j refl h) [
+put_wakes (Transition.Leave k unit_index t jobs) w j m h =
+    elim (put_was (after (Transition.Leave k unit_index t jobs) w) w (leaving jobs) k j refl h) [
       | inl p ↦ inr (inl (ap Event.Put p.0))
       | inr old ↦ inl old
     ]
@@ -724,8 +724,8 @@ take_wakes (Transition.Resume k x) w j m h =
 take_wakes (Transition.Answer k x o xs) w j m h =
     let new = Hand.Answered x.unit x.chain.ticket in
     inl (take_not (after (Transition.Answer k x o xs) w) w (with_hand new) k j new refl refl refl (λ z. refl) answered_free h)
-take_wakes (Transition.Leave k place t jobs) w j m h =
-    elim (take_was (after (Transition.Leave k place t jobs) w) w (leaving jobs) k j refl refl refl h) [
+take_wakes (Transition.Leave k unit_index t jobs) w j m h =
+    elim (take_was (after (Transition.Leave k unit_index t jobs) w) w (leaving jobs) k j refl refl refl h) [
       | inl p ↦ inr (inr (inl (ap Event.Take p.0)))
       | inr old ↦ inl old
     ]
@@ -747,19 +747,19 @@ function_was g (Some x) y e = (x, refl, ap (λ (o : Opened). o.function) (sym (s
 
 mark_same : (v w : PlainWorld) → v.function ≡ w.function → MayMark v → MayMark w
 mark_same v w is h =
-    record { opened = h.opened; there = sym is ∙ h.there; place = h.place; later = h.later; left = h.left }
+    record { opened = h.opened; there = sym is ∙ h.there; unit_index = h.unit_index; later = h.later; left = h.left }
 
 mark_wakes : (d : Transition) (w : PlainWorld) → Happens d w → Applies (after d w) Event.Mark → Either w d Event.Mark
 mark_wakes (Transition.Open f g) w m h = inr (inl refl)
 mark_wakes (Transition.Mark t p how jobs) w m h = inl (applies (Transition.Mark t p how jobs) w m)
-mark_wakes (Transition.Ask t place rule b) w m h = inl (applies (Transition.Ask t place rule b) w m)
+mark_wakes (Transition.Ask t unit_index rule b) w m h = inl (applies (Transition.Ask t unit_index rule b) w m)
 mark_wakes (Transition.MarkRefused t) w m h = inl (applies (Transition.MarkRefused t) w m)
 mark_wakes (Transition.Check t p) w m h =
     let was = function_was checking w.function h.opened h.there in
     inl (record {
       opened = was.0;
       there = was.1;
-      place = h.place;
+      unit_index = h.unit_index;
       later = h.later;
       left = ap (λ (f : PlainFunction). f.left) (sym was.2) ∙ h.left;
     })
@@ -783,7 +783,7 @@ respond_wakes (Transition.Open f g) w m h = inr (inr (inl refl))
 respond_wakes (Transition.Mark t p how jobs) w m h =
     let was = function_was (marking p) w.function h.opened h.there in
     absurd (some_last was.0.function.waits p (ap (λ (f : PlainFunction). f.waits) (sym was.2) ∙ h.still))
-respond_wakes (Transition.Ask t place rule b) w m h =
+respond_wakes (Transition.Ask t unit_index rule b) w m h =
     let was = function_was (asking b) w.function h.opened h.there in
     let f = was.0.function in
     absurd (some_last f.waits (next_look f) (ap (λ (g : PlainFunction). g.waits) (sym was.2) ∙ h.still))
@@ -960,16 +960,16 @@ check_wakes (Transition.Commit i x r) w m h =
 check_wakes (Transition.CommitBusy i x) w m h =
     let s = Step.Busy x.entry.ticket in
     inl (check_before (after (Transition.CommitBusy i x) w) w (stepped s) s x.unit refl refl (λ u. refl) (λ past t k. k) h)
-check_wakes (Transition.Leave i place t jobs) w m h = inr (inr (inr (inr (inl refl))))
+check_wakes (Transition.Leave i unit_index t jobs) w m h = inr (inr (inr (inr (inl refl))))
 check_wakes (Transition.Mark t p how jobs) w m h = inr (inr (inr (inl refl)))
 check_wakes (Transition.Hard p jobs) w m h =
     let s = Step.Reset hard_code in
     inl (check_before (after (Transition.Hard p jobs) w) w (stepped s) s p.unit refl refl (λ u. refl) (λ past t k. k) h)
-check_wakes (Transition.Resize place blocks) w m h =
+check_wakes (Transition.Resize unit_index blocks) w m h =
     let s = Step.Resize blocks in
-    inl (check_before (after (Transition.Resize place blocks) w) w (stepped s) s place refl refl (λ u. refl) (λ past t k. k) h)
-check_wakes (Transition.Deal place x) w m h = inl (check_kept (after (Transition.Deal place x) w) w (dealing x) place refl refl (λ u. refl) h)
-check_wakes (Transition.Ask t place rule b) w m h = inr (inl refl)
+    inl (check_before (after (Transition.Resize unit_index blocks) w) w (stepped s) s unit_index refl refl (λ u. refl) (λ past t k. k) h)
+check_wakes (Transition.Deal unit_index x) w m h = inl (check_kept (after (Transition.Deal unit_index x) w) w (dealing x) unit_index refl refl (λ u. refl) h)
+check_wakes (Transition.Ask t unit_index rule b) w m h = inr (inl refl)
 check_wakes (Transition.MarkRefused t) w m h = inr (inl refl)
 check_wakes (Transition.Check t p) w m h = inl (applies (Transition.Check t p) w m)
 check_wakes (Transition.Respond c r xs) w m h = absurd (nothing h.there)
@@ -979,7 +979,7 @@ check_wakes d w m h = inl (check_same (after d w) w refl refl h)
 
 raise_wakes : (d : Transition) (w : PlainWorld) → Happens d w → Applies (after d w) Event.Raise → Either w d Event.Raise
 raise_wakes (Transition.Hard p jobs) w m h = inr (inr (inr (inl refl)))
-raise_wakes (Transition.Resize place blocks) w m h = inr (inl refl)
+raise_wakes (Transition.Resize unit_index blocks) w m h = inr (inl refl)
 raise_wakes (Transition.Give e c xs) w m h = inl (applies (Transition.Give e c xs) w m)
 raise_wakes (Transition.Miss e) w m h = inl (applies (Transition.Miss e) w m)
 raise_wakes d w m h = inl h
@@ -1064,8 +1064,8 @@ resume_wakes (Transition.Resume k x) w j m h =
 resume_wakes (Transition.Answer k x o xs) w j m h =
     let new = Hand.Answered x.unit x.chain.ticket in
     inl (resume_not (after (Transition.Answer k x o xs) w) w (with_hand new) k j new refl refl refl (λ z. refl) answered_free h)
-resume_wakes (Transition.Leave k place t jobs) w j m h =
-    elim (resume_was (after (Transition.Leave k place t jobs) w) w (leaving jobs) k j refl refl refl h) [
+resume_wakes (Transition.Leave k unit_index t jobs) w j m h =
+    elim (resume_was (after (Transition.Leave k unit_index t jobs) w) w (leaving jobs) k j refl refl refl h) [
       | inl p ↦ inr (inr (inr (inl (ap Event.Resume p.0))))
       | inr old ↦ inl old
     ]
@@ -1089,10 +1089,10 @@ either d w Event.Mark own m h = mark_wakes d w m h
 either d w Event.Check own m h = check_wakes d w m h
 either d w Event.AnswerTmf own m h = respond_wakes d w m h
 either d w (Event.Prepare k) own m h = absurd own
-either d w (Event.Resize place blocks) own m h = absurd own
-either d w (Event.Hard place) own m h = absurd own
+either d w (Event.Resize unit_index blocks) own m h = absurd own
+either d w (Event.Hard unit_index) own m h = absurd own
 either d w Event.Wake own m h = absurd own
-either d w (Event.Deal place x) own m h = absurd own
+either d w (Event.Deal unit_index x) own m h = absurd own
 either d w (Event.Resume k) own m h = resume_wakes d w k m h
 either d w Event.Raise own m h = raise_wakes d w m h
 

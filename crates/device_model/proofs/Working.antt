@@ -26,7 +26,7 @@ use Rattle.device_model.specs.Transitions.{Transition}
 use Rattle.device_model.specs.Changing.{bit, with_hand, without_first, with_jobs, with_job, leaving}
 use Rattle.device_model.specs.Event.Hard.{hard_code}
 use Rattle.device_model.specs.After.{after}
-use Rattle.device_model.specs.Happens.{May, Occurrence, Runs}
+use Rattle.device_model.specs.Happens.{MayHappen, Occurrence, Runs}
 use Rattle.device_model.specs.Found.{MayStep, handed_out}
 use Rattle.device_model.specs.Event.Commit.{CommitsUnknown}
 use Rattle.device_model.specs.Lawful.{AreUnits}
@@ -37,24 +37,24 @@ use Rattle.device_model.proofs.Histories.{may_mark, new_units, transition_units}
 use Rattle.device_model.proofs.Handed.{IsOpen, IsEnded, Spares, open_on, ended_on, open_entered, open_given}
 use Rattle.device_model.proofs.Sums.{counts_one, counts_two, counts_none}
 use Rattle.device_model.proofs.Named.{IsFor, UnitsHoldOwn, AreNamed, all_push, given_own, done_is_named, new_named, transition_names}
-use Rattle.device_model.proofs.Tasks.{AreBalanced, of_place, hand_count, seat_count, out_count, new_balanced, transition_balances}
+use Rattle.device_model.proofs.Tasks.{AreBalanced, of_index, hand_count, seat_count, out_count, new_balanced, transition_balances}
 use Rattle.device_model.proofs.Off.{each_put, each_taken, none_between, between, between_all, between_parts, each_woken, each_push, first_taken}
 
--- of the unit at a place, if it is there, its steps are so
+-- of the unit of an index, if it is there, its steps are so
 abbrev At : (List Step → Type 0) → List PlainUnit → ℕ → Type 0
-At P us place = (u : PlainUnit) × (slice_get us place ≡ Some u) × P u.steps
+At P us unit_index = (u : PlainUnit) × (slice_get us unit_index ≡ Some u) × P u.steps
 
 abbrev pub ToCommit : List PlainUnit → PlainJob → Type 0
 ToCommit us x = At (IsOpen x.entry) us x.unit
 
 abbrev ToLeave : List PlainUnit → ℕ → Ticket → Type 0
-ToLeave us place t = At (IsEnded t) us place
+ToLeave us unit_index t = At (IsEnded t) us unit_index
 
 abbrev HandAt : List PlainUnit → Hand → Type 0
 HandAt us Hand.Empty = ⊤
 HandAt us (Hand.Taken x) = ToCommit us x
 HandAt us (Hand.Done x o) = ToLeave us x.unit x.entry.ticket
-HandAt us (Hand.Answered place t) = ToLeave us place t
+HandAt us (Hand.Answered unit_index t) = ToLeave us unit_index t
 
 abbrev JobsAt : List PlainUnit → List PlainJob → Type 0
 JobsAt us xs = AllByRecursion (ToCommit us) xs
@@ -70,20 +70,20 @@ AtWork w = SeatsAt w.units w.seats × JobsAt w.units (between w)
 
 -- A step of one unit
 
--- the step that is taken at a place spares the task of a ticket and a place
+-- the step that is taken at an index spares the task of a ticket and an index
 abbrev Spared : Step → ℕ → ℕ → Ticket → Type 0
-Spared s k place t = place ≡ k → Spares s t
+Spared s k unit_index t = unit_index ≡ k → Spares s t
 
 abbrev HandSpared : Step → ℕ → Hand → Type 0
 HandSpared s k Hand.Empty = ⊤
 HandSpared s k (Hand.Taken x) = Spared s k x.unit x.entry.ticket
 HandSpared s k (Hand.Done x o) = Spared s k x.unit x.entry.ticket
-HandSpared s k (Hand.Answered place t) = Spared s k place t
+HandSpared s k (Hand.Answered unit_index t) = Spared s k unit_index t
 
 abbrev JobsSpared : Step → ℕ → List PlainJob → Type 0
 JobsSpared s k xs = AllByRecursion (λ x. Spared s k x.unit x.entry.ticket) xs
 
--- the unit of a place goes on by a step
+-- the unit of an index goes on by a step
 record Goes (s : Step) (k : ℕ) (old new : List PlainUnit) : Type 0 where
   pub here : (u : PlainUnit) → slice_get old k ≡ Some u
       → (v : PlainUnit) × (slice_get new k ≡ Some v) × (v.steps ≡ s ∷ u.steps)
@@ -119,17 +119,17 @@ commit_on : (s : Step) (k : ℕ) (old new : List PlainUnit) (x : PlainJob) → G
 commit_on s k old new x g sp h =
     at_on (IsOpen x.entry) s k x.unit old new g (λ q past p. open_on s x.entry past (sp q) p) h
 
-leave_on : (s : Step) (k : ℕ) (old new : List PlainUnit) (place : ℕ) (t : Ticket) → Goes s k old new
-    → Spared s k place t → ToLeave old place t → ToLeave new place t
-leave_on s k old new place t g sp h =
-    at_on (IsEnded t) s k place old new g (λ q past p. ended_on s t past (sp q) p) h
+leave_on : (s : Step) (k : ℕ) (old new : List PlainUnit) (unit_index : ℕ) (t : Ticket) → Goes s k old new
+    → Spared s k unit_index t → ToLeave old unit_index t → ToLeave new unit_index t
+leave_on s k old new unit_index t g sp h =
+    at_on (IsEnded t) s k unit_index old new g (λ q past p. ended_on s t past (sp q) p) h
 
 hand_on : (s : Step) (k : ℕ) (old new : List PlainUnit) (h : Hand) → Goes s k old new → HandSpared s k h
     → HandAt old h → HandAt new h
 hand_on s k old new Hand.Empty g sp h = tt
 hand_on s k old new (Hand.Taken x) g sp h = commit_on s k old new x g sp h
 hand_on s k old new (Hand.Done x o) g sp h = leave_on s k old new x.unit x.entry.ticket g sp h
-hand_on s k old new (Hand.Answered place t) g sp h = leave_on s k old new place t g sp h
+hand_on s k old new (Hand.Answered unit_index t) g sp h = leave_on s k old new unit_index t g sp h
 
 jobs_on : (s : Step) (k : ℕ) (old new : List PlainUnit) (xs : List PlainJob) → Goes s k old new → JobsSpared s k xs
     → JobsAt old xs → JobsAt new xs
@@ -144,7 +144,7 @@ mild_hand : (s : Step) (k : ℕ) (h : Hand) → IsMild s → HandSpared s k h
 mild_hand s k Hand.Empty m = tt
 mild_hand s k (Hand.Taken x) m = λ q. m x.entry.ticket
 mild_hand s k (Hand.Done x o) m = λ q. m x.entry.ticket
-mild_hand s k (Hand.Answered place t) m = λ q. m t
+mild_hand s k (Hand.Answered unit_index t) m = λ q. m t
 
 mild_jobs : (s : Step) (k : ℕ) (xs : List PlainJob) → IsMild s → JobsSpared s k xs
 mild_jobs s k [] m = tt
@@ -178,24 +178,24 @@ seat_goes : (us : List PlainUnit) (g : Seat → Seat) (k : ℕ) (seats : List Se
 seat_goes us g k seats s at f h = seats_go us us g k seats s at f (λ i r n there was. was) h
 
 -- a seat gets jobs by a step that ends no task
-gets : (s : Step) (place : ℕ) (old new : List PlainUnit) (k : ℕ) (seats : List Seat) (off : List PlainJob) (r : Seat)
-    (jobs : List PlainJob) → Goes s place old new → IsMild s → slice_get seats k ≡ Some r → JobsAt new jobs
+gets : (s : Step) (unit_index : ℕ) (old new : List PlainUnit) (k : ℕ) (seats : List Seat) (off : List PlainJob) (r : Seat)
+    (jobs : List PlainJob) → Goes s unit_index old new → IsMild s → slice_get seats k ≡ Some r → JobsAt new jobs
     → SeatsAt old seats × JobsAt old off → SeatsAt new (change (with_jobs jobs) k seats) × JobsAt new off
-gets s place old new k seats off r jobs g m at more h = (
+gets s unit_index old new k seats off r jobs g m at more h = (
   seats_go old new (with_jobs jobs) k seats r at
       (λ was.
-      let now = mild_seat s place old new r g m was in
+      let now = mild_seat s unit_index old new r g m was in
       (now.0, all_push (ToCommit new) r.out jobs now.1 more))
-      (λ i v n there was. mild_seat s place old new v g m was) h.0,
-  jobs_on s place old new off g (mild_jobs s place off m) h.1,
+      (λ i v n there was. mild_seat s unit_index old new v g m was) h.0,
+  jobs_on s unit_index old new off g (mild_jobs s unit_index off m) h.1,
 )
 
 -- no seat gets any
-stays : (s : Step) (place : ℕ) (old new : List PlainUnit) (seats : List Seat) (off : List PlainJob)
-    → Goes s place old new → IsMild s → SeatsAt old seats × JobsAt old off → SeatsAt new seats × JobsAt new off
-stays s place old new seats off g m h = (
-  λ i r at. mild_seat s place old new r g m (h.0 i r at),
-  jobs_on s place old new off g (mild_jobs s place off m) h.1,
+stays : (s : Step) (unit_index : ℕ) (old new : List PlainUnit) (seats : List Seat) (off : List PlainJob)
+    → Goes s unit_index old new → IsMild s → SeatsAt old seats × JobsAt old off → SeatsAt new seats × JobsAt new off
+stays s unit_index old new seats off g m h = (
+  λ i r at. mild_seat s unit_index old new r g m (h.0 i r at),
+  jobs_on s unit_index old new off g (mild_jobs s unit_index off m) h.1,
 )
 
 -- A change of one unit that leaves its steps
@@ -211,7 +211,7 @@ hand_kept : (g : PlainUnit → PlainUnit) (k : ℕ) (us : List PlainUnit) (h : H
 hand_kept g k us Hand.Empty e h = tt
 hand_kept g k us (Hand.Taken x) e h = at_kept (IsOpen x.entry) g k x.unit us e h
 hand_kept g k us (Hand.Done x o) e h = at_kept (IsEnded x.entry.ticket) g k x.unit us e h
-hand_kept g k us (Hand.Answered place t) e h = at_kept (IsEnded t) g k place us e h
+hand_kept g k us (Hand.Answered unit_index t) e h = at_kept (IsEnded t) g k unit_index us e h
 
 jobs_kept : (g : PlainUnit → PlainUnit) (k : ℕ) (us : List PlainUnit) (xs : List PlainJob)
     → ((u : PlainUnit) → (g u).steps ≡ u.steps) → JobsAt us xs → JobsAt (change g k us) xs
@@ -260,7 +260,7 @@ pub no_bit : (b : Bool) → bit b ≡ 0 → b ≡ false
 no_bit true e = absurd (omega (arith, e))
 no_bit false e = refl
 
--- what doesn't count for the ticket at a place has another ticket there
+-- what doesn't count for the ticket at an index has another ticket there
 other_ticket : (i n : ℕ) (t u : Ticket) → cond (eqb i n) (one t u) 0 ≡ 0 → i ≡ n → same_ticket t u ≡ false
 other_ticket i n t u e q =
     let a = ap (λ b. cond b (one t u) 0) (eq-eqb i n q) in
@@ -275,10 +275,10 @@ spared_hand : (s : Step) (n : ℕ) (t : Ticket) (h : Hand) → EndsOnly t s → 
 spared_hand s n t Hand.Empty f e = tt
 spared_hand s n t (Hand.Taken x) f e = λ q. f x.entry.ticket (other_ticket x.unit n t x.entry.ticket e q)
 spared_hand s n t (Hand.Done x o) f e = λ q. f x.entry.ticket (other_ticket x.unit n t x.entry.ticket e q)
-spared_hand s n t (Hand.Answered place u) f e = λ q. f u (other_ticket place n t u e q)
+spared_hand s n t (Hand.Answered unit_index u) f e = λ q. f u (other_ticket unit_index n t u e q)
 
 spared_each : (s : Step) (n : ℕ) (t : Ticket) (xs : List PlainJob) → EndsOnly t s
-    → AllByRecursion (λ x. of_place n (one t) x ≡ 0) xs → JobsSpared s n xs
+    → AllByRecursion (λ x. of_index n (one t) x ≡ 0) xs → JobsSpared s n xs
 spared_each s n t [] f h = tt
 spared_each s n t (x ∷ xs) f h = (
   λ q. f x.entry.ticket (other_ticket x.unit n t x.entry.ticket h.0 q),
@@ -286,8 +286,8 @@ spared_each s n t (x ∷ xs) f h = (
 )
 
 spared_jobs : (s : Step) (n : ℕ) (t : Ticket) (xs : List PlainJob) → EndsOnly t s
-    → sum_by (of_place n (one t)) xs ≡ 0 → JobsSpared s n xs
-spared_jobs s n t xs f e = spared_each s n t xs f (counts_none (of_place n (one t)) xs e)
+    → sum_by (of_index n (one t)) xs ≡ 0 → JobsSpared s n xs
+spared_jobs s n t xs f e = spared_each s n t xs f (counts_none (of_index n (one t)) xs e)
 
 -- all but the hand of this seat is spared
 record SparesElse (s : Step) (n k : ℕ) (seats : List Seat) (off out : List PlainJob) : Type 0 where
@@ -409,7 +409,7 @@ never_lost k x w m h =
 
 -- One transition
 
-transition_works : (d : Transition) (w : PlainWorld) → May d w → AreUnits w → AreNamed w → AreBalanced w → AtWork w
+transition_works : (d : Transition) (w : PlainWorld) → MayHappen d w → AreUnits w → AreNamed w → AreBalanced w → AtWork w
     → AtWork (after d w)
 transition_works (Transition.Run x) w m us names b h =
     let c = m.comes in
@@ -493,17 +493,17 @@ transition_works (Transition.Answer k x o xs) w m us names b h =
           (λ z. (subst (ToLeave w.units x.unit) (sym e) z.0, z.1)) h.0,
       h.1,
     )
-transition_works (Transition.Leave k place t jobs) w m us names b h =
+transition_works (Transition.Leave k unit_index t jobs) w m us names b h =
     let s = Step.Leave t in
     let u = m.holds.unit in
-    let hand = Hand.Answered place t in
-    let new = change (stepped s) place w.units in
-    let step = goes s (stepped s) place w.units (λ v. refl) in
-    let le = out_once place t w u m.holds.there us b in
-    let own = its_own place t in
-    let sp = spares_else s place t k w.seats (between w) hand m.holds.out (λ v n. n) m.holds.seat own le in
-    let more = given s place w.units u jobs m.holds.there m.may (us place u m.holds.there) names.1 m.enables in
-    ends s place k w.units new w.seats (between w) hand m.holds.out (leaving jobs) step m.holds.seat sp
+    let hand = Hand.Answered unit_index t in
+    let new = change (stepped s) unit_index w.units in
+    let step = goes s (stepped s) unit_index w.units (λ v. refl) in
+    let le = out_once unit_index t w u m.holds.there us b in
+    let own = its_own unit_index t in
+    let sp = spares_else s unit_index t k w.seats (between w) hand m.holds.out (λ v n. n) m.holds.seat own le in
+    let more = given s unit_index w.units u jobs m.holds.there m.may (us unit_index u m.holds.there) names.1 m.enables in
+    ends s unit_index k w.units new w.seats (between w) hand m.holds.out (leaving jobs) step m.holds.seat sp
     (λ was out. (tt, all_push (ToCommit new) m.holds.out jobs out more)) h
 transition_works (Transition.Mark t p how jobs) w m us names b h =
     let s = step_by how in
@@ -521,17 +521,17 @@ transition_works (Transition.Hard p jobs) w m us names b h =
     let r = gets s p.unit w.units new w.workers w.seats (between w) m.seat jobs
     (goes s (stepped s) p.unit w.units (λ v. refl)) (λ t. tt) m.seat_there more h in
     (r.0, each_woken (ToCommit new) (all_off w) w.aside w.woken r.1)
-transition_works (Transition.Resize place blocks) w m us names b h =
+transition_works (Transition.Resize unit_index blocks) w m us names b h =
     let s = Step.Resize blocks in
-    stays s place w.units (change (stepped s) place w.units) w.seats (between w)
-    (goes s (stepped s) place w.units (λ v. refl)) (λ t. tt) h
-transition_works (Transition.Deal place x) w m us names b h = (
+    stays s unit_index w.units (change (stepped s) unit_index w.units) w.seats (between w)
+    (goes s (stepped s) unit_index w.units (λ v. refl)) (λ t. tt) h
+transition_works (Transition.Deal unit_index x) w m us names b h = (
   λ i r at.
       let was = h.0 i r at in (
-        hand_kept (dealing x) place w.units r.hand (λ u. refl) was.0,
-        jobs_kept (dealing x) place w.units r.out (λ u. refl) was.1,
+        hand_kept (dealing x) unit_index w.units r.hand (λ u. refl) was.0,
+        jobs_kept (dealing x) unit_index w.units r.out (λ u. refl) was.1,
       ),
-  jobs_kept (dealing x) place w.units (between w) (λ u. refl) h.1,
+  jobs_kept (dealing x) unit_index w.units (between w) (λ u. refl) h.1,
 )
 transition_works d w m us names b h = h
 
@@ -564,14 +564,14 @@ to_commit : (w : PlainWorld) (x : PlainJob) → ToCommit w.units x → IsToCommi
 to_commit w x h =
     record { unit = h.0; there = h.1; alive = h.2.0; handed_out = h.2.1; undone = h.2.2 }
 
-to_leave : (w : PlainWorld) (place : ℕ) (t : Ticket) → ToLeave w.units place t → IsToLeave w place t
-to_leave w place t h = record { unit = h.0; there = h.1; entry = h.2.0; alive = h.2.1; ended = h.2.2 }
+to_leave : (w : PlainWorld) (unit_index : ℕ) (t : Ticket) → ToLeave w.units unit_index t → IsToLeave w unit_index t
+to_leave w unit_index t h = record { unit = h.0; there = h.1; entry = h.2.0; alive = h.2.1; ended = h.2.2 }
 
 hand_works : (w : PlainWorld) (hand : Hand) → HandAt w.units hand → HandWorks w hand
 hand_works w Hand.Empty h = tt
 hand_works w (Hand.Taken x) h = to_commit w x h
 hand_works w (Hand.Done x o) h = to_leave w x.unit x.entry.ticket h
-hand_works w (Hand.Answered place t) h = to_leave w place t h
+hand_works w (Hand.Answered unit_index t) h = to_leave w unit_index t h
 
 jobs_work : (w : PlainWorld) (xs : List PlainJob) → JobsAt w.units xs → AllByRecursion (IsToCommit w) xs
 jobs_work w [] h = tt

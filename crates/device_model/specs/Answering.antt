@@ -59,7 +59,7 @@ pub record IsAnsweredSo (old : PlainWorld) (past : List Transition) (c : PlainCh
 
 -- the task of a ticket has a Commit in no history
 abbrev pub NeverRan : Ticket → List Transition → Type 0
-NeverRan t ds = (place : ℕ) (r : PlainReply) → Stands (Step.Commit t r) (history_of place ds) → ⊥
+NeverRan t ds = (unit_index : ℕ) (r : PlainReply) → Stands (Step.Commit t r) (history_of unit_index ds) → ⊥
 
 -- each used ticket of a request queue has one answer, from its queue's slot or from a hand; each answer tells what is
 -- so, and who was told that its task was aborted never ran

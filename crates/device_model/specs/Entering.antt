@@ -31,10 +31,10 @@ pub record IsSent (inventory : PlainInventory) (ds : List Transition) (x : Plain
   pub fetched : Happened (IsFetch fetch) ds
   pub job : IsJobOf inventory fetch x
 
--- a task that stands at a place is that of a job for this unit
-pub record IsEntered (inventory : PlainInventory) (ds : List Transition) (place : ℕ) (e : Entry) : Type 0 where
+-- a task that stands at an index is that of a job for this unit
+pub record IsEntered (inventory : PlainInventory) (ds : List Transition) (unit_index : ℕ) (e : Entry) : Type 0 where
   pub job : PlainJob
-  pub unit : job.unit ≡ place
+  pub unit : job.unit ≡ unit_index
   pub entry : job.entry ≡ e
   pub sent : IsSent inventory ds job
 
@@ -46,5 +46,5 @@ pub record AreEntered (old : PlainWorld) (ds : List Transition) (w : PlainWorld)
   pub taken : (f : PlainFetch) (d : Transition) (past : List Transition) → IsBeginning (d ∷ past) ds → IsFetch f d
       → Finds (world_of old past) f
   pub entered_once : (t : Ticket) → sum_by (entered_count (only t)) w.units ≤ 1
-  pub as_fetched : (place : ℕ) (e : Entry) → Stands (Step.Enter e) (history_of place ds)
-      → IsEntered old.inventory ds place e
+  pub as_fetched : (unit_index : ℕ) (e : Entry) → Stands (Step.Enter e) (history_of unit_index ds)
+      → IsEntered old.inventory ds unit_index e

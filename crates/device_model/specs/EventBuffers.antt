@@ -31,8 +31,8 @@ given_of (d ∷ past) = given_of past
 abbrev pub raised_of : PlainWorld → List Transition → List EventRecord
 raised_of old [] = []
 raised_of old (Transition.Hard p jobs ∷ past) = raised_of old past ++ reports_of (slice_get old.units p.unit)
-raised_of old (Transition.Resize place blocks ∷ past) =
-    raised_of old past ++ change_reports old.tells_changes (slice_get old.units place)
+raised_of old (Transition.Resize unit_index blocks ∷ past) =
+    raised_of old past ++ change_reports old.tells_changes (slice_get old.units unit_index)
 raised_of old (d ∷ past) = raised_of old past
 
 abbrev pub reported_of : List Transition → List EventRecord

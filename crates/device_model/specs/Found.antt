@@ -15,7 +15,7 @@ abbrev pub QueueIs : PlainWorld → ℕ → PlainQueue → Type 0
 QueueIs w q queue = slice_get w.queues q ≡ Some queue
 
 abbrev pub UnitIs : PlainWorld → ℕ → PlainUnit → Type 0
-UnitIs w place u = slice_get w.units place ≡ Some u
+UnitIs w unit_index u = slice_get w.units unit_index ≡ Some u
 
 abbrev pub SeatIs : PlainWorld → ℕ → Hand → List PlainJob → Type 0
 SeatIs w k hand out = slice_get w.seats k ≡ Some (record { hand = hand; out = out })
@@ -34,11 +34,11 @@ abbrev pub HasHand : PlainWorld → ℕ → Hand → Type 0
 HasHand w k h = (out : List PlainJob) × SeatIs w k h out
 
 -- a hand of a seat, and a unit
-pub record HandAtUnit (w : PlainWorld) (k : ℕ) (hand : Hand) (place : ℕ) : Type 0 where
+pub record HandAtUnit (w : PlainWorld) (k : ℕ) (hand : Hand) (unit_index : ℕ) : Type 0 where
   pub out : List PlainJob
   pub seat : SeatIs w k hand out
   pub unit : PlainUnit
-  pub there : UnitIs w place unit
+  pub there : UnitIs w unit_index unit
 
 -- the step may come next there
 abbrev pub MayStep : PlainUnit → Step → Type 0

@@ -29,8 +29,8 @@ use Rattle.device_model.specs.Happened.{Happened, IsBeginning, IsFetch, IsAnswer
 use Rattle.device_model.specs.Histories.{history_of}
 
 abbrev pub Among : ℕ → List ℕ → Type 0
-Among place [] = ⊥
-Among place (k ∷ left) = (k ≡ place) ⊎ Among place left
+Among unit_index [] = ⊥
+Among unit_index (k ∷ left) = (k ≡ unit_index) ⊎ Among unit_index left
 
 -- what was decided of the bytes of a Fetch is this function
 pub record IsBegun (inventory : PlainInventory) (ds : List Transition) (t : Ticket) : Type 0 where
@@ -41,10 +41,10 @@ pub record IsBegun (inventory : PlainInventory) (ds : List Transition) (t : Tick
   pub decided : DecidesControl inventory fetch (managed.Opens function)
 
 -- a function of this ticket and kind, and this unit is one of its units
-pub record IsFor (inventory : PlainInventory) (ds : List Transition) (t : Ticket) (kind : Kind) (place : ℕ) : Type 0 where
+pub record IsFor (inventory : PlainInventory) (ds : List Transition) (t : Ticket) (kind : Kind) (unit_index : ℕ) : Type 0 where
   pub begun : IsBegun inventory ds t
   pub does : begun.function.kind ≡ kind
-  pub among : Among place begun.function.left
+  pub among : Among unit_index begun.function.left
 
 -- the mark of a function stands at its place, of one of its units, and whichever transitions come, the step there met the
 -- tasks that were alive then and that the mark meets
@@ -68,8 +68,8 @@ pub record IsOver (old : PlainWorld) (past : List Transition) (c : PlainChain) (
     : Type 0 where
   pub begun : IsBegun old.inventory past c.ticket
   pub chain : begun.fetch.chain ≡ c
-  pub visited : (place : ℕ) → Among place begun.function.left
-      → Happened (IsVisit c.ticket place) past ⊎ Happened (IsFail c.ticket) past
+  pub visited : (unit_index : ℕ) → Among unit_index begun.function.left
+      → Happened (IsVisit c.ticket unit_index) past ⊎ Happened (IsFail c.ticket) past
   pub clear : (p : Place) → Happened (IsMark c.ticket p) past → IsClear p past
   pub response : IsResponse r
   pub succeeds : (r ≡ Succeeded) ↔ Happened (IsFound c.ticket) past
@@ -84,8 +84,8 @@ pub record AreOver (old : PlainWorld) (ds : List Transition) : Type 0 where
   pub marks : (t : Ticket) (p : Place) (m : MarkBy) (jobs : List PlainJob) (past : List Transition)
       → IsBeginning (Transition.Mark t p m jobs ∷ past) ds
       → IsMarkedSo old ds past t p m
-  pub looks : (t : Ticket) (place : ℕ) (rule : Rule) (b : Bool) (past : List Transition)
-      → IsBeginning (Transition.Ask t place rule b ∷ past) ds
-      → (b ≡ any_met rule (alive (history_of place past))) × IsFor old.inventory past t (Querying rule) place
+  pub looks : (t : Ticket) (unit_index : ℕ) (rule : Rule) (b : Bool) (past : List Transition)
+      → IsBeginning (Transition.Ask t unit_index rule b ∷ past) ds
+      → (b ≡ any_met rule (alive (history_of unit_index past))) × IsFor old.inventory past t (Querying rule) unit_index
   pub responds : (c : PlainChain) (r : FunctionResponse) (xs : Completion) (past : List Transition)
       → IsBeginning (Transition.Respond c r xs ∷ past) ds → IsOver old past c r xs

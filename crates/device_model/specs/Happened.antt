@@ -47,7 +47,7 @@ IsMark t p d = ⊥
 
 -- it looks at a unit, and finds a task
 abbrev pub IsFound : Ticket → Transition → Type 0
-IsFound t (Transition.Ask u place rule b) = (u ≡ t) × (b ≡ true)
+IsFound t (Transition.Ask u unit_index rule b) = (u ≡ t) × (b ≡ true)
 IsFound t d = ⊥
 
 -- a mark of it is refused memory
@@ -57,9 +57,9 @@ IsFail t d = ⊥
 
 -- it marks or looks at this unit
 abbrev pub IsVisit : Ticket → ℕ → Transition → Type 0
-IsVisit t place (Transition.Mark u p m jobs) = (u ≡ t) × (p.unit ≡ place)
-IsVisit t place (Transition.Ask u k rule b) = (u ≡ t) × (k ≡ place)
-IsVisit t place d = ⊥
+IsVisit t unit_index (Transition.Mark u p m jobs) = (u ≡ t) × (p.unit ≡ unit_index)
+IsVisit t unit_index (Transition.Ask u k rule b) = (u ≡ t) × (k ≡ unit_index)
+IsVisit t unit_index d = ⊥
 
 -- a unit is asked for a task that it doesn't have, or is given a ticket before one that it saw
 abbrev pub IsLoss : Transition → Type 0

@@ -50,15 +50,15 @@ Happens (Transition.Defer k x) w = Defers w k x
 Happens Transition.Wake w = Awakens w
 Happens (Transition.Resume k x) w = Resumes w k x
 Happens (Transition.Answer k x o xs) w = Answers w k x o xs
-Happens (Transition.Leave k place t jobs) w = Leaves w k place t jobs
+Happens (Transition.Leave k unit_index t jobs) w = Leaves w k unit_index t jobs
 Happens (Transition.Mark t p m jobs) w = Marks w t p m jobs
-Happens (Transition.Ask t place rule b) w = Asks w t place rule b
+Happens (Transition.Ask t unit_index rule b) w = Asks w t unit_index rule b
 Happens (Transition.MarkRefused t) w = MarksRefused w t
 Happens (Transition.Check t p) w = Checks w t p
 Happens (Transition.Respond c r xs) w = Responds w c r xs
 Happens (Transition.Hard p jobs) w = Resets w p jobs
-Happens (Transition.Resize place blocks) w = Resizes w place blocks
-Happens (Transition.Deal place x) w = Deals w place x
+Happens (Transition.Resize unit_index blocks) w = Resizes w unit_index blocks
+Happens (Transition.Deal unit_index x) w = Deals w unit_index x
 Happens (Transition.Give e c xs) w = Gives w e c xs
 Happens (Transition.Miss e) w = Misses w e
 Happens (Transition.Idle e) w = ⊥
@@ -70,25 +70,25 @@ Errs (Transition.EnterStale x) w = EntersStale w x
 Errs d w = ⊥
 
 -- an event that can do nothing does nothing
-abbrev pub May : Transition → PlainWorld → Type 0
-May (Transition.Idle e) w = (d : Transition) → event_of d ≡ e → Happens d w ⊎ Errs d w → ⊥
-May (Transition.CommitUnknown k x) w = CommitsUnknown w k x
-May (Transition.EnterStale x) w = EntersStale w x
-May d w = Happens d w
+abbrev pub MayHappen : Transition → PlainWorld → Type 0
+MayHappen (Transition.Idle e) w = (d : Transition) → event_of d ≡ e → Happens d w ⊎ Errs d w → ⊥
+MayHappen (Transition.CommitUnknown k x) w = CommitsUnknown w k x
+MayHappen (Transition.EnterStale x) w = EntersStale w x
+MayHappen d w = Happens d w
 
 -- one event and its action
 pub record WorldStep (w : PlainWorld) (e : Event) (a : Action) (w' : PlainWorld) : Type 0 where
   pub transition : Transition
   pub event : event_of transition ≡ e
   pub action : action_of transition ≡ a
-  pub may : May transition w
+  pub may : MayHappen transition w
   pub is : w' ≡ after transition w
 
 -- memory may be refused to these events alone; nothing is changed then
 abbrev pub MayWant : Event → PlainWorld → Type 0
 MayWant (Event.Fetch i) w = WantsFetch w i
-MayWant (Event.Hard place) w = (u : PlainUnit) × UnitIs w place u
-MayWant (Event.Resize place blocks) w = (u : PlainUnit) × UnitIs w place u × MayStep u (Step.Resize blocks)
+MayWant (Event.Hard unit_index) w = (u : PlainUnit) × UnitIs w unit_index u
+MayWant (Event.Resize unit_index blocks) w = (u : PlainUnit) × UnitIs w unit_index u × MayStep u (Step.Resize blocks)
 MayWant e w = ⊥
 
 -- an event and its action
@@ -122,4 +122,4 @@ world_of old (d ∷ past) = after d (world_of old past)
 -- each transition might happen in the world before it
 abbrev pub Leads : PlainWorld → List Transition → Type 0
 Leads old [] = ⊤
-Leads old (d ∷ past) = Leads old past × May d (world_of old past)
+Leads old (d ∷ past) = Leads old past × MayHappen d (world_of old past)

@@ -64,7 +64,7 @@ abbrev pub in_hand : (PlainJob → ℕ) → Hand → ℕ
 in_hand p Hand.Empty = 0
 in_hand p (Hand.Taken x) = p x
 in_hand p (Hand.Done x o) = p x
-in_hand p (Hand.Answered place t) = 0
+in_hand p (Hand.Answered unit_index t) = 0
 
 abbrev pub at_seat : (PlainJob → ℕ) → Seat → ℕ
 at_seat p s = in_hand p s.hand + sum_by p s.out
@@ -75,7 +75,7 @@ jobs_out p w = sum_by (at_seat p) w.seats + sum_by p (all_off w) + sum_by p w.as
 -- the jobs that a transition brings from a unit, or ends
 abbrev pub brings : Transition → List PlainJob
 brings (Transition.Run x) = x ∷ []
-brings (Transition.Leave k place t jobs) = jobs
+brings (Transition.Leave k unit_index t jobs) = jobs
 brings (Transition.Mark t p m jobs) = jobs
 brings (Transition.Hard p jobs) = jobs
 brings d = []

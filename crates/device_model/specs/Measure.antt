@@ -67,20 +67,20 @@ roused w d = length (rouses w d)
 -- deal 1
 abbrev pub pays : Transition → ℕ
 pays (Transition.Mark t p m jobs) = 2
-pays (Transition.Ask t place rule b) = 2
+pays (Transition.Ask t unit_index rule b) = 2
 pays (Transition.MarkRefused t) = 2
 pays (Transition.Hard p jobs) = 2
-pays (Transition.Resize place blocks) = 2
+pays (Transition.Resize unit_index blocks) = 2
 pays (Transition.Poke x) = 1
 pays Transition.Wake = 1
-pays (Transition.Deal place x) = 1
+pays (Transition.Deal unit_index x) = 1
 pays d = fetches price d
 
 abbrev pub if_answered : Hand → ℕ
 if_answered Hand.Empty = 0
 if_answered (Hand.Taken x) = 0
 if_answered (Hand.Done x o) = 0
-if_answered (Hand.Answered place t) = 1
+if_answered (Hand.Answered unit_index t) = 1
 
 -- 1 for a seat whose task was answered, and is to leave
 abbrev pub answered_hand : Seat → ℕ

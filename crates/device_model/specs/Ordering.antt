@@ -15,8 +15,8 @@ StandsBefore a b h = StandsOn b (Stands a) h
 -- of two commands that one unit ran, where the second was fetched after the first was answered, the first ran first
 abbrev pub AreInOrder : List Transition → Type 0
 AreInOrder ds =
-    (first : Ticket) (second : PlainFetch) (d : Transition) (past : List Transition) (place : ℕ) (r q : PlainReply)
+    (first : Ticket) (second : PlainFetch) (d : Transition) (past : List Transition) (unit_index : ℕ) (r q : PlainReply)
     → IsBeginning (d ∷ past) ds → IsFetch second d → Happened (IsAnswer first) past
-    → Stands (Step.Commit first r) (history_of place ds)
-    → Stands (Step.Commit (ticket_of second) q) (history_of place ds)
-    → StandsBefore (Step.Commit first r) (Step.Commit (ticket_of second) q) (history_of place ds)
+    → Stands (Step.Commit first r) (history_of unit_index ds)
+    → Stands (Step.Commit (ticket_of second) q) (history_of unit_index ds)
+    → StandsBefore (Step.Commit first r) (Step.Commit (ticket_of second) q) (history_of unit_index ds)

@@ -52,13 +52,13 @@ unit_of (Transition.Commit k x r) = Some x.unit
 unit_of (Transition.CommitBusy k x) = Some x.unit
 unit_of (Transition.CommitAborted k x why) = Some x.unit
 unit_of (Transition.Defer k x) = Some x.unit
-unit_of (Transition.Leave k place t jobs) = Some place
+unit_of (Transition.Leave k unit_index t jobs) = Some unit_index
 unit_of (Transition.Mark t p m jobs) = Some p.unit
-unit_of (Transition.Ask t place rule b) = Some place
+unit_of (Transition.Ask t unit_index rule b) = Some unit_index
 unit_of (Transition.Check t p) = Some p.unit
 unit_of (Transition.Hard p jobs) = Some p.unit
-unit_of (Transition.Resize place blocks) = Some place
-unit_of (Transition.Deal place x) = Some place
+unit_of (Transition.Resize unit_index blocks) = Some unit_index
+unit_of (Transition.Deal unit_index x) = Some unit_index
 unit_of d = None
 
 -- what it asks of the unit
@@ -79,13 +79,13 @@ AsksUnit (Transition.CommitAborted k x why) u =
 AsksUnit (Transition.CommitUnknown k x) u = CannotCommit (task_of x.entry.ticket (alive u.steps)) x u.steps
 AsksUnit (Transition.Defer k x) u =
     (e : Entry) × history.IsReady x.entry.ticket e u.steps × (may_wait u e.command ≡ true)
-AsksUnit (Transition.Leave k place t jobs) u = MayStep u (Step.Leave t) × (jobs ≡ handed_out u (Step.Leave t))
+AsksUnit (Transition.Leave k unit_index t jobs) u = MayStep u (Step.Leave t) × (jobs ≡ handed_out u (Step.Leave t))
 AsksUnit (Transition.Mark t p m jobs) u = (p.place ≡ length u.steps) × (jobs ≡ handed_out u (step_by m))
-AsksUnit (Transition.Ask t place rule b) u = b ≡ any_met rule (alive u.steps)
+AsksUnit (Transition.Ask t unit_index rule b) u = b ≡ any_met rule (alive u.steps)
 AsksUnit (Transition.Check t p) u = is_clear p.place u.steps ≡ true
 AsksUnit (Transition.Hard p jobs) u = (p.place ≡ length u.steps) × (jobs ≡ handed_out u (Step.Reset hard_code))
-AsksUnit (Transition.Resize place blocks) u = MayStep u (Step.Resize blocks)
-AsksUnit (Transition.Deal place x) u = MayDeal u x
+AsksUnit (Transition.Resize unit_index blocks) u = MayStep u (Step.Resize blocks)
+AsksUnit (Transition.Deal unit_index x) u = MayDeal u x
 AsksUnit d u = ⊥
 
 -- and what it leaves
@@ -95,11 +95,11 @@ unit_after (Transition.Park x) u = parking x u
 unit_after (Transition.EnterFull x) u = stepped (Step.Full x.entry.ticket) u
 unit_after (Transition.Commit k x r) u = stepped (Step.Commit x.entry.ticket r) u
 unit_after (Transition.CommitBusy k x) u = stepped (Step.Busy x.entry.ticket) u
-unit_after (Transition.Leave k place t jobs) u = stepped (Step.Leave t) u
+unit_after (Transition.Leave k unit_index t jobs) u = stepped (Step.Leave t) u
 unit_after (Transition.Mark t p m jobs) u = stepped (step_by m) u
 unit_after (Transition.Hard p jobs) u = stepped (Step.Reset hard_code) u
-unit_after (Transition.Resize place blocks) u = stepped (Step.Resize blocks) u
-unit_after (Transition.Deal place x) u = dealing x u
+unit_after (Transition.Resize unit_index blocks) u = stepped (Step.Resize blocks) u
+unit_after (Transition.Deal unit_index x) u = dealing x u
 unit_after d u = u
 
 -- the queue whose lock the transition takes, with the memory's inside it
@@ -165,13 +165,13 @@ bytes_after d m = all_written m (action_of d).writes
 -- What stands outside of the lent part
 
 -- a function with this unit left to mark first
-pub record VisitsNext (w : PlainWorld) (t : Ticket) (place : ℕ) (kind : Kind) : Type 0 where
+pub record VisitsNext (w : PlainWorld) (t : Ticket) (unit_index : ℕ) (kind : Kind) : Type 0 where
   pub opened : Opened
   pub there : w.function ≡ Some opened
   pub of : opened.chain.ticket ≡ t
   pub does : opened.function.kind ≡ kind
   pub later : List ℕ
-  pub left : opened.function.left ≡ place ∷ later
+  pub left : opened.function.left ≡ unit_index ∷ later
 
 pub record IsPort (w : PlainWorld) (e : EventRecord) (c : PlainChain) : Type 0 where
   pub later : List EventRecord
@@ -214,15 +214,15 @@ StandsFor (Transition.Defer k x) w = HasHand w k (Hand.Taken x)
 StandsFor Transition.Wake w = Awakens w
 StandsFor (Transition.Resume k x) w = Resumes w k x
 StandsFor (Transition.Answer k x o xs) w = HasHand w k (Hand.Done x o)
-StandsFor (Transition.Leave k place t jobs) w = HasHand w k (Hand.Answered place t)
+StandsFor (Transition.Leave k unit_index t jobs) w = HasHand w k (Hand.Answered unit_index t)
 StandsFor (Transition.Mark t p m jobs) w = VisitsNext w t p.unit (Marking m) × HasSeat w 0
-StandsFor (Transition.Ask t place rule b) w = VisitsNext w t place (Querying rule)
+StandsFor (Transition.Ask t unit_index rule b) w = VisitsNext w t unit_index (Querying rule)
 StandsFor (Transition.MarkRefused t) w = MarksRefused w t
 StandsFor (Transition.Check t p) w = (later : List Place) × IsWaiting w t (p ∷ later)
 StandsFor (Transition.Respond c r xs) w = (g : IsDone w c) × (r ≡ response_of g.waiting.opened.function)
 StandsFor (Transition.Hard p jobs) w = HasSeat w w.workers
-StandsFor (Transition.Resize place blocks) w = ⊤
-StandsFor (Transition.Deal place x) w = ⊤
+StandsFor (Transition.Resize unit_index blocks) w = ⊤
+StandsFor (Transition.Deal unit_index x) w = ⊤
 StandsFor (Transition.Give e c xs) w = IsPort w e c
 StandsFor (Transition.Miss e) w = Misses w e
 StandsFor (Transition.EnterStale x) w = ⊥

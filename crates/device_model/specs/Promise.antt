@@ -22,7 +22,7 @@ AreLogs w = Everywhere (λ i q. IsLawful i q.ring.log) w.queues
 
 -- an accepted chain stands in one place of the device, or was used once; no other stands anywhere or was used
 pub record StandOnce (w : PlainWorld) : Type 0 where
-  pub place : (t : Ticket) → accepted_count (only t) w ≡ standing_count (only t) w + used_count (only t) w
+  pub stands : (t : Ticket) → accepted_count (only t) w ≡ standing_count (only t) w + used_count (only t) w
   pub once : (t : Ticket) → standing_count (only t) w + used_count (only t) w ≤ 1
 
 -- the trace is that of these transitions, which lead from the opening to the world, each where it may happen

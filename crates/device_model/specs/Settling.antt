@@ -22,7 +22,7 @@ SettlesOf asked w (d ∷ past) =
 -- 1 for a unit that a function visits
 abbrev pub visited : Transition → ℕ
 visited (Transition.Mark t p m jobs) = 1
-visited (Transition.Ask t place rule b) = 1
+visited (Transition.Ask t unit_index rule b) = 1
 visited (Transition.MarkRefused t) = 1
 visited d = 0
 

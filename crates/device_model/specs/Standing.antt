@@ -41,7 +41,7 @@ abbrev pub HandOwns : PlainWorld → Hand → Type 0
 HandOwns w Hand.Empty = ⊤
 HandOwns w (Hand.Taken x) = IsJob w x
 HandOwns w (Hand.Done x o) = IsJob w x
-HandOwns w (Hand.Answered place t) = ⊤
+HandOwns w (Hand.Answered unit_index t) = ⊤
 
 abbrev pub FunctionOwns : PlainWorld → Option Opened → Type 0
 FunctionOwns w None = ⊤
@@ -76,9 +76,9 @@ pub record IsToCommit (w : PlainWorld) (x : PlainJob) : Type 0 where
   pub undone : done x.entry.ticket unit.steps ≡ false
 
 -- a task that is to leave: it is alive in the unit, and is done or was marked
-pub record IsToLeave (w : PlainWorld) (place : ℕ) (t : Ticket) : Type 0 where
+pub record IsToLeave (w : PlainWorld) (unit_index : ℕ) (t : Ticket) : Type 0 where
   pub unit : PlainUnit
-  pub there : UnitIs w place unit
+  pub there : UnitIs w unit_index unit
   pub entry : Entry
   pub alive : task_of t (alive unit.steps) ≡ Some entry
   pub ended : (done t unit.steps || marked t unit.steps) ≡ true
@@ -87,7 +87,7 @@ abbrev pub HandWorks : PlainWorld → Hand → Type 0
 HandWorks w Hand.Empty = ⊤
 HandWorks w (Hand.Taken x) = IsToCommit w x
 HandWorks w (Hand.Done x o) = IsToLeave w x.unit x.entry.ticket
-HandWorks w (Hand.Answered place t) = IsToLeave w place t
+HandWorks w (Hand.Answered unit_index t) = IsToLeave w unit_index t
 
 -- each job that was handed out is that of a task that is alive
 pub record AreAtWork (w : PlainWorld) : Type 0 where
@@ -157,7 +157,7 @@ pub record HaveRoom (w : PlainWorld) : Type 0 where
 abbrev pub FunctionIsThere : ℕ → Option Opened → Type 0
 FunctionIsThere units None = ⊤
 FunctionIsThere units (Some o) =
-    AllByRecursion (λ place. place < units) o.function.left
+    AllByRecursion (λ unit_index. unit_index < units) o.function.left
     × AllByRecursion (λ (p : Place). p.unit < units) o.function.waits
 
 -- the open function is a query that has looked at all its units, and has not checked all of them

@@ -17,28 +17,28 @@ kept_of u = option_map (λ (l : Ledger). (storage_by l).kept) u.storage
 abbrev pub unkept_of : PlainUnit → Option (ℕ → List (List ℕ))
 unkept_of u = option_map (λ (l : Ledger). (storage_by l).unkept) u.storage
 
--- the transition gives the host a page of the unit at a place, or resizes it
+-- the transition gives the host a page of the unit of an index, or resizes it
 abbrev pub gives : ℕ → Transition → Bool
-gives place (Transition.Deal k (Dealing.Give page bytes)) = k == place
-gives place (Transition.Deal k (Dealing.Cut blocks)) = k == place
-gives place (Transition.Resize k blocks) = k == place
-gives place d = false
+gives unit_index (Transition.Deal k (Dealing.Give page bytes)) = k == unit_index
+gives unit_index (Transition.Deal k (Dealing.Cut blocks)) = k == unit_index
+gives unit_index (Transition.Resize k blocks) = k == unit_index
+gives unit_index d = false
 
--- the transition says that the host wrote a page of the unit at a place, or resizes it
+-- the transition says that the host wrote a page of the unit of an index, or resizes it
 abbrev pub keeps : ℕ → Transition → Bool
-keeps place (Transition.Deal k (Dealing.Keep page)) = k == place
-keeps place (Transition.Deal k (Dealing.Cut blocks)) = k == place
-keeps place (Transition.Resize k blocks) = k == place
-keeps place d = false
+keeps unit_index (Transition.Deal k (Dealing.Keep page)) = k == unit_index
+keeps unit_index (Transition.Deal k (Dealing.Cut blocks)) = k == unit_index
+keeps unit_index (Transition.Resize k blocks) = k == unit_index
+keeps unit_index d = false
 
 -- the host's last word of reading page p of a unit's disk is that it can't
 abbrev pub lost_of : ℕ → PlainUnit → Bool
 lost_of p u = unwrap_or (option_map (λ (l : Ledger). is_lost p l) u.storage) false
 
--- the transition says whether the host can read page p of the unit at a place: not one that it lost, but one that it handed
+-- the transition says whether the host can read page p of the unit of an index: not one that it lost, but one that it handed
 -- in, or wrote
 abbrev pub tells : ℕ → ℕ → Transition → Bool
-tells place p (Transition.Deal k (Dealing.Lose page)) = k == place && p == page
-tells place p (Transition.Deal k (Dealing.Load page)) = k == place && p == page
-tells place p (Transition.Deal k (Dealing.Keep page)) = k == place && p == page
-tells place p d = false
+tells unit_index p (Transition.Deal k (Dealing.Lose page)) = k == unit_index && p == page
+tells unit_index p (Transition.Deal k (Dealing.Load page)) = k == unit_index && p == page
+tells unit_index p (Transition.Deal k (Dealing.Keep page)) = k == unit_index && p == page
+tells unit_index p d = false

@@ -27,10 +27,10 @@ IsResume e = ⊥
 abbrev pub IsOwn : Event → Type 0
 IsOwn (Event.Poke x) = ⊥
 IsOwn (Event.Prepare k) = ⊥
-IsOwn (Event.Hard place) = ⊥
-IsOwn (Event.Resize place blocks) = ⊥
+IsOwn (Event.Hard unit_index) = ⊥
+IsOwn (Event.Resize unit_index blocks) = ⊥
 IsOwn Event.Wake = ⊥
-IsOwn (Event.Deal place x) = ⊥
+IsOwn (Event.Deal unit_index x) = ⊥
 IsOwn e = ⊤
 
 -- whoever writes memory wakes each Fetch, since the guest's rings lie there; a job that was put wakes each Take; jobs that
@@ -57,13 +57,13 @@ Wakes w (Transition.Defer k x) e = IsAmong (Event.Put k ∷ Event.Take k ∷ Eve
 Wakes w Transition.Wake e = IsResume e
 Wakes w (Transition.Resume k x) e = IsAmong (Event.Commit k ∷ []) e
 Wakes w (Transition.Answer k x o xs) e = IsFetch e ⊎ IsAmong (Event.Leave k ∷ []) e
-Wakes w (Transition.Leave k place t jobs) e = IsAmong (Event.Put k ∷ Event.Take k ∷ Event.Resume k ∷ Event.Check ∷ []) e
+Wakes w (Transition.Leave k unit_index t jobs) e = IsAmong (Event.Put k ∷ Event.Take k ∷ Event.Resume k ∷ Event.Check ∷ []) e
 Wakes w (Transition.Mark t p m jobs) e = IsResume e ⊎ IsAmong (Event.Put 0 ∷ Event.Check ∷ []) e
-Wakes w (Transition.Ask t place rule b) e = IsAmong (Event.Check ∷ []) e
+Wakes w (Transition.Ask t unit_index rule b) e = IsAmong (Event.Check ∷ []) e
 Wakes w (Transition.MarkRefused t) e = IsAmong (Event.Check ∷ Event.AnswerTmf ∷ []) e
 Wakes w (Transition.Check t p) e = IsAmong (Event.AnswerTmf ∷ []) e
 Wakes w (Transition.Respond c r xs) e = IsFetch e
 Wakes w (Transition.Hard p jobs) e = IsResume e ⊎ IsAmong (Event.Put w.workers ∷ Event.Raise ∷ []) e
-Wakes w (Transition.Resize place blocks) e = IsAmong (Event.Raise ∷ []) e
+Wakes w (Transition.Resize unit_index blocks) e = IsAmong (Event.Raise ∷ []) e
 Wakes w (Transition.Give report c xs) e = IsFetch e
 Wakes w d e = ⊥

@@ -33,7 +33,7 @@ abbrev pub in_hand : Weights → Hand → ℕ
 in_hand f Hand.Empty = 0
 in_hand f (Hand.Taken x) = f.taken x.chain.ticket
 in_hand f (Hand.Done x o) = f.done x.chain.ticket
-in_hand f (Hand.Answered place t) = f.answered t
+in_hand f (Hand.Answered unit_index t) = f.answered t
 
 abbrev pub in_queue : Weights → PlainQueue → ℕ
 in_queue f q = in_slot f q.slot

@@ -96,7 +96,7 @@ pub record IsNewSeat (s : Seat) : Type 0 where
   pub hand : s.hand ≡ Hand.Empty
   pub out : s.out ≡ []
 
--- each unit has what stands in the inventory at its place
+-- each unit has what stands in the inventory at its index
 abbrev pub AreAddressed : PlainWorld → Type 0
 AreAddressed w = Everywhere (IsAddressed w.inventory) w.units
 

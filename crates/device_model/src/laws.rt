@@ -12,7 +12,7 @@ ghost use Rattle.device_model.specs.World.{PlainQueue, PlainWorld, Everywhere, O
 ghost use Rattle.device_model.specs.Events.{Event as AnEvent};
 ghost use Rattle.device_model.specs.Transitions.{Transition, action_of, completion_of, event_of};
 ghost use Rattle.device_model.specs.After.{after};
-ghost use Rattle.device_model.specs.Happens.{Happens, May, Occurrence, Runs, Reached, Leads, transitions_of, occurrence_of, world_of};
+ghost use Rattle.device_model.specs.Happens.{Happens, MayHappen, Occurrence, Runs, Reached, Leads, transitions_of, occurrence_of, world_of};
 ghost use Rattle.device_model.specs.Phases.{Under, unit_of, AsksUnit, unit_after, queue_of, AsksQueue, queue_after, bytes_after, StandsFor, LendsUnit, LendsQueue};
 ghost use Rattle.device_model.specs.Places.{Moves, accepted_count, standing_count, used_count, only, accepted_chains, used_chains};
 ghost use Rattle.device_model.specs.Lawful.{AreNumbered, AreUnits, KeepsParts, AllLieIn};
@@ -126,19 +126,19 @@ pub fn jobs_are_kept()
 /// a seat, the hand-off, the open function or the event buffers. A transition adds the chains that it accepts, takes
 /// away those that it uses, and neither loses nor doubles another.
 ///
-/// - `place`, for a `p` that counts one ticket alone: the places where its chain stands, and the times that it was
+/// - `stands`, for a `p` that counts one ticket alone: the places where its chain stands, and the times that it was
 ///   used, are together the times that it was accepted.
 /// - `once`: that is at most once. So the chain stands in one place until it is used, is used at most once, and stands
 ///   nowhere from then on.
 /// - `chains`, for a `p` that is 1 for each ticket: it counts the chains.
 pub fn each_chain_stands_in_one_place()
-    ensures place { (p : Ticket → ℕ) (old : PlainWorld) (trace : List Occurrence) (w : PlainWorld) →
+    ensures stands { (p : Ticket → ℕ) (old : PlainWorld) (trace : List Occurrence) (w : PlainWorld) →
         Reached old trace w → accepted_count p w ≡ standing_count p w + used_count p w }
     ensures once { (t : Ticket) (old : PlainWorld) (trace : List Occurrence) (w : PlainWorld) →
         Reached old trace w → standing_count (only t) w + used_count (only t) w ≤ 1 }
     ensures chains { (old : PlainWorld) (trace : List Occurrence) (w : PlainWorld) → Reached old trace w →
         accepted_chains w ≡ standing_count (λ t. 1) w + used_chains w }
-    ensures transition { (p : Ticket → ℕ) (w : PlainWorld) (d : Transition) → May d w → Moves p d w (after d w) }
+    ensures transition { (p : Ticket → ℕ) (w : PlainWorld) (d : Transition) → MayHappen d w → Moves p d w (after d w) }
 {}
 
 /// Each queue stands at its own number, in every world that is reached. The chains that it accepted are numbered 0, 1,
@@ -195,13 +195,13 @@ pub fn requests_come_to_their_units()
     ensures { (old : PlainWorld) (trace : List Occurrence) (w : PlainWorld) → Reached old trace w → AreNamedThere w }
 {}
 
-/// Each unit has the address and the profile that stand in the inventory at its place, in every world that is reached. So a function
+/// Each unit has the address and the profile that stand in the inventory at its index, in every world that is reached. So a function
 /// and the operator come to the unit that they name.
 pub fn units_keep_their_addresses()
     ensures { (old : PlainWorld) (trace : List Occurrence) (w : PlainWorld) → Reached old trace w → AreAddressed w }
 {}
 
-/// No seat has more jobs than the units' task sets have places, in every world that is reached. The jobs that a seat
+/// No seat has more jobs than the units' task sets have room for, in every world that is reached. The jobs that a seat
 /// handed off, and that still wait, are no more than there is room for.
 pub fn lists_have_room()
     ensures { (old : PlainWorld) (trace : List Occurrence) (w : PlainWorld) → Reached old trace w → HaveRoom w }
@@ -224,7 +224,7 @@ pub fn queries_are_checked_at_once()
 /// A transition that happens has an event that applies; an event that doesn't apply may do nothing.
 pub fn what_happens_applies()
     ensures applies { (w : PlainWorld) (d : Transition) → Happens d w → Applies w (event_of d) }
-    ensures idle { (w : PlainWorld) (e : AnEvent) → (Applies w e → ⊥) → May (Transition.Idle e) w }
+    ensures idle { (w : PlainWorld) (e : AnEvent) → (Applies w e → ⊥) → MayHappen (Transition.Idle e) w }
 {}
 
 /// A turn of an event is a step of the device, whose action says whether something changed.

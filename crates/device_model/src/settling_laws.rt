@@ -69,7 +69,7 @@ pub fn a_portion_is_a_short_run()
 /// An event of the device itself that applies can be done, in every world that is reached. The unit of a job is there
 /// and knows its task. A list or the slot has room. Each chain that is answered is outstanding in its queue.
 ///
-/// The law leaves out a Fetch, which also asks that memory is one of bytes, and that the queue's table has a place for
+/// The law leaves out a Fetch, which also asks that memory is one of bytes, and that the queue's table has room for
 /// the chain.
 pub fn what_applies_happens()
     ensures { (old : PlainWorld) (trace : List Occurrence) (w : PlainWorld) (e : Event) → Reached old trace w →

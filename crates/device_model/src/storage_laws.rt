@@ -32,22 +32,22 @@ ghost use Rattle.device_model.specs.Storing.{given_of, kept_of, unkept_of, lost_
 /// - `written`: nor once the host said that it wrote it.
 /// - `deals`: a deal changes what its unit's storage has, and nothing else of the unit.
 pub fn a_storage_changes_by_its_host()
-    ensures given { (w : PlainWorld) (d : Transition) (place : ℕ) (u v : PlainUnit) → UnitIs w place u →
-        UnitIs (after d w) place v → gives place d ≡ false → given_of v ≡ given_of u }
-    ensures kept { (w : PlainWorld) (d : Transition) (place : ℕ) (u v : PlainUnit) → UnitIs w place u →
-        UnitIs (after d w) place v → keeps place d ≡ false → kept_of v ≡ kept_of u }
-    ensures unkept { (w : PlainWorld) (d : Transition) (place : ℕ) (u v : PlainUnit) → UnitIs w place u →
-        UnitIs (after d w) place v → gives place d ≡ false → keeps place d ≡ false → unkept_of v ≡ unkept_of u }
-    ensures lost { (w : PlainWorld) (d : Transition) (place p : ℕ) (u v : PlainUnit) → UnitIs w place u →
-        UnitIs (after d w) place v → tells place p d ≡ false → lost_of p v ≡ lost_of p u }
-    ensures unread { (w : PlainWorld) (place p : ℕ) (u v : PlainUnit) → UnitIs w place u →
-        UnitIs (after (Transition.Deal place (Dealing.Lose p)) w) place v → is_backed u ≡ true → lost_of p v ≡ true }
-    ensures read { (w : PlainWorld) (place p : ℕ) (u v : PlainUnit) → UnitIs w place u →
-        UnitIs (after (Transition.Deal place (Dealing.Load p)) w) place v → lost_of p v ≡ false }
-    ensures written { (w : PlainWorld) (place p : ℕ) (u v : PlainUnit) → UnitIs w place u →
-        UnitIs (after (Transition.Deal place (Dealing.Keep p)) w) place v → lost_of p v ≡ false }
-    ensures deals { (w : PlainWorld) (place : ℕ) (x : Dealing) (u : PlainUnit) → UnitIs w place u →
-        UnitIs (after (Transition.Deal place x) w) place (dealing x u) }
+    ensures given { (w : PlainWorld) (d : Transition) (unit_index : ℕ) (u v : PlainUnit) → UnitIs w unit_index u →
+        UnitIs (after d w) unit_index v → gives unit_index d ≡ false → given_of v ≡ given_of u }
+    ensures kept { (w : PlainWorld) (d : Transition) (unit_index : ℕ) (u v : PlainUnit) → UnitIs w unit_index u →
+        UnitIs (after d w) unit_index v → keeps unit_index d ≡ false → kept_of v ≡ kept_of u }
+    ensures unkept { (w : PlainWorld) (d : Transition) (unit_index : ℕ) (u v : PlainUnit) → UnitIs w unit_index u →
+        UnitIs (after d w) unit_index v → gives unit_index d ≡ false → keeps unit_index d ≡ false → unkept_of v ≡ unkept_of u }
+    ensures lost { (w : PlainWorld) (d : Transition) (unit_index p : ℕ) (u v : PlainUnit) → UnitIs w unit_index u →
+        UnitIs (after d w) unit_index v → tells unit_index p d ≡ false → lost_of p v ≡ lost_of p u }
+    ensures unread { (w : PlainWorld) (unit_index p : ℕ) (u v : PlainUnit) → UnitIs w unit_index u →
+        UnitIs (after (Transition.Deal unit_index (Dealing.Lose p)) w) unit_index v → is_backed u ≡ true → lost_of p v ≡ true }
+    ensures read { (w : PlainWorld) (unit_index p : ℕ) (u v : PlainUnit) → UnitIs w unit_index u →
+        UnitIs (after (Transition.Deal unit_index (Dealing.Load p)) w) unit_index v → lost_of p v ≡ false }
+    ensures written { (w : PlainWorld) (unit_index p : ℕ) (u v : PlainUnit) → UnitIs w unit_index u →
+        UnitIs (after (Transition.Deal unit_index (Dealing.Keep p)) w) unit_index v → lost_of p v ≡ false }
+    ensures deals { (w : PlainWorld) (unit_index : ℕ) (x : Dealing) (u : PlainUnit) → UnitIs w unit_index u →
+        UnitIs (after (Transition.Deal unit_index x) w) unit_index (dealing x u) }
 {}
 
 /// A flush ends with GOOD only once the host's storage has what it names: where the command of a SYNCHRONIZE CACHE may run so, a

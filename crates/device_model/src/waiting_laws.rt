@@ -15,7 +15,7 @@ ghost use Rattle.device_model.specs.World.{PlainWorld};
 ghost use Rattle.device_model.specs.Events.{Event};
 ghost use Rattle.device_model.specs.Transitions.{Transition, event_of};
 ghost use Rattle.device_model.specs.After.{after};
-ghost use Rattle.device_model.specs.Happens.{Occurrence, Happens, May, Reached};
+ghost use Rattle.device_model.specs.Happens.{Occurrence, Happens, MayHappen, Reached};
 ghost use Rattle.device_model.specs.Found.{UnitIs, HasHand};
 ghost use Rattle.device_model.specs.Places.{of_chain, of_job, only, accepted_count, used_count};
 ghost use Rattle.device_model.specs.Standing.{AreAside, NoneIsBacked};
@@ -47,9 +47,9 @@ pub fn waiting_changes_only_when()
 /// - `again`: those that are to be tried again are those that were and those that are woken, less those that are taken.
 /// - `worker`: a worker takes each, and never the operator.
 pub fn each_wake_tries_again_once()
-    ensures waits { (p : PlainJob → ℕ) (w : PlainWorld) (d : Transition) → May d w →
+    ensures waits { (p : PlainJob → ℕ) (w : PlainWorld) (d : Transition) → MayHappen d w →
         sum_by p (after d w).aside + sum_by p (rouses w d) ≡ sum_by p w.aside + sum_by p (deferred d) }
-    ensures again { (p : PlainJob → ℕ) (w : PlainWorld) (d : Transition) → May d w →
+    ensures again { (p : PlainJob → ℕ) (w : PlainWorld) (d : Transition) → MayHappen d w →
         sum_by p (after d w).woken + sum_by p (resumed d) ≡ sum_by p w.woken + sum_by p (rouses w d) }
     ensures worker { (w : PlainWorld) (k : ℕ) (x : PlainJob) → Happens (Transition.Resume k x) w → k < w.workers }
     ensures wake { (w : PlainWorld) → rouses w Transition.Wake ≡ w.aside }

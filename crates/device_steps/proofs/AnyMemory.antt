@@ -32,7 +32,7 @@ elsewhere a b w (Event.Commit k) is h = h
 elsewhere a b w (Event.Answer k) is h = h
 elsewhere a b w (Event.Leave k) is h = h
 elsewhere a b w Event.Mark is h =
-    record { opened = h.opened; there = h.there; place = h.place; later = h.later; left = h.left }
+    record { opened = h.opened; there = h.there; unit_index = h.unit_index; later = h.later; left = h.left }
 elsewhere a b w Event.Check is h =
     record {
       opened = h.opened;
@@ -47,9 +47,9 @@ elsewhere a b w Event.Check is h =
     }
 elsewhere a b w Event.AnswerTmf is h =
     record { opened = h.opened; there = h.there; left = h.left; still = h.still }
-elsewhere a b w (Event.Hard place) is h = h
-elsewhere a b w (Event.Resize place blocks) is h = h
-elsewhere a b w (Event.Deal place x) is h = record { unit = h.unit; there = h.there; may = h.may }
+elsewhere a b w (Event.Hard unit_index) is h = h
+elsewhere a b w (Event.Resize unit_index blocks) is h = h
+elsewhere a b w (Event.Deal unit_index x) is h = record { unit = h.unit; there = h.there; may = h.may }
 elsewhere a b w Event.Raise is h = h
 elsewhere a b w Event.Wake is h = record { first = h.first; rest = h.rest; waits = h.waits }
 elsewhere a b w (Event.Resume k) is h =
@@ -68,7 +68,7 @@ start_elsewhere a b w h =
 seats_elsewhere : (a b : List ℕ) (w : PlainWorld) → NoSeat (with_memory a w) → NoSeat (with_memory b w)
 seats_elsewhere a b w h = λ k lt. none_elsewhere a b w (of_seat k) (tt, (tt, (tt, (tt, (tt, (tt, tt)))))) (h k lt)
 
--- so nothing applies before a place, whatever stands in memory
+-- so nothing applies before a point, whatever stands in memory
 before_elsewhere : (a b : List ℕ) (w : PlainWorld) (c : Cursor) → NoneBefore c (with_memory a w) → NoneBefore c (with_memory b w)
 before_elsewhere a b w cursor.Start h = tt
 before_elsewhere a b w (cursor.Direct n) h = (start_elsewhere a b w h.0, h.1)

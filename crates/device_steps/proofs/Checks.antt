@@ -84,8 +84,8 @@ first_turns w f f' [] [] mark u false addressed there left waits first at h = (
       no_first
       (sym waits ∙ ap (λ (o : Opened). o.function.waits) (same (sym there ∙ may.there)) ∙ may.still),
 )
-first_turns w f f' (place ∷ more) waits mark u true addressed there left still first at h = absurd h
-first_turns w f f' (place ∷ more) waits mark u false addressed there left still first at h = (
+first_turns w f f' (unit_index ∷ more) waits mark u true addressed there left still first at h = absurd h
+first_turns w f f' (unit_index ∷ more) waits mark u false addressed there left still first at h = (
   ap (λ o. with_function o w) (ap (λ o. Some o) h ∙ sym there),
   λ may.
       not_empty

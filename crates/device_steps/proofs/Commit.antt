@@ -145,16 +145,16 @@ module _ (w : PlainWorld) (kept : List KeptSeat) (k : ℕ) (x : PlainJob) (jobs 
   done_as d sound is_it does is = absurd is_it
 
 -- the phase takes the event's turn
-pub commits : (w : PlainWorld) (kept : List KeptSeat) (k place : ℕ) (hand : Hand) (jobs : List PlainJob) (limit : ℕ)
+pub commits : (w : PlainWorld) (kept : List KeptSeat) (k unit_index : ℕ) (hand : Hand) (jobs : List PlainJob) (limit : ℕ)
     (u v : PlainUnit) (h : Hand) → IsSound w → w.seats ≡ map seat_of kept
-    → slice_get kept k ≡ Some (record { hand = hand; jobs = jobs; limit = limit }) → committing_unit hand ≡ Some place
-    → slice_get w.units place ≡ Some u → Commits hand u true v h
-    → Turns w (Event.Commit k) true (with_unit_and_seat w place v kept k (record { hand = h; jobs = jobs; limit = limit }))
-commits w kept k place Hand.Empty jobs limit u v h sound seats at unit there c = absurd (nothing unit)
-commits w kept k place (Hand.Done x o) jobs limit u v h sound seats at unit there c = absurd (nothing unit)
-commits w kept k place (Hand.Answered p t) jobs limit u v h sound seats at unit there c = absurd (nothing unit)
-commits w kept k place (Hand.Taken x) jobs limit u v h sound seats at unit there c =
-    let is : x.unit ≡ place = same unit in
+    → slice_get kept k ≡ Some (record { hand = hand; jobs = jobs; limit = limit }) → committing_unit hand ≡ Some unit_index
+    → slice_get w.units unit_index ≡ Some u → Commits hand u true v h
+    → Turns w (Event.Commit k) true (with_unit_and_seat w unit_index v kept k (record { hand = h; jobs = jobs; limit = limit }))
+commits w kept k unit_index Hand.Empty jobs limit u v h sound seats at unit there c = absurd (nothing unit)
+commits w kept k unit_index (Hand.Done x o) jobs limit u v h sound seats at unit there c = absurd (nothing unit)
+commits w kept k unit_index (Hand.Answered p t) jobs limit u v h sound seats at unit there c = absurd (nothing unit)
+commits w kept k unit_index (Hand.Taken x) jobs limit u v h sound seats at unit there c =
+    let is : x.unit ≡ unit_index = same unit in
     let (d, of, does, ends) = c k in
     let done = done_as w kept k x jobs limit u v h seats at
     (ap (λ i. slice_get w.units i) is ∙ there) d sound of does ends in
@@ -162,23 +162,23 @@ commits w kept k place (Hand.Taken x) jobs limit u v h sound seats at unit there
     (with_unit_and_seat w i v kept k (record { hand = h; jobs = jobs; limit = limit }))) is done
 
 -- or puts the job aside
-pub commits_or_defers : (w : PlainWorld) (kept : List KeptSeat) (k place : ℕ) (hand : Hand) (jobs : List PlainJob) (limit : ℕ)
+pub commits_or_defers : (w : PlainWorld) (kept : List KeptSeat) (k unit_index : ℕ) (hand : Hand) (jobs : List PlainJob) (limit : ℕ)
     (u v : PlainUnit) (h : Hand) (places : ℕ) (aside : Jobs) (b : Bool) → IsSound w → w.seats ≡ map seat_of kept
-    → slice_get kept k ≡ Some (record { hand = hand; jobs = jobs; limit = limit }) → committing_unit hand ≡ Some place
-    → slice_get w.units place ≡ Some u → CommitsOrDefers hand u (record { jobs = w.aside; limit = places }) b v h aside
+    → slice_get kept k ≡ Some (record { hand = hand; jobs = jobs; limit = limit }) → committing_unit hand ≡ Some unit_index
+    → slice_get w.units unit_index ≡ Some u → CommitsOrDefers hand u (record { jobs = w.aside; limit = places }) b v h aside
     → Turns w (Event.Commit k) b
-    (with_aside aside.jobs (with_unit_and_seat w place v kept k (record { hand = h; jobs = jobs; limit = limit })))
-commits_or_defers w kept k place Hand.Empty jobs limit u v h places aside b sound seats at unit there c = absurd (nothing unit)
-commits_or_defers w kept k place (Hand.Done x o) jobs limit u v h places aside b sound seats at unit there c = absurd (nothing unit)
-commits_or_defers w kept k place (Hand.Answered p t) jobs limit u v h places aside b sound seats at unit there c =
+    (with_aside aside.jobs (with_unit_and_seat w unit_index v kept k (record { hand = h; jobs = jobs; limit = limit })))
+commits_or_defers w kept k unit_index Hand.Empty jobs limit u v h places aside b sound seats at unit there c = absurd (nothing unit)
+commits_or_defers w kept k unit_index (Hand.Done x o) jobs limit u v h places aside b sound seats at unit there c = absurd (nothing unit)
+commits_or_defers w kept k unit_index (Hand.Answered p t) jobs limit u v h places aside b sound seats at unit there c =
     absurd (nothing unit)
-commits_or_defers w kept k place (Hand.Taken x) jobs limit u v h places aside false sound seats at unit there c = absurd c
-commits_or_defers w kept k place (Hand.Taken x) jobs limit u v h places aside true sound seats at unit there (inl (c, same_jobs)) =
+commits_or_defers w kept k unit_index (Hand.Taken x) jobs limit u v h places aside false sound seats at unit there c = absurd c
+commits_or_defers w kept k unit_index (Hand.Taken x) jobs limit u v h places aside true sound seats at unit there (inl (c, same_jobs)) =
     subst (λ (j : Jobs). Turns w (Event.Commit k) true
-    (with_aside j.jobs (with_unit_and_seat w place v kept k (record { hand = h; jobs = jobs; limit = limit })))) (sym same_jobs)
-    (commits w kept k place (Hand.Taken x) jobs limit u v h sound seats at unit there c)
-commits_or_defers w kept k place (Hand.Taken x) jobs limit u v h places aside true sound seats at unit there (inr c) =
-    let is : x.unit ≡ place = same unit in
+    (with_aside j.jobs (with_unit_and_seat w unit_index v kept k (record { hand = h; jobs = jobs; limit = limit })))) (sym same_jobs)
+    (commits w kept k unit_index (Hand.Taken x) jobs limit u v h sound seats at unit there c)
+commits_or_defers w kept k unit_index (Hand.Taken x) jobs limit u v h places aside true sound seats at unit there (inr c) =
+    let is : x.unit ≡ unit_index = same unit in
     let (does, free, more) = c k in
     subst (λ i. Turns w (Event.Commit k) true
     (with_aside aside.jobs (with_unit_and_seat w i v kept k (record { hand = h; jobs = jobs; limit = limit })))) is

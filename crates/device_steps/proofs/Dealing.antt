@@ -9,7 +9,7 @@ use Rattle.device_steps.specs.Apart.{PlainDevice}
 use Rattle.device_steps.specs.Paging.{HasPage, IsDealt}
 use Rattle.device_steps.proofs.Setting.{unit_change, unit_still}
 
--- The unit at a place, and what it is once it is given back
+-- The unit at an index, and what it is once it is given back
 module _ (d : PlainDevice) (p : ℕ) (u v : PlainUnit) (at : slice_get d.units p ≡ Some u) where
   -- the device with it
   abbrev lent : PlainDevice

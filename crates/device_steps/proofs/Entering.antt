@@ -131,13 +131,13 @@ pub enters : (w : PlainWorld) (kept : List KeptSeat) → w.seats ≡ map seat_of
     → (slot : Slot) (v : PlainUnit) (out : Jobs) (was : Slot) → q.slot ≡ was → arrived_unit was ≡ Some p → (b : Bool)
     → Enters was u (list_of s) b v slot out
     → Turns w (Event.Enter i) b (entered_in w kept i (slotted slot q) p v n (listing out s))
-enters w kept are sound limits i p n q u s n_is q_at u_at s_at slot v out Slot.Empty is place b e =
-    absurd (nothing place)
-enters w kept are sound limits i p n q u s n_is q_at u_at s_at slot v out (Slot.Direct c o) is place b e =
-    absurd (nothing place)
-enters w kept are sound limits i p n q u s n_is q_at u_at s_at slot v out (Slot.Arrived x) is place false e =
+enters w kept are sound limits i p n q u s n_is q_at u_at s_at slot v out Slot.Empty is unit_index b e =
+    absurd (nothing unit_index)
+enters w kept are sound limits i p n q u s n_is q_at u_at s_at slot v out (Slot.Direct c o) is unit_index b e =
+    absurd (nothing unit_index)
+enters w kept are sound limits i p n q u s n_is q_at u_at s_at slot v out (Slot.Arrived x) is unit_index false e =
     absurd (e.0 (has_places w kept n s are sound.room limits s_at))
-enters w kept are sound limits i p n q u s n_is q_at u_at s_at slot v out (Slot.Arrived x) is place true e =
+enters w kept are sound limits i p n q u s n_is q_at u_at s_at slot v out (Slot.Arrived x) is unit_index true e =
     let own : SlotOwns w i (Slot.Arrived x) = subst (λ z. SlotOwns w i z) is (sound.owned.slots i q q_at) in
     let behind : next_number i u.steps ≤ x.entry.ticket.number =
     subst (λ z. next_number i u.steps ≤ front_of z (length q.ring.log.accepted)) is
@@ -145,7 +145,7 @@ enters w kept are sound limits i p n q u s n_is q_at u_at s_at slot v out (Slot.
     let fresh : IsMisdelivered x u → ⊥ =
     λ m.
     elim m [
-      | inl other ↦ other (sound.named x i q u q_at is (ap (λ k. slice_get w.units k) (same place) ∙ u_at))
+      | inl other ↦ other (sound.named x i q u q_at is (ap (λ k. slice_get w.units k) (same unit_index) ∙ u_at))
       | inr late ↦
           let later : x.entry.ticket.number < next_number i u.steps =
           subst (λ k. x.entry.ticket.number < next_number k u.steps) (ap (λ t. t.queue) own.1.ticket ∙ own.0) late in
@@ -154,7 +154,7 @@ enters w kept are sound limits i p n q u s n_is q_at u_at s_at slot v out (Slot.
     (subst₂
     (λ i p. n ≡ owner w.workers i → slice_get w.queues i ≡ Some q → slice_get w.units p ≡ Some u
     → Turns w (Event.Enter i) true (entered_in w kept i (slotted slot q) p v n (listing out s)))
-    own.0 (same place)
+    own.0 (same unit_index)
     (λ n_at queue_at unit_at.
     entered w kept are x q u s n n_at queue_at is unit_at s_at slot v out e.0 e.1 fresh e.2 e.3 e.4))
     n_is q_at u_at

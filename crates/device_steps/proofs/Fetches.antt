@@ -39,7 +39,7 @@ open_at_zero : (w : PlainWorld) (i : ℕ) → i ≡ 0 → w.function ≡ None �
 open_at_zero w zero e h = h
 open_at_zero w (suc i) e h = tt
 
--- a queue stands at its place under any equal number
+-- a queue stands at its index under any equal number
 pub at_number : (w : PlainWorld) (i j : ℕ) (q : PlainQueue) → slice_get w.queues i ≡ Some q → j ≡ i
     → slice_get w.queues j ≡ Some q
 at_number w i j q at e = ap (λ k. slice_get w.queues k) e ∙ at

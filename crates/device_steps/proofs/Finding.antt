@@ -1,4 +1,4 @@
--- The first item of a list that does, from a place on.
+-- The first item of a list that does, from an index on.
 use Rattle.std.proofs.Common.{◌≡◌, ℕ, zero, suc, Bool, true, List, [], ◌∷◌, Some, refl, ap, ◌∙◌}
 use Rattle.std.specs.Prelude.{slice_get, drop, find}
 use Rattle.device_model.proofs.Lists.{nothing, same}

@@ -72,16 +72,16 @@ same_first : {X : Type 0} {x y : X} {xs ys : List X} → x ∷ xs ≡ y ∷ ys �
 same_first e = cc
 
 -- a unit is left to visit
-pub marks : (w : PlainWorld) (o : Opened) (place : ℕ) → w.function ≡ Some o → slice_get o.function.left 0 ≡ Some place
+pub marks : (w : PlainWorld) (o : Opened) (unit_index : ℕ) → w.function ≡ Some o → slice_get o.function.left 0 ≡ Some unit_index
     → NoneApplies w of_function → ⊥
-marks w o place there first none =
-    let l = first_there o.function.left place first in
-    none.1.1.0 (record { opened = o; there = there; place = place; later = l.0; left = l.1 })
+marks w o unit_index there first none =
+    let l = first_there o.function.left unit_index first in
+    none.1.1.0 (record { opened = o; there = there; unit_index = unit_index; later = l.0; left = l.1 })
 
 pub marks_some : (w : PlainWorld) (o : Opened) (r : Option ℕ) → w.function ≡ Some o
     → r ≡ slice_get o.function.left 0 → is_some r ≡ true → NoneApplies w of_function → ⊥
 marks_some w o None there first some = absurd (cc)
-marks_some w o (Some place) there first some = marks w o place there (sym first)
+marks_some w o (Some unit_index) there first some = marks w o unit_index there (sym first)
 
 -- none is left, and no mark is waited for
 pub responds : (w : PlainWorld) (o : Opened) → w.function ≡ Some o → slice_get o.function.left 0 ≡ None
@@ -266,7 +266,7 @@ pub hand_steps : (w : PlainWorld) (k : ℕ) (h : Hand) (jobs : List PlainJob) �
 hand_steps w k Hand.Empty jobs at busy none = busy refl
 hand_steps w k (Hand.Taken x) jobs at busy none = none.1.1.0 (x, (jobs, at))
 hand_steps w k (Hand.Done x o) jobs at busy none = none.1.0 (x, o, (jobs, at))
-hand_steps w k (Hand.Answered place t) jobs at busy none = none.0 (place, t, (jobs, at))
+hand_steps w k (Hand.Answered unit_index t) jobs at busy none = none.0 (unit_index, t, (jobs, at))
 
 pub idle_there : (w : PlainWorld) (k : ℕ) (h : Hand) (jobs : List PlainJob) → SeatIs w k h jobs
     → (h ≡ Hand.Empty) × (jobs ≡ []) → SeatIs w k Hand.Empty []

@@ -30,23 +30,23 @@ use Rattle.device_steps.specs.Kept.{KeptSeat, seat_of}
 use Rattle.device_steps.proofs.Setting.{list_of, listing, unit_change, unit_still, seat_there, seat_more, seat_still, has_places}
 
 -- the list keeps its limit
-limit_of_kind : (inventory : PlainInventory) (f : Opened) (place : ℕ) (kind : Kind) (u : PlainUnit) (out : Jobs) (x : Visited)
-    (v : PlainUnit) (g : Opened) (out' : Jobs) → VisitsUnit inventory f place kind u out x v g out' → out'.limit ≡ out.limit
-limit_of_kind inventory f place (Marking m) u out visited.Marked v g out' h = ap (λ (j : Jobs). j.limit) h.3
-limit_of_kind inventory f place (Marking m) u out visited.Other v g out' h = ap (λ (j : Jobs). j.limit) h.jobs
-limit_of_kind inventory f place (Marking m) u out visited.Nothing v g out' h = absurd h
-limit_of_kind inventory f place (Querying rule) u out visited.Other v g out' (inl h) = ap (λ (j : Jobs). j.limit) h.3
-limit_of_kind inventory f place (Querying rule) u out visited.Other v g out' (inr h) = ap (λ (j : Jobs). j.limit) h.1.jobs
-limit_of_kind inventory f place (Querying rule) u out visited.Marked v g out' h = absurd h
-limit_of_kind inventory f place (Querying rule) u out visited.Nothing v g out' h = absurd h
+limit_of_kind : (inventory : PlainInventory) (f : Opened) (unit_index : ℕ) (kind : Kind) (u : PlainUnit) (out : Jobs) (x : Visited)
+    (v : PlainUnit) (g : Opened) (out' : Jobs) → VisitsUnit inventory f unit_index kind u out x v g out' → out'.limit ≡ out.limit
+limit_of_kind inventory f unit_index (Marking m) u out visited.Marked v g out' h = ap (λ (j : Jobs). j.limit) h.3
+limit_of_kind inventory f unit_index (Marking m) u out visited.Other v g out' h = ap (λ (j : Jobs). j.limit) h.jobs
+limit_of_kind inventory f unit_index (Marking m) u out visited.Nothing v g out' h = absurd h
+limit_of_kind inventory f unit_index (Querying rule) u out visited.Other v g out' (inl h) = ap (λ (j : Jobs). j.limit) h.3
+limit_of_kind inventory f unit_index (Querying rule) u out visited.Other v g out' (inr h) = ap (λ (j : Jobs). j.limit) h.1.jobs
+limit_of_kind inventory f unit_index (Querying rule) u out visited.Marked v g out' h = absurd h
+limit_of_kind inventory f unit_index (Querying rule) u out visited.Nothing v g out' h = absurd h
 
 pub limit_stays : (inventory : PlainInventory) (f : Opened) (left : List ℕ) (u : PlainUnit) (out : Jobs) (x : Visited)
     (v : PlainUnit) (g : Opened) (out' : Jobs) → VisitsNext inventory f left u out x v g out' → out'.limit ≡ out.limit
-limit_stays inventory f (place ∷ later) u out visited.Nothing v g out' h = ap (λ (j : Jobs). j.limit) h.1.jobs
-limit_stays inventory f (place ∷ later) u out visited.Marked v g out' h =
-    limit_of_kind inventory f place f.function.kind u out visited.Marked v g out' h
-limit_stays inventory f (place ∷ later) u out visited.Other v g out' h =
-    limit_of_kind inventory f place f.function.kind u out visited.Other v g out' h
+limit_stays inventory f (unit_index ∷ later) u out visited.Nothing v g out' h = ap (λ (j : Jobs). j.limit) h.1.jobs
+limit_stays inventory f (unit_index ∷ later) u out visited.Marked v g out' h =
+    limit_of_kind inventory f unit_index f.function.kind u out visited.Marked v g out' h
+limit_stays inventory f (unit_index ∷ later) u out visited.Other v g out' h =
+    limit_of_kind inventory f unit_index f.function.kind u out visited.Other v g out' h
 limit_stays inventory f [] u out visited.Nothing v g out' h = ap (λ (j : Jobs). j.limit) h.jobs
 limit_stays inventory f [] u out visited.Marked v g out' h = absurd h
 limit_stays inventory f [] u out visited.Other v g out' h = absurd h
@@ -115,7 +115,7 @@ module _ (w : PlainWorld) (kept : List KeptSeat) (are : w.seats ≡ map seat_of 
   looks (Marking m) is h = (
     Transition.MarkRefused f.chain.ticket,
     refl,
-    record { how = m; place = p; marking = is_marking (Marking m) is },
+    record { how = m; unit_index = p; marking = is_marking (Marking m) is },
     parts_are w _ _ _ _ _ _ (unit_still w.units p u v u_at h.unit) (still h.jobs) (function_to failing h.function),
   )
   looks (Querying rule) is (inr h) = absurd (h.0 (addressed p u u_at))
@@ -139,7 +139,7 @@ visited_in visited.Nothing w = w
 visited_in visited.Marked w = after_wake w
 visited_in visited.Other w = w
 
--- a visit's turn, where the function goes on at the place that was found
+-- a visit's turn, where the function goes on at the index that was found
 visits_at : (w : PlainWorld) (kept : List KeptSeat) → w.seats ≡ map seat_of kept → AreAddressed w
     → (f : Opened) → w.function ≡ Some f → (p : ℕ) (u : PlainUnit) (s : KeptSeat) → slice_get w.units p ≡ Some u
     → slice_get kept 0 ≡ Some s → (v : PlainUnit) (g : Opened) (out : Jobs) (later : List ℕ) → f.function.left ≡ p ∷ later
@@ -159,9 +159,9 @@ pub visits : (w : PlainWorld) (kept : List KeptSeat) → w.seats ≡ map seat_of
     → slice_get left 0 ≡ Some p → (x : Visited) → VisitsNext w.inventory f left u (list_of s) x v g out
     → Turns w Event.Mark (is_visit x) (visited_in x (marked_in w kept p v 0 (listing out s) g))
 visits w kept are room addressed limits f there p u s u_at s_at v g out [] is first x h = absurd (nothing first)
-visits w kept are room addressed limits f there p u s u_at s_at v g out (place ∷ later) is first x h =
+visits w kept are room addressed limits f there p u s u_at s_at v g out (unit_index ∷ later) is first x h =
     subst
     (λ k. slice_get w.units k ≡ Some u → Turns w Event.Mark (is_visit x) (visited_in x (marked_in w kept k v 0 (listing out s) g)))
     (same first)
-    (λ at. visits_at w kept are addressed f there place u s at s_at v g out later is (has_places w kept 0 s are room limits s_at) x h)
+    (λ at. visits_at w kept are addressed f there unit_index u s at s_at v g out later is (has_places w kept 0 s are room limits s_at) x h)
     u_at

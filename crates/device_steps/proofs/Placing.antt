@@ -10,7 +10,7 @@ use Rattle.device_steps.proofs.Setting.{set_change}
 no_truth : false ≡ true → ⊥
 no_truth e = cc
 
--- what a change makes of the item, set at its place, is the change
+-- what a change makes of the item, set at its index, is the change
 pub set_as : {X : Type 0} (g : X → X) (k j : ℕ) (xs : List X) (x y : X) → slice_get xs k ≡ Some x → y ≡ g x → j ≡ k
     → slice_set xs k y ≡ change g j xs
 set_as g k j xs x y at is e =

@@ -34,13 +34,13 @@ seat_set g k kept s t at is =
     ∙ set_change g k (map seat_of kept) (seat_of s) (map_get seat_of k kept s at))
 
 -- the lists are those that they were, where one unit is set and one seat with the limit that it had
-pub keeps_unit : {places room : ℕ} (units : List PlainUnit) (kept : List KeptSeat) (k place : ℕ) (u : PlainUnit)
+pub keeps_unit : {places room : ℕ} (units : List PlainUnit) (kept : List KeptSeat) (k unit_index : ℕ) (u : PlainUnit)
     (s t : KeptSeat) → slice_get kept k ≡ Some s → t.limit ≡ s.limit
-    → HasLists units kept places room → HasLists (slice_set units place u) (slice_set kept k t) places room
-keeps_unit units kept k place u s t at same_limit h =
-    let size = length_set place units u in
+    → HasLists units kept places room → HasLists (slice_set units unit_index u) (slice_set kept k t) places room
+keeps_unit units kept k unit_index u s t at same_limit h =
+    let size = length_set unit_index units u in
     record {
-      limits = everywhere_set (λ (z : KeptSeat). z.limit ≡ 64 * length (slice_set units place u) + 64) k kept t
+      limits = everywhere_set (λ (z : KeptSeat). z.limit ≡ 64 * length (slice_set units unit_index u) + 64) k kept t
           (λ i z e. h.limits i z e ∙ ap (λ n. 64 * n + 64) (sym size))
           (same_limit ∙ (h.limits k s at ∙ ap (λ n. 64 * n + 64) (sym size)));
       aside = h.aside ∙ ap (λ n. 64 * n + 64) (sym size);
@@ -52,7 +52,7 @@ pub found : {X : Type 0} (xs : List X) (n k : ℕ) (x y : X) → n ≡ length xs
     → slice_get xs k ≡ Some x
 found xs n k x y size within read is = slice_get_read xs n k y size within read ∙ ap (λ z. Some z) (sym is)
 
--- what stands at one place of a list is one
+-- what stands at one index of a list is one
 pub one_there : {X : Type 0} (xs : List X) (k : ℕ) (x y : X) → slice_get xs k ≡ Some x → slice_get xs k ≡ Some y → x ≡ y
 one_there xs k x y e f = same (sym e ∙ f)
 
@@ -63,8 +63,8 @@ shown w kept k s seats at = ap (λ (zs : List Seat). slice_get zs k) seats ∙ m
 
 -- the device with a unit set, and a seat
 abbrev pub with_unit_and_seat : PlainWorld → ℕ → PlainUnit → List KeptSeat → ℕ → KeptSeat → PlainWorld
-with_unit_and_seat w place u kept k s =
-    record w { units = slice_set w.units place u; seats = map seat_of (slice_set kept k s) }
+with_unit_and_seat w unit_index u kept k s =
+    record w { units = slice_set w.units unit_index u; seats = map seat_of (slice_set kept k s) }
 
 -- the device is one where its seats and its units are
 pub moved : (w : PlainWorld) (seats seats' : List Seat) (units units' : List PlainUnit) → seats ≡ seats' → units ≡ units'
@@ -74,15 +74,15 @@ moved w seats seats' units units' es eu =
     ∙ ap (λ (z : List PlainUnit). record w { seats = seats'; units = z }) eu
 
 -- to set what is there is to change nothing
-pub unit_stays : (w : PlainWorld) (kept : List KeptSeat) (k place : ℕ) (s t : KeptSeat) (u v : PlainUnit)
-    → w.seats ≡ map seat_of kept → slice_get kept k ≡ Some s → slice_get w.units place ≡ Some u → t ≡ s → v ≡ u
-    → with_unit_and_seat w place v kept k t ≡ w
-unit_stays w kept k place s t u v seats at there ts vu =
+pub unit_stays : (w : PlainWorld) (kept : List KeptSeat) (k unit_index : ℕ) (s t : KeptSeat) (u v : PlainUnit)
+    → w.seats ≡ map seat_of kept → slice_get kept k ≡ Some s → slice_get w.units unit_index ≡ Some u → t ≡ s → v ≡ u
+    → with_unit_and_seat w unit_index v kept k t ≡ w
+unit_stays w kept k unit_index s t u v seats at there ts vu =
     let es : map seat_of (slice_set kept k t) ≡ w.seats =
     ap (λ (z : KeptSeat). map seat_of (slice_set kept k z)) ts
     ∙ (ap (λ (zs : List KeptSeat). map seat_of zs) (set_same k kept s at) ∙ sym seats) in
-    let eu : slice_set w.units place v ≡ w.units =
-    ap (λ (z : PlainUnit). slice_set w.units place z) vu ∙ set_same place w.units u there in
+    let eu : slice_set w.units unit_index v ≡ w.units =
+    ap (λ (z : PlainUnit). slice_set w.units unit_index z) vu ∙ set_same unit_index w.units u there in
     moved w _ _ _ _ es eu
 
 -- the device with memory, a queue and a seat set

@@ -90,21 +90,21 @@ pub leave_there : (w : PlainWorld) (k : ℕ) (h : Hand) → HasHand w k h → st
 leave_there w k Hand.Empty there is = absurd (cc)
 leave_there w k (Hand.Taken x) there is = absurd (cc)
 leave_there w k (Hand.Done x o) there is = absurd (cc)
-leave_there w k (Hand.Answered place t) there is = (place, t, there)
+leave_there w k (Hand.Answered unit_index t) there is = (unit_index, t, there)
 
 pub answer_there : (w : PlainWorld) (k : ℕ) (h : Hand) → HasHand w k h → stage_of h ≡ stage.Done
     → Applies w (Event.Answer k)
 answer_there w k Hand.Empty there is = absurd (cc)
 answer_there w k (Hand.Taken x) there is = absurd (cc)
 answer_there w k (Hand.Done x o) there is = (x, o, there)
-answer_there w k (Hand.Answered place t) there is = absurd (cc)
+answer_there w k (Hand.Answered unit_index t) there is = absurd (cc)
 
 pub commit_there : (w : PlainWorld) (k : ℕ) (h : Hand) → HasHand w k h → stage_of h ≡ stage.Taken
     → Applies w (Event.Commit k)
 commit_there w k Hand.Empty there is = absurd (cc)
 commit_there w k (Hand.Taken x) there is = (x, there)
 commit_there w k (Hand.Done x o) there is = absurd (cc)
-commit_there w k (Hand.Answered place t) there is = absurd (cc)
+commit_there w k (Hand.Answered unit_index t) there is = absurd (cc)
 
 -- and so it is first where those before it don't apply
 pub leaves_first : (w : PlainWorld) (k : ℕ) (h : Hand) → HasHand w k h → stage_of h ≡ stage.Answered
@@ -142,4 +142,4 @@ pub free_hand : (w : PlainWorld) (k : ℕ) (h : Hand) → HasHand w k h → stag
 free_hand w k Hand.Empty there is = there
 free_hand w k (Hand.Taken x) there is = absurd (cc)
 free_hand w k (Hand.Done x o) there is = absurd (cc)
-free_hand w k (Hand.Answered place t) there is = absurd (cc)
+free_hand w k (Hand.Answered unit_index t) there is = absurd (cc)

@@ -121,7 +121,7 @@ woken w (Transition.Defer k x) e m h =
 woken w (Transition.Resume k x) e m h = among AfterSeat (Event.Commit k ∷ []) e (tt, tt) h
 woken w (Transition.Answer k x o xs) e m (inl h) = fetch_after_seat e h
 woken w (Transition.Answer k x o xs) e m (inr h) = among AfterSeat (Event.Leave k ∷ []) e (tt, tt) h
-woken w (Transition.Leave k place t jobs) e m h =
+woken w (Transition.Leave k unit_index t jobs) e m h =
     among AfterSeat (Event.Put k ∷ Event.Take k ∷ Event.Resume k ∷ Event.Check ∷ []) e (tt, (tt, (tt, (tt, tt)))) h
 woken w (Transition.Idle x) e m h = absurd m
 woken w d e m h = tt

@@ -17,16 +17,16 @@ unit_of units target lun = find (λ u. (u.opening.target == target) && (u.openin
 abbrev pub unit_at : PlainWorld → ℕ → ℕ → Option PlainUnit
 unit_at w target lun = unit_of w.units target lun
 
--- of these units one of the address stands at the place; or none has it
-abbrev pub IsPlaceAmong : List PlainUnit → ℕ → ℕ → Option ℕ → Type 0
-IsPlaceAmong units target lun (Some place) =
-    (u : PlainUnit) × (slice_get units place ≡ Some u) × (u.opening.target ≡ target) × (u.opening.lun ≡ lun)
-IsPlaceAmong units target lun None =
-    (place : ℕ) (u : PlainUnit) → slice_get units place ≡ Some u → u.opening.target ≡ target → u.opening.lun ≡ lun → ⊥
+-- of these units one of the address stands at the index; or none has it
+abbrev pub IsIndexAmong : List PlainUnit → ℕ → ℕ → Option ℕ → Type 0
+IsIndexAmong units target lun (Some unit_index) =
+    (u : PlainUnit) × (slice_get units unit_index ≡ Some u) × (u.opening.target ≡ target) × (u.opening.lun ≡ lun)
+IsIndexAmong units target lun None =
+    (unit_index : ℕ) (u : PlainUnit) → slice_get units unit_index ≡ Some u → u.opening.target ≡ target → u.opening.lun ≡ lun → ⊥
 
--- one of the device's units stands at the place and has the address; or none has it
-abbrev pub IsPlaceOf : PlainWorld → ℕ → ℕ → Option ℕ → Type 0
-IsPlaceOf w target lun place = IsPlaceAmong w.units target lun place
+-- one of the device's units stands at the index and has the address; or none has it
+abbrev pub IsIndexOf : PlainWorld → ℕ → ℕ → Option ℕ → Type 0
+IsIndexOf w target lun unit_index = IsIndexAmong w.units target lun unit_index
 
 -- the fault that broke a queue, if it is there
 abbrev pub fault_of : Option PlainQueue → Option RingFault

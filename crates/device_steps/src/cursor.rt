@@ -1,9 +1,9 @@
-//! The place in the order of service from which to look next.
+//! The point in the order of service from which to look next.
 
 ghost use Rattle.std.specs.Prelude.{◌≡◌, ◌↔◌, IsTrue};
 ghost use Rattle.device_steps.specs.Inner.Cursors.{IsFetchPlace, served_of, direct_from, seat_from, enter_from};
 
-/// A place in the order before which no event applies. A host that serves begins at `Start`, and goes on from where each
+/// A point in the order before which no event applies. A host that serves begins at `Start`, and goes on from where each
 /// turn says.
 #[derive(Clone, Copy)]
 pub enum Cursor {
@@ -22,7 +22,7 @@ pub enum Cursor {
 /// The events that were served, and from where on to look then.
 #[derive(Clone, Copy)]
 pub struct Progress {
-    /// The place from which on to look.
+    /// The point from which on to look.
     pub next: Cursor,
     /// The number of events that were served.
     pub steps: u64,

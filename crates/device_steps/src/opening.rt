@@ -130,7 +130,7 @@ pub fn open_device<M: Memory>(
     )?;
     let jobs_aside = JobsAside::new(alloc, MOST_TASKS * units.len() + MOST_TASKS)?;
     let handed_off = HandedOff::new(alloc, seats.len(), config.handoff as usize)?;
-    // One place more than a queue may have chains outstanding, so that a full port keeps no fault from being found.
+    // Room for one more than a queue may have chains outstanding, so that a full port keeps no fault from being found.
     let Ok(port) = EventPort::new(alloc, MOST_DESCRIPTORS as usize + 1) else {
         return Err(NoMemory);
     };

@@ -17,15 +17,15 @@ impl Device {
         self.jobs_aside.count()
     }
 
-    /// Returns the next page of the disk of the unit at a place that the host is to read, 8 blocks each, and counts it as
+    /// Returns the next page of the disk of the unit at an index that the host is to read, 8 blocks each, and counts it as
     /// asked for. The host hands it in by [`Device::load`], or says that it doesn't by [`Device::load_failed`], or that it can't
     /// by [`Device::lost`]. `None` where no command waits for a page that the host wasn't asked for, where the disk isn't
     /// backed, or where there is no such unit.
-    pub fn next_wanted(&mut self, place: u16) -> Option<u64>
+    pub fn next_wanted(&mut self, unit_index: u16) -> Option<u64>
         ensures same { self.new ≡ self.old }
-        ensures page { IfSome result (λ page. HasPage self.old.units place page) }
+        ensures page { IfSome result (λ page. HasPage self.old.units unit_index page) }
     {
-        let at = place as usize;
+        let at = unit_index as usize;
         if at >= self.units.len() {
             return None;
         }
@@ -36,15 +36,15 @@ impl Device {
     /// memory; then the page isn't lost any longer, and a Wake has the commands that wait tried again. A host that is given
     /// the page meanwhile says [`Device::load_failed`] in place of this. `NoMemory` where memory was refused; the page may be
     /// handed in again.
-    pub fn load(&mut self, place: u16, page: u64, bytes: &[u8]) -> Result<bool, NoMemory>
+    pub fn load(&mut self, unit_index: u16, page: u64, bytes: &[u8]) -> Result<bool, NoMemory>
         requires len { length bytes.now ≡ PAGE_BYTES }
         // The premise: the storage gives back what it kept, or had at the opening.
-        requires kept { IsKeptPage self.old.units place page bytes.now }
-        ensures loaded { IfOk result (λ done. IsTrue done → IsDealt self.old place (Dealing.Load page) self.new) }
+        requires kept { IsKeptPage self.old.units unit_index page bytes.now }
+        ensures loaded { IfOk result (λ done. IsTrue done → IsDealt self.old unit_index (Dealing.Load page) self.new) }
         ensures otherwise { IfOk result (λ done. IsFalse done → self.new ≡ self.old) }
         ensures err { OnErr result (self.new ≡ self.old) }
     {
-        let at = place as usize;
+        let at = unit_index as usize;
         if at >= self.units.len() {
             return Ok(false);
         }
@@ -52,10 +52,10 @@ impl Device {
     }
 
     /// Notes that the host won't hand in a page that it was asked for. Returns true if a command may wait for it.
-    pub fn load_failed(&mut self, place: u16, page: u64) -> bool
+    pub fn load_failed(&mut self, unit_index: u16, page: u64) -> bool
         ensures same { self.new ≡ self.old }
     {
-        let at = place as usize;
+        let at = unit_index as usize;
         if at >= self.units.len() {
             return false;
         }
@@ -64,29 +64,29 @@ impl Device {
 
     /// Notes that the host's storage can't read a page that the host was asked for. Returns true if a command may wait for it:
     /// then a Wake has those that wait tried again, and one that needs the page ends with MEDIUM ERROR.
-    pub fn lost(&mut self, place: u16, page: u64) -> bool
-        ensures lost { IsTrue result → IsDealt self.old place (Dealing.Lose page) self.new }
+    pub fn lost(&mut self, unit_index: u16, page: u64) -> bool
+        ensures lost { IsTrue result → IsDealt self.old unit_index (Dealing.Lose page) self.new }
         ensures otherwise { IsFalse result → self.new ≡ self.old }
     {
-        let at = place as usize;
+        let at = unit_index as usize;
         if at >= self.units.len() {
             return false;
         }
         self.units[at].lost(page)
     }
 
-    /// Gives the host the next page that it is to write to the storage of the unit at a place, as the unit's blocks are now.
+    /// Gives the host the next page that it is to write to the storage of the unit at an index, as the unit's blocks are now.
     /// The host says by [`Device::written`] what became of it. `None` where it has each such page already. Then a Wake has
     /// the commands that wait tried again, since room that was made for a change and isn't used is free. `NoMemory` where
     /// memory was refused.
-    pub fn give(&mut self, place: u16) -> Result<Option<GivenPage>, NoMemory>
+    pub fn give(&mut self, unit_index: u16) -> Result<Option<GivenPage>, NoMemory>
         ensures given { IfOk result (λ given. IfSome given (λ g.
-            IsDealt self.old place (Dealing.Give g.page g.bytes.items) self.new)) }
+            IsDealt self.old unit_index (Dealing.Give g.page g.bytes.items) self.new)) }
         ensures len { IfOk result (λ given. IfSome given (λ g. length g.bytes.items ≡ PAGE_BYTES)) }
         ensures none { IfOk result (λ given. IfNone given (self.new ≡ self.old)) }
         ensures err { OnErr result (self.new ≡ self.old) }
     {
-        let at = place as usize;
+        let at = unit_index as usize;
         if at >= self.units.len() {
             return Ok(None);
         }
@@ -97,13 +97,13 @@ impl Device {
     /// the write failed, and the page is given again. Returns true if its storage has the page so now: not where no write of
     /// it was under way. Then a Wake has the commands that wait tried again. `NoMemory` where memory was refused:
     /// the host says it again later.
-    pub fn written(&mut self, place: u16, page: u64, kept: bool) -> Result<bool, NoMemory>
+    pub fn written(&mut self, unit_index: u16, page: u64, kept: bool) -> Result<bool, NoMemory>
         ensures told { IfOk result (λ done. IsTrue done → IsTrue kept) }
-        ensures kept { IfOk result (λ done. IsTrue done → IsDealt self.old place (Dealing.Keep page) self.new) }
+        ensures kept { IfOk result (λ done. IsTrue done → IsDealt self.old unit_index (Dealing.Keep page) self.new) }
         ensures otherwise { IfOk result (λ done. IsFalse done → self.new ≡ self.old) }
         ensures err { OnErr result (self.new ≡ self.old) }
     {
-        let at = place as usize;
+        let at = unit_index as usize;
         if at >= self.units.len() {
             return Ok(false);
         }

@@ -100,8 +100,8 @@ impl Device {
         self.take(number)
     }
 
-    /// Takes the first event of the order that applies, from a place on. A host calls it in a phase that wrote nothing yet,
-    /// with room for 60 short reads, and a place before which nothing applies. Returns from where on to look then; `None`
+    /// Takes the first event of the order that applies, from a point on. A host calls it in a phase that wrote nothing yet,
+    /// with room for 60 short reads, and a point before which nothing applies. Returns from where on to look then; `None`
     /// where none applies. `NoMemory` where the first that applies was refused memory. What was stored are the writes of what
     /// was done.
     ///
@@ -507,13 +507,13 @@ impl Device {
             Ok(Taken::Nothing) => Ok(None),
             Ok(Taken::Other) => Ok(Some(one(Cursor::Start))),
             Ok(Taken::Arrived(arrival)) => {
-                let place = arrival.unit();
-                if place >= self.units.len() {
+                let unit_index = arrival.unit();
+                if unit_index >= self.units.len() {
                     bay.slot = Slot::Arrived(arrival);
                     return Ok(Some(one(Cursor::Start)));
                 }
                 let done = serve_request_in(
-                    &mut self.units[place],
+                    &mut self.units[unit_index],
                     &mut bay.queue,
                     memory,
                     &mut bay.slot,

@@ -216,15 +216,15 @@ impl Device {
         if number < 2 || at >= self.bays.len() {
             return false;
         }
-        let Some(place) = self.bays[at].slot.unit() else {
+        let Some(unit_index) = self.bays[at].slot.unit() else {
             return false;
         };
         let seat = owner(self.workers, number);
-        if place >= self.units.len() || seat >= self.seats.len() {
+        if unit_index >= self.units.len() || seat >= self.seats.len() {
             return false;
         }
         phase_enter(
-            &mut self.units[place],
+            &mut self.units[unit_index],
             &mut self.bays[at].slot,
             &mut self.seats[seat].out,
         )
@@ -310,17 +310,17 @@ impl Device {
         if at >= self.seats.len() {
             return false;
         }
-        let Some(place) = self.seats[at].hand.committing_unit() else {
+        let Some(unit_index) = self.seats[at].hand.committing_unit() else {
             return false;
         };
-        if place >= self.units.len() {
+        if unit_index >= self.units.len() {
             return false;
         }
         if !self.jobs_aside.has_room() {
             return false;
         }
         self.jobs_aside
-            .commit_or_defer(&mut self.units[place], &mut self.seats[at].hand)
+            .commit_or_defer(&mut self.units[unit_index], &mut self.seats[at].hand)
     }
 
     /// Answers the job in a seat's hand. A host calls it for an Answer.
@@ -370,14 +370,14 @@ impl Device {
         if at >= self.seats.len() {
             return false;
         }
-        let Some(place) = self.seats[at].hand.leaving_unit() else {
+        let Some(unit_index) = self.seats[at].hand.leaving_unit() else {
             return false;
         };
-        if place >= self.units.len() {
+        if unit_index >= self.units.len() {
             return false;
         }
         let seat = &mut self.seats[at];
-        phase_leave(&mut self.units[place], &mut seat.hand, &mut seat.out)
+        phase_leave(&mut self.units[unit_index], &mut seat.hand, &mut seat.out)
     }
 
     /// Has the open function mark its next unit, or look at it. A mark has the jobs that wait for pages tried again. A host
@@ -388,14 +388,14 @@ impl Device {
         let Some(open) = &mut self.function else {
             return false;
         };
-        let Some(place) = open.function.next_unit() else {
+        let Some(unit_index) = open.function.next_unit() else {
             return false;
         };
-        if place >= self.units.len() || self.seats.is_empty() {
+        if unit_index >= self.units.len() || self.seats.is_empty() {
             return false;
         }
         match phase_visit(
-            &mut self.units[place],
+            &mut self.units[unit_index],
             &self.inventory,
             open,
             &mut self.seats[0].out,
@@ -433,13 +433,14 @@ impl Device {
         if at >= self.seats.len() {
             return false;
         }
-        let Some(place) = self.seats[at].hand.committing_unit() else {
+        let Some(unit_index) = self.seats[at].hand.committing_unit() else {
             return false;
         };
-        if place >= self.units.len() {
+        if unit_index >= self.units.len() {
             return false;
         }
-        let Some(started) = phase_start_pages(&mut self.units[place], &self.seats[at].hand) else {
+        let Some(started) = phase_start_pages(&mut self.units[unit_index], &self.seats[at].hand)
+        else {
             return false;
         };
         phase_prepare(&mut self.seats[at].hand, started);
@@ -475,11 +476,11 @@ impl Device {
 
     /// Resets a unit for the operator, and has the jobs that wait for pages tried again. A host calls it for a Hard. `NoMemory`
     /// where the step or its event was refused memory.
-    pub fn hard(&mut self, place: u16) -> Result<bool, NoMemory>
+    pub fn hard(&mut self, unit_index: u16) -> Result<bool, NoMemory>
         requires seated { length self.old.seats ≡ self.old.workers + 1 }
-        ensures { TurnsAloneOrWants self.old (AnEvent.Hard place) result self.new }
+        ensures { TurnsAloneOrWants self.old (AnEvent.Hard unit_index) result self.new }
     {
-        let (at, seat) = (place as usize, self.workers as usize);
+        let (at, seat) = (unit_index as usize, self.workers as usize);
         if at >= self.units.len() {
             return Ok(false);
         }
@@ -499,12 +500,12 @@ impl Device {
         Ok(true)
     }
 
-    /// Gives the unit at a place so many blocks; nothing changes where there is none, or no unit may have so many. A host
+    /// Gives the unit at an index so many blocks; nothing changes where there is none, or no unit may have so many. A host
     /// calls it for a Resize. `NoMemory` where the step or its event was refused memory.
-    pub fn resize(&mut self, place: u16, blocks: u64) -> Result<bool, NoMemory>
-        ensures { TurnsAloneOrWants self.old (AnEvent.Resize place blocks) result self.new }
+    pub fn resize(&mut self, unit_index: u16, blocks: u64) -> Result<bool, NoMemory>
+        ensures { TurnsAloneOrWants self.old (AnEvent.Resize unit_index blocks) result self.new }
     {
-        let at = place as usize;
+        let at = unit_index as usize;
         if at >= self.units.len() {
             return Ok(false);
         }
@@ -617,8 +618,8 @@ impl Device {
             Event::Mark => Ok(self.mark()),
             Event::Check => Ok(self.check()),
             Event::AnswerTmf => Ok(self.answer_tmf_in(memory)),
-            Event::Hard(place) => self.hard(*place),
-            Event::Resize(place, blocks) => self.resize(*place, *blocks),
+            Event::Hard(unit_index) => self.hard(*unit_index),
+            Event::Resize(unit_index, blocks) => self.resize(*unit_index, *blocks),
             Event::Raise => Ok(self.raise_in(memory)),
             Event::Wake => Ok(self.wake()),
             Event::Resume(seat) => Ok(self.resume(*seat)),

@@ -32,7 +32,7 @@ fn has_address(unit: &UnitState, target: u8, lun: u16) -> bool
 impl Device {
     ghost use Rattle.device_model.specs.World.{Everywhere};
     ghost use Rattle.device_model.specs.Lawful.{IsNumbered};
-    ghost use Rattle.device_steps.specs.Views.{unit_of, IsPlaceAmong, fault_of, status_of, GivesBlocks, GivesChanges};
+    ghost use Rattle.device_steps.specs.Views.{unit_of, IsIndexAmong, fault_of, status_of, GivesBlocks, GivesChanges};
     ghost use Rattle.device_steps.specs.Inner.Views.{FindsUnit};
 
     /// Returns how many queues there are.
@@ -109,14 +109,14 @@ impl Device {
         }
     }
 
-    /// Returns the place of the unit of an address.
-    pub fn place(&self, target: u8, lun: u16) -> Option<u16>
+    /// Returns the index of the unit of an address.
+    pub fn unit_index(&self, target: u8, lun: u16) -> Option<u16>
         requires few { length self.now.units ≤ 64 }
-        ensures { IsPlaceAmong self.now.units target lun result }
+        ensures { IsIndexAmong self.now.units target lun result }
     {
-        for place in 0..self.units.len() {
-            if has_address(&self.units[place], target, lun) {
-                return Some(place as u16);
+        for unit_index in 0..self.units.len() {
+            if has_address(&self.units[unit_index], target, lun) {
+                return Some(unit_index as u16);
             }
         }
         None
@@ -126,9 +126,9 @@ impl Device {
     fn unit_place(&self, target: u8, lun: u16) -> Option<usize>
         ensures { FindsUnit self.now.units target lun result }
     {
-        for place in 0..self.units.len() {
-            if has_address(&self.units[place], target, lun) {
-                return Some(place);
+        for unit_index in 0..self.units.len() {
+            if has_address(&self.units[unit_index], target, lun) {
+                return Some(unit_index);
             }
         }
         None
@@ -169,7 +169,7 @@ impl Device {
         ensures changes { GivesChanges (unit_of self.old.units target lun) result }
     {
         match self.unit_place(target, lun) {
-            Some(place) => Some(self.units[place].take_changes()),
+            Some(unit_index) => Some(self.units[unit_index].take_changes()),
             None => None,
         }
     }

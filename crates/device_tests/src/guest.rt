@@ -129,16 +129,16 @@ fn put_descriptor(
 /// number, and of these the second alone where the device reads nothing of it.
 pub(crate) fn send(world: &mut World, number: u8, sent: Sent) -> bool {
     let area = 4096 * u64::from(sent.queue);
-    let place = u64::from(place_of(sent.queue, number));
+    let addr = u64::from(place_of(sent.queue, number));
     let slot = 2 * u16::from(number);
     let head = if sent.readable == 0 { slot + 1 } else { slot };
-    poke(world, place, sent.bytes)
-        && put_descriptor(world, sent.queue, slot, place, sent.readable, NEXT)
+    poke(world, addr, sent.bytes)
+        && put_descriptor(world, sent.queue, slot, addr, sent.readable, NEXT)
         && put_descriptor(
             world,
             sent.queue,
             slot + 1,
-            place + RESPONSE,
+            addr + RESPONSE,
             sent.writable,
             WRITE,
         )

@@ -46,7 +46,7 @@ fn event(alloc: Global, named: Move) -> Result<Event, NoMemory> {
         Move::Mark => Event::Mark,
         Move::Check => Event::Check,
         Move::AnswerTmf => Event::AnswerTmf,
-        Move::Hard(place) => Event::Hard(place),
+        Move::Hard(unit_index) => Event::Hard(unit_index),
         Move::Raise => Event::Raise,
     })
 }
@@ -86,8 +86,8 @@ pub(crate) fn step(alloc: Global, world: &mut World, named: Move) -> Result<bool
     take(world, event(alloc, named)?)
 }
 
-/// Returns the events of the device on a queue and a seat, and the operator's on the unit at a place.
-fn all_of(queue: u16, seat: u16, place: u16) -> [Move; 13] {
+/// Returns the events of the device on a queue and a seat, and the operator's on the unit at an index.
+fn all_of(queue: u16, seat: u16, unit_index: u16) -> [Move; 13] {
     [
         Move::Fetch(queue),
         Move::Enter(queue),
@@ -100,7 +100,7 @@ fn all_of(queue: u16, seat: u16, place: u16) -> [Move; 13] {
         Move::Mark,
         Move::Check,
         Move::AnswerTmf,
-        Move::Hard(place),
+        Move::Hard(unit_index),
         Move::Raise,
     ]
 }
@@ -111,9 +111,9 @@ pub(crate) fn step_all(
     world: &mut World,
     queue: u16,
     seat: u16,
-    place: u16,
+    unit_index: u16,
 ) -> Result<u64, NoMemory> {
-    let moves = all_of(queue, seat, place);
+    let moves = all_of(queue, seat, unit_index);
     let mut count: u64 = 0;
     for number in 0..moves.len() {
         if step(alloc, world, moves[number])? {

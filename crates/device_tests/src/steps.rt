@@ -28,7 +28,7 @@ pub enum Step {
     Event(Move, bool),
     /// Takes these events one after another, of which so many change something.
     Run(&'static [Move], u64),
-    /// Takes each of the device's events on this queue and this seat, and the operator's on the unit at this place.
+    /// Takes each of the device's events on this queue and this seat, and the operator's on the unit at this index.
     /// None changes something.
     Idle(u16, u16, u16),
     /// The device settles in so many steps.
@@ -49,7 +49,7 @@ pub enum Step {
     Block(u8, u64, bool),
     /// The number of blocks of a target's LUN 0.
     Capacity(u8, Option<u64>),
-    /// The place of the unit of a target and a LUN.
+    /// The index of the unit of a target and a LUN.
     Place(u8, u16, Option<u16>),
 }
 
@@ -109,7 +109,7 @@ fn shows(world: &World, step: Step) -> bool {
         Step::Status(status) => world.status() == status,
         Step::Notices(queue, count) => world.notices(queue) == Some(count),
         Step::Capacity(target, blocks) => world.capacity(target, 0) == blocks,
-        Step::Place(target, lun, place) => world.place(target, lun) == place,
+        Step::Place(target, lun, unit_index) => world.unit_index(target, lun) == unit_index,
         _ => false,
     }
 }
@@ -121,7 +121,9 @@ fn takes(alloc: Global, world: &mut World, named: Step) -> Result<bool, NoMemory
         Step::Send(number, sent) => Ok(send(world, number, sent)),
         Step::Event(event, changes) => Ok(step(alloc, world, event)? == changes),
         Step::Run(moves, count) => Ok(run(alloc, world, moves)? == count),
-        Step::Idle(queue, seat, place) => Ok(step_all(alloc, world, queue, seat, place)? == 0),
+        Step::Idle(queue, seat, unit_index) => Ok(
+            step_all(alloc, world, queue, seat, unit_index)? == 0,
+        ),
         Step::Settle(count) => Ok(settle(world)? == count),
         Step::Serve(queues, most, steps, more) => serves(world, queues, most, steps, more),
         Step::Block(target, lba, is_there) => Ok(has_block(alloc, world, target, lba)? == is_there),

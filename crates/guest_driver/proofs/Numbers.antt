@@ -3,7 +3,7 @@ use Rattle.std.proofs.Common.{◌≡◌, ℕ, zero, suc, ◌+◌, ◌*◌, ◌/�
 use Rattle.std.specs.Int.{w16, w32, w64, to_le_bytes}
 use Rattle.std.proofs.lemmas.Nat.{from_le_bytes-to_le_bytes_2, from_le_bytes-to_le_bytes_4, from_le_bytes-to_le_bytes_8}
 
--- the number in the n bytes from place i on
+-- the number in the n bytes from index i on
 abbrev pub number_from : ℕ → ℕ → List ℕ → ℕ
 number_from i zero xs = 0
 number_from i (suc n) xs = get_or xs i 0 + 256 * number_from (suc i) n xs

@@ -95,7 +95,7 @@ enum Open {
 /// The chain of a request or a function, as it was placed in memory.
 #[derive(Clone, Copy)]
 struct Placed {
-    /// The place of its table, if it has one.
+    /// Where its table is, if it has one.
     table: Option<Table>,
     buffers: Buffers,
 }

@@ -11,7 +11,7 @@ use std::alloc::{AllocError, Global};
 /// The most bytes that are written at once, but for a longer item.
 const BLOCK_BYTES: usize = 4096;
 
-/// The place of a buffer in guest memory.
+/// Where a buffer is in guest memory.
 #[derive(Clone, Copy)]
 pub struct Buffer {
     /// The address of its first byte.

@@ -40,7 +40,7 @@ struct OpenChain {
     slots: u16,
 }
 
-/// A place in the ring, with the wrap counter there.
+/// A position in the ring, with the wrap counter there.
 #[derive(Clone, Copy)]
 struct Position {
     slot: u16,
@@ -57,7 +57,7 @@ impl From<RingIndex> for Position {
 }
 
 impl Position {
-    /// Returns the next place in a ring of that size.
+    /// Returns the next position in a ring of that size.
     fn next(self, size: NonZeroU16) -> Position
         ensures { (slots : ℕ) → HasPassed size.value slots self → HasPassed size.value (slots + 1) result }
     {
@@ -166,10 +166,10 @@ impl PackedQueue {
         let Some(id) = self.free_ids.pop_first() else {
             return Err(Stop::Fault(LineFault::QueueFull));
         };
-        let Some(place) = self.open.get_mut(id as usize) else {
+        let Some(entry) = self.open.get_mut(id as usize) else {
             return Err(Stop::Fault(LineFault::QueueFull));
         };
-        *place = Some(OpenChain { key, slots });
+        *entry = Some(OpenChain { key, slots });
         let layout = layout_of(self.queue, self.size.get());
         let first = self.next;
         let at = layout.desc + 16 * u64::from(first.slot);
@@ -224,10 +224,10 @@ impl PackedQueue {
 
     /// Frees the id and the slots of an open chain, and gives the chain.
     fn close(&mut self, id: u16) -> Result<Option<OpenChain>, AllocError> {
-        let Some(place) = self.open.get_mut(id as usize) else {
+        let Some(entry) = self.open.get_mut(id as usize) else {
             return Ok(None);
         };
-        let chain = place.take();
+        let chain = entry.take();
         if let Some(OpenChain { key: _, slots }) = chain {
             self.free_ids.insert(id)?;
             self.free_slots = self.free_slots.saturating_add(slots);

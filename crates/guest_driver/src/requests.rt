@@ -62,7 +62,7 @@ pub enum Chain {
 /// The bytes of a descriptor.
 const DESCRIPTOR_BYTES: u64 = 16;
 
-/// The place of a table of two descriptors in guest memory.
+/// Where a table of two descriptors is in guest memory.
 #[derive(Clone, Copy)]
 pub struct Table {
     at: u64,

@@ -79,10 +79,10 @@ impl SplitQueue {
         let Some(head) = self.free.pop_first() else {
             return Err(Stop::Fault(LineFault::QueueFull));
         };
-        let Some(place) = self.open.get_mut(head as usize) else {
+        let Some(entry) = self.open.get_mut(head as usize) else {
             return Err(Stop::Fault(LineFault::QueueFull));
         };
-        *place = Some(key);
+        *entry = Some(key);
         let layout = layout_of(self.queue, self.size.get());
         let first = match chain {
             Chain::EventBuffer(writable) => descriptor(writable, WRITE, 0),
@@ -135,10 +135,10 @@ impl SplitQueue {
         let Ok(head) = u16::try_from(id) else {
             return Ok(None);
         };
-        let Some(place) = self.open.get_mut(head as usize) else {
+        let Some(entry) = self.open.get_mut(head as usize) else {
             return Ok(None);
         };
-        let key = place.take();
+        let key = entry.take();
         if key.is_some() {
             self.free.insert(head)?;
         }

@@ -227,8 +227,8 @@ impl<C: Ledger + Weighing, D: Ledger> Service<C, D> {
 
     /// Resets a unit for the operator, and tells the guest; where the unit isn't there nothing happens.
     fn hard<R: Wait>(&mut self, rt: &R, unit: Address) -> Result<(), Stop> {
-        if let Some(place) = self.known.place(unit) {
-            match self.host.operator(rt, place) {
+        if let Some(unit_index) = self.known.unit_index(unit) {
+            match self.host.operator(rt, unit_index) {
                 Ok(()) => {}
                 Err(ResetFault::WrongUnit) => return Err(Stop::Fault(LineFault::WrongUnit)),
                 Err(ResetFault::NoMemory) => return Err(Stop::NoMemory),
@@ -239,9 +239,9 @@ impl<C: Ledger + Weighing, D: Ledger> Service<C, D> {
 
     /// Gives a unit so many blocks for the operator; where it isn't there nothing happens.
     fn resize<R: Wait>(&mut self, rt: &R, unit: Address, blocks: u64) -> Result<(), Stop> {
-        if let Some(place) = self.known.place(unit) {
-            match self.host.resize(rt, place, blocks) {
-                Ok(()) => self.known.resize(place, blocks),
+        if let Some(unit_index) = self.known.unit_index(unit) {
+            match self.host.resize(rt, unit_index, blocks) {
+                Ok(()) => self.known.resize(unit_index, blocks),
                 Err(ResizeFault::BadCapacity) => {}
                 Err(ResizeFault::WrongUnit) => return Err(Stop::Fault(LineFault::WrongUnit)),
                 Err(ResizeFault::NoMemory) => return Err(Stop::NoMemory),

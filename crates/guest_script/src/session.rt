@@ -248,9 +248,9 @@ impl<M: Machine> Session<M> {
             Some(tracing) => tracing.order.len(),
             None => 0,
         };
-        for place in 0..count {
+        for index in 0..count {
             let step = match &self.tracing {
-                Some(tracing) => tracing.order.get(place).copied(),
+                Some(tracing) => tracing.order.get(index).copied(),
                 None => None,
             };
             let Some(step) = step else {
@@ -287,9 +287,9 @@ impl<M: Machine> Session<M> {
 
     /// Resets a unit for the operator; where it isn't there nothing happens.
     fn hard<W: Write>(&mut self, unit: Address, out: &mut W) -> Result<(), Stop> {
-        if let Some(place) = self.known.place(unit) {
-            if self.machine.step(Event::Hard(place))? {
-                self.print_step(&Event::Hard(place), out)?;
+        if let Some(unit_index) = self.known.unit_index(unit) {
+            if self.machine.step(Event::Hard(unit_index))? {
+                self.print_step(&Event::Hard(unit_index), out)?;
             }
         }
         Ok(())
@@ -306,18 +306,18 @@ impl<M: Machine> Session<M> {
 
     /// Does what a line of the host says; where the unit isn't there nothing happens.
     fn host(&mut self, line: HostLine) -> Result<(), Stop> {
-        if let Some(place) = self.known.place(line.unit()) {
-            self.machine.host(place, line)?;
+        if let Some(unit_index) = self.known.unit_index(line.unit()) {
+            self.machine.host(unit_index, line)?;
         }
         Ok(())
     }
 
     /// Gives a unit so many blocks for the operator; where it isn't there nothing happens.
     fn resize<W: Write>(&mut self, unit: Address, blocks: u64, out: &mut W) -> Result<(), Stop> {
-        if let Some(place) = self.known.place(unit) {
-            if self.machine.step(Event::Resize(place, blocks))? {
-                self.known.resize(place, blocks);
-                self.print_step(&Event::Resize(place, blocks), out)?;
+        if let Some(unit_index) = self.known.unit_index(unit) {
+            if self.machine.step(Event::Resize(unit_index, blocks))? {
+                self.known.resize(unit_index, blocks);
+                self.print_step(&Event::Resize(unit_index, blocks), out)?;
             }
         }
         Ok(())

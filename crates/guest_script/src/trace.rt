@@ -124,8 +124,8 @@ impl Trace {
 
     /// Returns the unit that took a step since the last look, and that step.
     fn grown<M: Machine>(&mut self, machine: &M, known: &Known) -> Option<(Address, StepKind)> {
-        for (place, seen) in self.steps.iter_mut().enumerate() {
-            let spec = known.units.get(place)?;
+        for (unit_index, seen) in self.steps.iter_mut().enumerate() {
+            let spec = known.units.get(unit_index)?;
             let address = Address {
                 target: spec.target,
                 lun: spec.lun,
@@ -187,7 +187,7 @@ fn is_broken<M: Machine>(machine: &M, event: &Event) -> bool {
 
 /// Prints which event it is, and where.
 fn print_event<W: Write>(out: &mut W, event: &Event) -> Result<(), Stop> {
-    let (word, place) = match event {
+    let (word, label) = match event {
         Event::Poke(_, _) => ("poke", ""),
         Event::Fetch(_) => ("fetch", "queue"),
         Event::Enter(_) => ("enter", "queue"),
@@ -209,7 +209,7 @@ fn print_event<W: Write>(out: &mut W, event: &Event) -> Result<(), Stop> {
     };
     written(write!(out, "trace: {word}"))?;
     match place_of(event) {
-        Some(number) => written(write!(out, " {place}={number}")),
+        Some(number) => written(write!(out, " {label}={number}")),
         None => Ok(()),
     }
 }
@@ -226,10 +226,10 @@ pub(crate) fn print_ask<W: Write>(out: &mut W, queue: u16, notify: Notify) -> Re
 /// Returns the queue or the seat of an event, if it has one.
 fn place_of(event: &Event) -> Option<u16> {
     match event {
-        Event::Fetch(place) | Event::Enter(place) | Event::Direct(place) => Some(*place),
-        Event::Put(place) | Event::Take(place) | Event::Prepare(place) => Some(*place),
-        Event::Resume(place) => Some(*place),
-        Event::Commit(place) | Event::Answer(place) | Event::Leave(place) => Some(*place),
+        Event::Fetch(index) | Event::Enter(index) | Event::Direct(index) => Some(*index),
+        Event::Put(index) | Event::Take(index) | Event::Prepare(index) => Some(*index),
+        Event::Resume(index) => Some(*index),
+        Event::Commit(index) | Event::Answer(index) | Event::Leave(index) => Some(*index),
         _ => None,
     }
 }

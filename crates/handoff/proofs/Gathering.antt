@@ -9,8 +9,8 @@ use Rattle.handoff.specs.declared.rule.View.{View}
 use Rattle.handoff.specs.Moves.{Move}
 use Rattle.handoff.specs.Inner.Moves.{Moves, jobs_of, jobs_by, IsBelow, Fits, AllFit, AreSettled}
 use Rattle.handoff.specs.Inner.Rule.{joined}
-use Rattle.handoff.specs.Places.{PlainPlace}
-use Rattle.handoff.specs.Inner.Places.{knowing}
+use Rattle.handoff.specs.Ends.{PlainEnd}
+use Rattle.handoff.specs.Inner.Ends.{knowing}
 use Rattle.handoff.specs.Seats.{Hub, PlainSeat}
 use Rattle.handoff.specs.Inner.Seats.{AreSeatsFrom, put_at, account_at, view_at, IsSeated, HandedOver}
 use Rattle.handoff.specs.Inner.Lanes.{AreAt, AreChiefs, KnowAll}
@@ -27,27 +27,27 @@ AreBelow n [] = ⊤
 AreBelow n (s ∷ seats) = IsBelow n s.taken × AreBelow n seats
 
 -- the chief of each queue has the accounts of the seats so far, and the rest are to come
-pub record Gathering (hub : Hub) (chiefs : List PlainPlace) (rest all : List PlainSeat) : Type 0 where
-  pub places : AreAt hub chiefs
+pub record Gathering (hub : Hub) (chiefs : List PlainEnd) (rest all : List PlainSeat) : Type 0 where
+  pub ends : AreAt hub chiefs
   pub leads : AreChiefs chiefs
-  pub made : (q : ℕ) (c : PlainPlace) → slice_get chiefs q ≡ Some c → c.knows.made ≡ hub.seats
-  pub so_far : (q : ℕ) (c : PlainPlace) → slice_get chiefs q ≡ Some c → c.knows.accounts ++ column q rest ≡ column q all
+  pub made : (q : ℕ) (c : PlainEnd) → slice_get chiefs q ≡ Some c → c.knows.made ≡ hub.seats
+  pub so_far : (q : ℕ) (c : PlainEnd) → slice_get chiefs q ≡ Some c → c.knows.accounts ++ column q rest ≡ column q all
   pub number : ℕ
   pub next : AreSeatsFrom hub number rest
   pub below : AreBelow hub.seats rest → AreBelow hub.seats all
 
-module _ (hub : Hub) (s : PlainSeat) (rest all : List PlainSeat) (places : List PlainPlace) (h : IsSeated s places)
-    (at : map (λ (p : PlainPlace). p.queue) places ≡ s.queues) where
-  pub gather_start : AreSeatsFrom hub 0 all → all ≡ s ∷ rest → Gathering hub places rest all
+module _ (hub : Hub) (s : PlainSeat) (rest all : List PlainSeat) (ends : List PlainEnd) (h : IsSeated s ends)
+    (at : map (λ (p : PlainEnd). p.queue) ends ≡ s.queues) where
+  pub gather_start : AreSeatsFrom hub 0 all → all ≡ s ∷ rest → Gathering hub ends rest all
   gather_start a e =
       let b : AreSeatsFrom hub 0 (s ∷ rest) = subst (λ ss. AreSeatsFrom hub 0 ss) e a in
       let zero_is : (q : ℕ) → view_at q s ≡ record { accounts = account_at q s ∷ []; is_chief = true; made = s.seats } =
       λ q. rw (eq-eqb s.number 0 b.1) refl in
-      let knows : (q : ℕ) (c : PlainPlace) → slice_get places q ≡ Some c
+      let knows : (q : ℕ) (c : PlainEnd) → slice_get ends q ≡ Some c
       → c.knows ≡ record { accounts = account_at q s ∷ []; is_chief = true; made = s.seats } =
       λ q c there. h.each q c there ∙ zero_is q in
       record {
-        places = at ∙ b.0.queues;
+        ends = at ∙ b.0.queues;
         leads = λ q c there. ap (λ (v : View). v.is_chief) (knows q c there);
         made = λ q c there. ap (λ (v : View). v.made) (knows q c there) ∙ b.0.seats;
         so_far = λ q c there.
@@ -57,42 +57,42 @@ module _ (hub : Hub) (s : PlainSeat) (rest all : List PlainSeat) (places : List 
         below = λ r. subst (λ ss. AreBelow hub.seats ss) (sym e) (subst (λ n. IsBelow n s.taken) b.0.seats h.below, r);
       }
 
-  -- what a chief was that took in a place of this seat
-  found : (chiefs new : List PlainPlace) → AreAt hub chiefs → AreAt hub new → s.queues ≡ hub.queues
-      → ((q : ℕ) (c p : PlainPlace) → slice_get chiefs q ≡ Some c → slice_get places q ≡ Some p
+  -- what a chief was that took in an end of this seat
+  found : (chiefs new : List PlainEnd) → AreAt hub chiefs → AreAt hub new → s.queues ≡ hub.queues
+      → ((q : ℕ) (c p : PlainEnd) → slice_get chiefs q ≡ Some c → slice_get ends q ≡ Some p
       → slice_get new q ≡ Some (knowing (joined c.knows p.knows) c))
-      → (q : ℕ) (c : PlainPlace) → slice_get new q ≡ Some c
-      → (old : PlainPlace) × (p : PlainPlace) × (slice_get chiefs q ≡ Some old) × (p.knows ≡ view_at q s)
+      → (q : ℕ) (c : PlainEnd) → slice_get new q ≡ Some c
+      → (old : PlainEnd) × (p : PlainEnd) × (slice_get chiefs q ≡ Some old) × (p.knows ≡ view_at q s)
       × (c ≡ knowing (joined old.knows p.knows) old)
   found chiefs new a b e joins q c there =
-      let queue = λ (p : PlainPlace). p.queue in
+      let queue = λ (p : PlainEnd). p.queue in
       let lt = slice_get_within new q c there in
       let l = ap length b ∙ ap length (sym a) in
       let m = ap length b ∙ ap length (sym (at ∙ e)) in
       let x = length-map new queue in
       let y = length-map chiefs queue in
-      let z = length-map places queue in
+      let z = length-map ends queue in
       let old = stands_at chiefs q (omega (arith, lt, l, x, y)) in
-      let p = stands_at places q (omega (arith, lt, m, x, z)) in
+      let p = stands_at ends q (omega (arith, lt, m, x, z)) in
       (old.0, p.0, old.1, h.each q p.0 p.1, same (sym there ∙ joins q old.0 p.0 old.1 p.1))
 
   -- one more
-  pub gather_more : (now : List PlainSeat) (chiefs new : List PlainPlace) → Gathering hub chiefs now all → now ≡ s ∷ rest
+  pub gather_more : (now : List PlainSeat) (chiefs new : List PlainEnd) → Gathering hub chiefs now all → now ≡ s ∷ rest
       → AreAt hub new
-      → ((q : ℕ) (c p : PlainPlace) → slice_get chiefs q ≡ Some c → slice_get places q ≡ Some p
+      → ((q : ℕ) (c p : PlainEnd) → slice_get chiefs q ≡ Some c → slice_get ends q ≡ Some p
       → slice_get new q ≡ Some (knowing (joined c.knows p.knows) c))
       → Gathering hub new rest all
   gather_more now chiefs new g e there joins =
       let b : AreSeatsFrom hub g.number (s ∷ rest) = subst (λ ss. AreSeatsFrom hub g.number ss) e g.next in
-      let f = found chiefs new g.places there b.0.queues joins in
+      let f = found chiefs new g.ends there b.0.queues joins in
       record {
-        places = there;
+        ends = there;
         leads = λ q c is.
-            let w = f q c is in ap (λ (x : PlainPlace). x.knows.is_chief) w.4 ∙ g.leads q w.0 w.2;
-        made = λ q c is. let w = f q c is in ap (λ (x : PlainPlace). x.knows.made) w.4 ∙ g.made q w.0 w.2;
+            let w = f q c is in ap (λ (x : PlainEnd). x.knows.is_chief) w.4 ∙ g.leads q w.0 w.2;
+        made = λ q c is. let w = f q c is in ap (λ (x : PlainEnd). x.knows.made) w.4 ∙ g.made q w.0 w.2;
         so_far = λ q c is.
             let w = f q c is in
-            ap (λ (x : PlainPlace). x.knows.accounts ++ column q rest) w.4
+            ap (λ (x : PlainEnd). x.knows.accounts ++ column q rest) w.4
             ∙ ap (λ (v : View). (w.0.knows.accounts ++ v.accounts) ++ column q rest) w.3
             ∙ append_assoc w.0.knows.accounts (account_at q s ∷ []) (column q rest)
             ∙ ap (λ ss. w.0.knows.accounts ++ column q ss) (sym e) ∙ g.so_far q w.0 w.2;
@@ -103,9 +103,9 @@ module _ (hub : Hub) (s : PlainSeat) (rest all : List PlainSeat) (places : List 
       }
 
 -- where none are to come
-module _ (hub : Hub) (chiefs : List PlainPlace) (rest all : List PlainSeat) (g : Gathering hub chiefs rest all)
+module _ (hub : Hub) (chiefs : List PlainEnd) (rest all : List PlainSeat) (g : Gathering hub chiefs rest all)
     (none : rest ≡ []) (count : length all ≡ hub.seats) where
-  pub has_column : (q : ℕ) (c : PlainPlace) → slice_get chiefs q ≡ Some c → c.knows.accounts ≡ column q all
+  pub has_column : (q : ℕ) (c : PlainEnd) → slice_get chiefs q ≡ Some c → c.knows.accounts ≡ column q all
   has_column q c there =
       sym (append-nil c.knows.accounts) ∙ ap (λ ss. c.knows.accounts ++ column q ss) (sym none) ∙ g.so_far q c there
 

@@ -1,4 +1,4 @@
--- A seat at its hand-off: its places are at the queues, and what a call answers says what became of the seat.
+-- A seat at its hand-off: it has an end of each queue, and what a call answers says what became of the seat.
 use Rattle.std.proofs.Common.{◌≡◌, ℕ, ◌<◌, ◌≤◌, List, [], ◌∷◌, Option, None, Some, IfSome, IfNone, Ok, Err, Result, length, map, sym, ap, ◌∙◌, subst, arith, inl, inr}
 use Rattle.std.specs.Prelude.{slice_get, slice_set, OnOk, OnErr, ◌⊎◌}
 use Rattle.unit_model.specs.Jobs.{PlainJob}
@@ -7,26 +7,26 @@ use Rattle.handoff.specs.declared.rule.Account.{Account}
 use Rattle.handoff.specs.declared.rule.View.{View}
 use Rattle.handoff.specs.declared.seat.Taken.{Taken}
 use Rattle.handoff.specs.Inner.Moves.{Balances}
-use Rattle.handoff.specs.Places.{PlainLane, PlainPlace}
+use Rattle.handoff.specs.Ends.{PlainLane, PlainEnd}
 use Rattle.handoff.specs.Seats.{Hub, PlainSeat, IsSeatOf, IsSameSeat, seat_of}
 use Rattle.handoff.specs.Inner.Seats.{putting, taking, account_at, view_at, WasEmpty, TakesNearest}
 use Rattle.handoff.specs.Lanes.{hub_of}
 use Rattle.handoff.specs.Inner.Lanes.{TakesBetween}
 use Rattle.handoff.proofs.Lists.{same, map_get, set_same}
 
-module _ (number capacity : ℕ) (places : List PlainPlace) (taken : List Taken) (lanes : List PlainLane) (s : PlainSeat) (h : Hub)
-    (seat : seat_of number places taken ≡ s) (hub : hub_of capacity lanes ≡ h) (of : IsSeatOf h s) where
-  pub queues_met : map (λ (p : PlainPlace). p.queue) places ≡ map (λ (l : PlainLane). l.queue) lanes
+module _ (number capacity : ℕ) (ends : List PlainEnd) (taken : List Taken) (lanes : List PlainLane) (s : PlainSeat) (h : Hub)
+    (seat : seat_of number ends taken ≡ s) (hub : hub_of capacity lanes ≡ h) (of : IsSeatOf h s) where
+  pub queues_met : map (λ (p : PlainEnd). p.queue) ends ≡ map (λ (l : PlainLane). l.queue) lanes
   queues_met = ap (λ (z : PlainSeat). z.queues) seat ∙ of.queues ∙ sym (ap (λ (z : Hub). z.queues) hub)
 
-  pub count_met : length places ≡ length lanes
+  pub count_met : length ends ≡ length lanes
   count_met = ap (λ (z : PlainSeat). z.seats) seat ∙ of.seats ∙ sym (ap (λ (z : Hub). z.seats) hub)
 
-pub same_queue : (lanes : List PlainLane) (places : List PlainPlace) (q : ℕ) (l : PlainLane) (p : PlainPlace)
-    → map (λ (x : PlainPlace). x.queue) places ≡ map (λ (x : PlainLane). x.queue) lanes → slice_get lanes q ≡ Some l
-    → slice_get places q ≡ Some p → p.queue ≡ l.queue
-same_queue lanes places q l p e at_l at_p =
-    same (sym (map_get (λ (x : PlainPlace). x.queue) places q p at_p) ∙ ap (λ qs. slice_get qs q) e
+pub same_queue : (lanes : List PlainLane) (ends : List PlainEnd) (q : ℕ) (l : PlainLane) (p : PlainEnd)
+    → map (λ (x : PlainEnd). x.queue) ends ≡ map (λ (x : PlainLane). x.queue) lanes → slice_get lanes q ≡ Some l
+    → slice_get ends q ≡ Some p → p.queue ≡ l.queue
+same_queue lanes ends q l p e at_l at_p =
+    same (sym (map_get (λ (x : PlainEnd). x.queue) ends q p at_p) ∙ ap (λ qs. slice_get qs q) e
     ∙ map_get (λ (x : PlainLane). x.queue) lanes q l at_l)
 
 -- What a result says
@@ -69,16 +69,16 @@ same_still old new e =
       seats = ap (λ (z : PlainSeat). z.seats) e;
     }
 
--- a place that is set as it was changes nothing
-pub still : (places : List PlainPlace) (k : ℕ) (p new : PlainPlace) → slice_get places k ≡ Some p → new ≡ p
-    → slice_set places k new ≡ places
-still places k p new at e = ap (λ z. slice_set places k z) e ∙ set_same places k p at
+-- an end that is set as it was changes nothing
+pub still : (ends : List PlainEnd) (k : ℕ) (p new : PlainEnd) → slice_get ends k ≡ Some p → new ≡ p
+    → slice_set ends k new ≡ ends
+still ends k p new at e = ap (λ z. slice_set ends k z) e ∙ set_same ends k p at
 
 pub held_as : (n m : ℕ) (xs ys : List Account) → n ≡ m → xs ≡ ys → Held n (Balances xs) → Held m (Balances ys)
 held_as n m xs ys e f h = subst (λ k. Held k (Balances ys)) e (subst (λ z. Held n (Balances z)) f h)
 
--- what the place of a seat knows is what the seat does
-pub accounts_are : (q : ℕ) (s now : PlainSeat) (p : PlainPlace) → p.knows ≡ view_at q s → s ≡ now
+-- what the end of a seat knows is what the seat does
+pub accounts_are : (q : ℕ) (s now : PlainSeat) (p : PlainEnd) → p.knows ≡ view_at q s → s ≡ now
     → p.knows.accounts ≡ account_at q now ∷ []
 accounts_are q s now p e is = ap (λ (v : View). v.accounts) e ∙ ap (λ (z : PlainSeat). account_at q z ∷ []) is
 

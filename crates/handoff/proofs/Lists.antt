@@ -1,4 +1,4 @@
--- Lists that are read by place.
+-- Lists that are read by index.
 use Rattle.std.proofs.Common.{◌≡◌, ◌≢◌, ℕ, ◌+◌, ◌<◌, zero, suc, List, [], ◌∷◌, ◌++◌, Some, None, length, map, refl, sym, ap, ◌∙◌, arith, ◌⊎◌, inl, inr}
 use Rattle.std.specs.Prelude.{slice_get, slice_set}
 
@@ -66,13 +66,13 @@ map_back f [] k y e = absurd (nothing e)
 map_back f (x ∷ xs) zero y e = (x, refl, same e)
 map_back f (x ∷ xs) (suc k) y e = map_back f xs k y e
 
--- there is an item at each place below the length
+-- there is an item at each index below the length
 pub stands_at : {X : Type 0} (xs : List X) (k : ℕ) → k < length xs → (x : X) × (slice_get xs k ≡ Some x)
 stands_at [] k lt = absurd (omega (arith, lt))
 stands_at (x ∷ xs) zero lt = (x, refl)
 stands_at (x ∷ xs) (suc k) lt = stands_at xs k (omega (arith, lt))
 
--- lists of the same items at each place are one
+-- lists of the same items at each index are one
 pub same_list : {X : Type 0} (xs ys : List X) → length xs ≡ length ys
     → ((k : ℕ) (y : X) → slice_get ys k ≡ Some y → slice_get xs k ≡ Some y) → xs ≡ ys
 same_list [] [] n h = refl

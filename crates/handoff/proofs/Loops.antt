@@ -1,4 +1,4 @@
--- What the loops over a seat's places, and over the chiefs, keep.
+-- What the loops over a seat's ends, and over the chiefs, keep.
 use Rattle.std.proofs.Common.{◌≡◌, ◌≢◌, ℕ, ◌+◌, ◌<◌, ◌≤◌, zero, suc, List, [], ◌∷◌, ◌++◌, Some, length, map, refl, sym, ap, ◌∙◌, subst, arith, inl, inr, ne_eqb, eq-eqb}
 use Rattle.std.proofs.lemmas.List.{length-map, map-append}
 use Rattle.std.specs.Prelude.{slice_get, slice_set, ◌==◌, if◌then◌else◌}
@@ -6,14 +6,14 @@ use Rattle.atomic_table.specs.Seated.{TableId}
 use Rattle.unit_model.specs.Jobs.{PlainJob}
 use Rattle.handoff.specs.Inner.Moves.{AreSettled}
 use Rattle.handoff.specs.Inner.Rule.{joined}
-use Rattle.handoff.specs.Places.{PlainLane, PlainPlace}
-use Rattle.handoff.specs.Inner.Places.{knowing}
+use Rattle.handoff.specs.Ends.{PlainLane, PlainEnd}
+use Rattle.handoff.specs.Inner.Ends.{knowing}
 use Rattle.handoff.specs.Seats.{Hub}
 use Rattle.handoff.specs.Lanes.{hub_of}
-use Rattle.handoff.specs.Inner.Lanes.{AreAt, HaveCapacity, placed, at_each, lead}
+use Rattle.handoff.specs.Inner.Lanes.{AreAt, HaveCapacity, end_of, at_each, lead}
 use Rattle.handoff.proofs.Lists.{nothing, same, get_here, get_else, map_set_same, below_or_at}
 
--- the rest of a list, from a place on
+-- the rest of a list, from an index on
 abbrev pub Follows : {X : Type 0} → List X → ℕ → List X → Type 0
 Follows xs at rest = (j : ℕ) → slice_get xs (at + j) ≡ slice_get rest j
 
@@ -34,37 +34,37 @@ follows_all xs rest e j =
     let on : 0 + j ≡ j = omega arith in
     ap (λ n. slice_get xs n) on ∙ ap (λ l. slice_get l j) (sym e)
 
--- places at the queues of a hand-off
-module _ (h : Hub) (capacity : ℕ) (lanes : List PlainLane) (places : List PlainPlace) (a : AreAt h places)
+-- ends of the queues of a hand-off
+module _ (h : Hub) (capacity : ℕ) (lanes : List PlainLane) (ends : List PlainEnd) (a : AreAt h ends)
     (e : hub_of capacity lanes ≡ h) where
-  pub queues_are : map (λ (p : PlainPlace). p.queue) places ≡ map (λ (l : PlainLane). l.queue) lanes
+  pub queues_are : map (λ (p : PlainEnd). p.queue) ends ≡ map (λ (l : PlainLane). l.queue) lanes
   queues_are = a ∙ sym (ap (λ (z : Hub). z.queues) e)
 
-  pub many_are : length places ≡ length lanes
+  pub many_are : length ends ≡ length lanes
   many_are =
-      let x = length-map places (λ (p : PlainPlace). p.queue) in
+      let x = length-map ends (λ (p : PlainEnd). p.queue) in
       let y = length-map lanes (λ (l : PlainLane). l.queue) in
       let z = ap length queues_are in
       omega (arith, x, y, z)
 
--- the chiefs have taken in the places so far
-pub record Taking (ids : List TableId) (old places chiefs : List PlainPlace) (at : ℕ) (after : List PlainPlace) : Type 0 where
-  pub queues : map (λ (p : PlainPlace). p.queue) chiefs ≡ ids
-  pub rest : Follows places at after
-  pub done : (q : ℕ) (c p : PlainPlace) → q < at → slice_get old q ≡ Some c → slice_get places q ≡ Some p
+-- the chiefs have taken in the ends so far
+pub record Taking (ids : List TableId) (old ends chiefs : List PlainEnd) (at : ℕ) (after : List PlainEnd) : Type 0 where
+  pub queues : map (λ (p : PlainEnd). p.queue) chiefs ≡ ids
+  pub rest : Follows ends at after
+  pub done : (q : ℕ) (c p : PlainEnd) → q < at → slice_get old q ≡ Some c → slice_get ends q ≡ Some p
       → slice_get chiefs q ≡ Some (knowing (joined c.knows p.knows) c)
-  pub todo : (q : ℕ) (c : PlainPlace) → at ≤ q → slice_get old q ≡ Some c → slice_get chiefs q ≡ Some c
+  pub todo : (q : ℕ) (c : PlainEnd) → at ≤ q → slice_get old q ≡ Some c → slice_get chiefs q ≡ Some c
 
-pub take_more : (ids : List TableId) (old places chiefs : List PlainPlace) (at : ℕ) (rest next : List PlainPlace)
-    (chief place new : PlainPlace) → Taking ids old places chiefs at rest → rest ≡ place ∷ next
-    → slice_get chiefs at ≡ Some chief → new ≡ knowing (joined chief.knows place.knows) chief
-    → Taking ids old places (slice_set chiefs at new) (at + 1) next
-take_more ids old places chiefs at rest next chief place new t e there is =
+pub take_more : (ids : List TableId) (old ends chiefs : List PlainEnd) (at : ℕ) (rest next : List PlainEnd)
+    (chief end new : PlainEnd) → Taking ids old ends chiefs at rest → rest ≡ end ∷ next
+    → slice_get chiefs at ≡ Some chief → new ≡ knowing (joined chief.knows end.knows) chief
+    → Taking ids old ends (slice_set chiefs at new) (at + 1) next
+take_more ids old ends chiefs at rest next chief end new t e there is =
     record {
       queues =
-          map_set_same (λ (p : PlainPlace). p.queue) chiefs at chief new there (ap (λ (p : PlainPlace). p.queue) is)
+          map_set_same (λ (p : PlainEnd). p.queue) chiefs at chief new there (ap (λ (p : PlainEnd). p.queue) is)
           ∙ t.queues;
-      rest = follows_next places rest next at place t.rest e;
+      rest = follows_next ends rest next at end t.rest e;
       done = λ q c p lt c_at p_at.
           elim (below_or_at q at lt) [
             | inl less ↦
@@ -73,11 +73,11 @@ take_more ids old places chiefs at rest next chief place new t e there is =
             | inr here ↦
                 let c_is : chief ≡ c =
                 same (sym there ∙ t.todo at c (omega arith) (ap (λ n. slice_get old n) (sym here) ∙ c_at)) in
-                let p_is : place ≡ p =
-                same (sym (follows_first places rest next at place t.rest e) ∙ ap (λ n. slice_get places n) (sym here) ∙ p_at) in
+                let p_is : end ≡ p =
+                same (sym (follows_first ends rest next at end t.rest e) ∙ ap (λ n. slice_get ends n) (sym here) ∙ p_at) in
                 ap (λ n. slice_get (slice_set chiefs at new) n) here ∙ get_here chiefs at chief new there
-                ∙ ap Some (is ∙ ap (λ z. knowing (joined z.knows place.knows) z) c_is
-                ∙ ap (λ (z : PlainPlace). knowing (joined c.knows z.knows) c) p_is)
+                ∙ ap Some (is ∙ ap (λ z. knowing (joined z.knows end.knows) z) c_is
+                ∙ ap (λ (z : PlainEnd). knowing (joined c.knows z.knows) c) p_is)
           ];
       todo = λ q c le c_at.
           let ne : q ≢ at = λ z. omega (arith, le, z) in
@@ -85,12 +85,12 @@ take_more ids old places chiefs at rest next chief place new t e there is =
     }
 
 -- what was learned of the queues so far
-abbrev pub Known : List PlainPlace → ℕ → Type 0
+abbrev pub Known : List PlainEnd → ℕ → Type 0
 Known chiefs at =
     (left : ℕ → List PlainJob)
-    × ((q : ℕ) (c : PlainPlace) → q < at → slice_get chiefs q ≡ Some c → AreSettled c.knows.accounts (left q))
+    × ((q : ℕ) (c : PlainEnd) → q < at → slice_get chiefs q ≡ Some c → AreSettled c.knows.accounts (left q))
 
-pub none_known : (chiefs : List PlainPlace) → Known chiefs 0
+pub none_known : (chiefs : List PlainEnd) → Known chiefs 0
 none_known chiefs = (λ q. [], λ q c lt at. absurd (omega (arith, lt)))
 
 placing : ℕ → List PlainJob → (ℕ → List PlainJob) → ℕ → List PlainJob
@@ -104,7 +104,7 @@ placed_else : (at : ℕ) (jobs : List PlainJob) (left : ℕ → List PlainJob) (
 unfolding placing
 placed_else at jobs left q ne = rw (ne_eqb q at ne) refl
 
-pub more_known : (chiefs : List PlainPlace) (at : ℕ) (chief : PlainPlace) (jobs : List PlainJob) → Known chiefs at
+pub more_known : (chiefs : List PlainEnd) (at : ℕ) (chief : PlainEnd) (jobs : List PlainJob) → Known chiefs at
     → slice_get chiefs at ≡ Some chief → AreSettled chief.knows.accounts jobs → Known chiefs (at + 1)
 more_known chiefs at chief jobs k there learned = (
   placing at jobs k.0,
@@ -116,7 +116,7 @@ more_known chiefs at chief jobs k there learned = (
         | inr here ↦
             let c_is : chief ≡ c = same (sym there ∙ ap (λ n. slice_get chiefs n) (sym here) ∙ c_at) in
             subst (AreSettled c.knows.accounts) (sym (placed_here at jobs k.0 q here))
-            (subst (λ (z : PlainPlace). AreSettled z.knows.accounts jobs) c_is learned)
+            (subst (λ (z : PlainEnd). AreSettled z.knows.accounts jobs) c_is learned)
       ],
 )
 
@@ -128,8 +128,8 @@ capacity_more n [] l h e (suc q) x at = absurd (nothing at)
 capacity_more n (y ∷ lanes) l h e zero x at = h 0 x at
 capacity_more n (y ∷ lanes) l h e (suc q) x at = capacity_more n lanes l (λ i z there. h (suc i) z there) e q x at
 
-pub chiefs_more : (lanes : List PlainLane) (l : PlainLane) (chiefs : List PlainPlace) (p : PlainPlace)
-    → chiefs ≡ at_each (lead 1) lanes → p ≡ placed (lead 1) l → chiefs ++ p ∷ [] ≡ at_each (lead 1) (lanes ++ l ∷ [])
+pub chiefs_more : (lanes : List PlainLane) (l : PlainLane) (chiefs : List PlainEnd) (p : PlainEnd)
+    → chiefs ≡ at_each (lead 1) lanes → p ≡ end_of (lead 1) l → chiefs ++ p ∷ [] ≡ at_each (lead 1) (lanes ++ l ∷ [])
 chiefs_more lanes l chiefs p e is =
     ap (λ cs. cs ++ p ∷ []) e ∙ ap (λ z. at_each (lead 1) lanes ++ z ∷ []) is
-    ∙ sym (map-append (placed (lead 1)) lanes (l ∷ []))
+    ∙ sym (map-append (end_of (lead 1)) lanes (l ∷ []))

@@ -1,6 +1,6 @@
 -- No public clause of the device, of its hosts or of the library for C, and no law, rests on these.
 pub mod Moves
-pub mod Places
+pub mod Ends
 pub mod Rule
 pub mod Seats
 pub mod Lanes

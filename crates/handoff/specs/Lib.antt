@@ -1,5 +1,5 @@
 pub mod Moves
-pub mod Places
+pub mod Ends
 pub mod Seats
 pub mod Lanes
 pub mod Inner

@@ -5,7 +5,7 @@ use Rattle.unit_model.specs.Jobs.{PlainJob}
 use Rattle.handoff.specs.declared.rule.Account.{Account}
 use Rattle.handoff.specs.declared.seat.Taken.{Taken}
 use Rattle.handoff.specs.Moves.{Move, move}
-use Rattle.handoff.specs.Places.{PlainPlace}
+use Rattle.handoff.specs.Ends.{PlainEnd}
 
 -- own: which queues, one for each seat, how many jobs each holds at most, and how many seats there are
 pub record Hub : Type 0 where
@@ -33,7 +33,7 @@ pub record IsSameSeat (old new : PlainSeat) : Type 0 where
   pub number : new.number ≡ old.number
   pub seats : new.seats ≡ old.seats
 
--- What a seat has, whose places stand in the order of the queues
+-- What a seat has, whose ends stand in the order of the queues
 
 abbrev pub move_of : Taken → Move
 move_of t = move t.from t.job.value
@@ -42,16 +42,16 @@ abbrev pub first_put : List Account → List PlainJob
 first_put [] = []
 first_put (a ∷ accounts) = a.put
 
-abbrev pub put_there : Option PlainPlace → List PlainJob
+abbrev pub put_there : Option PlainEnd → List PlainJob
 put_there None = []
 put_there (Some p) = first_put p.knows.accounts
 
-abbrev pub seat_of : ℕ → List PlainPlace → List Taken → PlainSeat
-seat_of number places taken =
+abbrev pub seat_of : ℕ → List PlainEnd → List Taken → PlainSeat
+seat_of number ends taken =
     record {
-      queues = map (λ p. p.queue) places;
+      queues = map (λ p. p.queue) ends;
       number = number;
-      seats = length places;
-      put = put_there (slice_get places number);
+      seats = length ends;
+      put = put_there (slice_get ends number);
       taken = map move_of taken;
     }

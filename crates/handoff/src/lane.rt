@@ -1,4 +1,4 @@
-//! One queue, and the places that seats have at it.
+//! One queue, and the ends that seats have of it.
 
 use crate::rule::{All, InOrder, Puts, Seats, Takes, View};
 use crossbeam_queue::{Pass, RuledArrayQueue};
@@ -16,25 +16,25 @@ pub(crate) struct Lane {
 
 impl Model for Lane {
     ghost use Rattle.crossbeam_queue.specs.Passes.{ruled_capacity};
-    ghost use Rattle.handoff.specs.Places.{PlainLane};
+    ghost use Rattle.handoff.specs.Ends.{PlainLane};
 
     ghost Value = { PlainLane };
 
     ghost view = { λ l. record { queue = l.queue.table.shared.table_id; capacity = ruled_capacity l.queue } };
 }
 
-/// A place at one queue. Clauses see at which one, and what it knows of what was put there and taken.
+/// An end of one queue, for one seat. Clauses see of which one, and what it knows of what was put there and taken.
 #[derive(Drop)]
-pub(crate) struct Place {
+pub(crate) struct LaneEnd {
     pass: Pass<Job, View>,
 }
 
-impl Model for Place {
+impl Model for LaneEnd {
     ghost use Rattle.std.specs.Prelude.{◌≡◌, []};
     ghost use Rattle.crossbeam_queue.specs.Passes.{view as pass_knows};
-    ghost use Rattle.handoff.specs.Places.{PlainPlace};
+    ghost use Rattle.handoff.specs.Ends.{PlainEnd};
 
-    ghost Value = { PlainPlace };
+    ghost Value = { PlainEnd };
 
     ghost view = { λ p. record { queue = p.pass.table_id; knows = pass_knows p.pass } };
 
@@ -47,55 +47,55 @@ impl Lane {
     ghost use Rattle.unit_model.specs.Jobs.{PlainJob};
     ghost use Rattle.handoff.specs.Inner.Moves.{Balances, AreSettled};
     ghost use Rattle.handoff.specs.Inner.Rule.{opening, one_more, newcomer, joined, after_put, after_take};
-    ghost use Rattle.handoff.specs.Inner.Places.{IsAt, HasOne, knowing};
+    ghost use Rattle.handoff.specs.Inner.Ends.{IsAt, HasOne, knowing};
 
-    /// Makes an empty queue that holds at most so many jobs, and the first place at it, the chief.
-    pub(crate) fn new(alloc: Global, capacity: usize) -> Result<(Lane, Place), NoMemory>
+    /// Makes an empty queue that holds at most so many jobs, and the first end of it, the chief.
+    pub(crate) fn new(alloc: Global, capacity: usize) -> Result<(Lane, LaneEnd), NoMemory>
         requires { 0 < capacity }
         ensures capacity { IfOk result (λ r. r.0.capacity ≡ capacity) }
         ensures chief { IfOk result (λ r. r.1 ≡ record { queue = r.0.queue; knows = opening }) }
     {
         let (queue, pass) = RuledArrayQueue::ruled(alloc, capacity)?;
-        Ok((Lane { queue }, Place { pass }))
+        Ok((Lane { queue }, LaneEnd { pass }))
     }
 
-    /// Makes another place, by the chief.
-    pub(crate) fn another(&self, chief: &mut Place) -> Place
+    /// Makes another end, by the chief.
+    pub(crate) fn another(&self, chief: &mut LaneEnd) -> LaneEnd
         requires at { IsAt self.now chief.old }
         requires chief { chief.old.knows.is_chief ≡ true }
         ensures chief { chief.new ≡ knowing (one_more chief.old.knows) chief.old }
         ensures new { result ≡ record { queue = self.now.queue; knows = newcomer chief.old.knows } }
     {
-        Place {
+        LaneEnd {
             pass: self.queue.another::<Seats>(&mut chief.pass),
         }
     }
 
-    /// Puts a job behind the others, by a place that has one account.
-    pub(crate) fn put<R: Wait>(&self, rt: &R, place: &mut Place, job: Job) -> Result<(), Job>
-        requires at { IsAt self.now place.old }
-        requires one { HasOne place.old.knows }
-        ensures put { OnOk result (place.new ≡ knowing (after_put place.old.knows job) place.old) }
+    /// Puts a job behind the others, by an end that has one account.
+    pub(crate) fn put<R: Wait>(&self, rt: &R, end: &mut LaneEnd, job: Job) -> Result<(), Job>
+        requires at { IsAt self.now end.old }
+        requires one { HasOne end.old.knows }
+        ensures put { OnOk result (end.new ≡ knowing (after_put end.old.knows job) end.old) }
         ensures back { IfErr result (λ back. back ≡ job) }
-        ensures unchanged { OnErr result (place.new ≡ place.old) }
-        ensures full { OnErr result (Held self.now.capacity (Balances place.old.knows.accounts)) }
+        ensures unchanged { OnErr result (end.new ≡ end.old) }
+        ensures full { OnErr result (Held self.now.capacity (Balances end.old.knows.accounts)) }
     {
-        self.queue.push_as::<Puts, R>(rt, &mut place.pass, job)
+        self.queue.push_as::<Puts, R>(rt, &mut end.pass, job)
     }
 
-    /// Takes the job that has stood longest, by a place that has one account.
-    pub(crate) fn take<R: Wait>(&self, rt: &R, place: &mut Place) -> Option<Job>
-        requires at { IsAt self.now place.old }
-        requires one { HasOne place.old.knows }
-        ensures taken { IfSome result (λ job. place.new ≡ knowing (after_take place.old.knows job) place.old) }
-        ensures unchanged { IfNone result (place.new ≡ place.old) }
-        ensures empty { IfNone result (Held 0 (Balances place.old.knows.accounts)) }
+    /// Takes the job that has stood longest, by an end that has one account.
+    pub(crate) fn take<R: Wait>(&self, rt: &R, end: &mut LaneEnd) -> Option<Job>
+        requires at { IsAt self.now end.old }
+        requires one { HasOne end.old.knows }
+        ensures taken { IfSome result (λ job. end.new ≡ knowing (after_take end.old.knows job) end.old) }
+        ensures unchanged { IfNone result (end.new ≡ end.old) }
+        ensures empty { IfNone result (Held 0 (Balances end.old.knows.accounts)) }
     {
-        self.queue.pop_as::<Takes, R>(rt, &mut place.pass)
+        self.queue.pop_as::<Takes, R>(rt, &mut end.pass)
     }
 
-    /// Has the chief take in another place.
-    pub(crate) fn absorb(&self, chief: &mut Place, other: Place)
+    /// Has the chief take in another end.
+    pub(crate) fn absorb(&self, chief: &mut LaneEnd, other: LaneEnd)
         requires at { IsAt self.now chief.old × IsAt self.now other }
         requires chief { chief.old.knows.is_chief ≡ true }
         ensures { chief.new ≡ knowing (joined chief.old.knows other.knows) chief.old }
@@ -104,7 +104,7 @@ impl Lane {
     }
 
     /// Has the chief, which has all accounts, learn the whole.
-    pub(crate) fn learn(&self, chief: Place)
+    pub(crate) fn learn(&self, chief: LaneEnd)
         requires at { IsAt self.now chief }
         requires chief { chief.knows.is_chief ≡ true }
         requires all { chief.knows.made ≡ length chief.knows.accounts }

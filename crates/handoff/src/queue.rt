@@ -1,6 +1,6 @@
 //! The queues themselves, with the calls of their seats.
 
-use crate::lane::{Lane, Place};
+use crate::lane::{Lane, LaneEnd};
 use crate::seat::{Seat, Taken};
 use foundation::{NoMemory, Record};
 use std::alloc::Global;
@@ -35,7 +35,7 @@ ghost use Rattle.handoff.specs.Inner.Rule.{newcomer};
 ghost use Rattle.handoff.specs.Inner.Lanes.{HaveCapacity, at_each, lead};
 
 /// Makes so many empty queues, each of this capacity, and the chief of each.
-fn open(alloc: Global, capacity: usize, count: usize) -> Result<(Vec<Lane>, Vec<Place>), NoMemory>
+fn open(alloc: Global, capacity: usize, count: usize) -> Result<(Vec<Lane>, Vec<LaneEnd>), NoMemory>
     requires { 0 < capacity }
     ensures capacity { IfOk result (λ r. HaveCapacity capacity r.0.items) }
     ensures count { IfOk result (λ r. length r.0.items ≡ count) }
@@ -51,22 +51,22 @@ fn open(alloc: Global, capacity: usize, count: usize) -> Result<(Vec<Lane>, Vec<
     Ok((lanes, chiefs))
 }
 
-/// Makes the places of one more seat, by the chiefs.
+/// Makes the ends of one more seat, by the chiefs.
 fn another(
     alloc: Global,
     lanes: &[Lane],
-    chiefs: &mut Vec<Place>,
+    chiefs: &mut Vec<LaneEnd>,
     number: usize,
-) -> Result<Vec<Place>, NoMemory>
+) -> Result<Vec<LaneEnd>, NoMemory>
     requires chiefs { chiefs.old.items ≡ at_each (lead number) lanes.now }
     ensures chiefs { IfOk result (λ _. chiefs.new.items ≡ at_each (lead (number + 1)) lanes.now) }
-    ensures places { IfOk result (λ places. places.items ≡ at_each (newcomer (lead number)) lanes.now) }
+    ensures ends { IfOk result (λ ends. ends.items ≡ at_each (newcomer (lead number)) lanes.now) }
 {
-    let mut places = Vec::with_capacity(alloc, lanes.len())?;
+    let mut ends = Vec::with_capacity(alloc, lanes.len())?;
     for at in 0..lanes.len() {
-        places.push_reserved(lanes[at].another(&mut chiefs[at]));
+        ends.push_reserved(lanes[at].another(&mut chiefs[at]));
     }
-    Ok(places)
+    Ok(ends)
 }
 
 impl Handoff {
@@ -75,8 +75,8 @@ impl Handoff {
     ghost use Rattle.unit_model.specs.Jobs.{PlainJob};
     ghost use Rattle.handoff.specs.Inner.Moves.{AreSettled};
     ghost use Rattle.handoff.specs.Inner.Rule.{joined};
-    ghost use Rattle.handoff.specs.Places.{PlainPlace};
-    ghost use Rattle.handoff.specs.Inner.Places.{knowing};
+    ghost use Rattle.handoff.specs.Ends.{PlainEnd};
+    ghost use Rattle.handoff.specs.Inner.Ends.{knowing};
     ghost use Rattle.handoff.specs.Inner.Lanes.{AreAt, AreChiefs, KnowAll, TakesBetween};
     ghost use Rattle.handoff.specs.Seats.{IsSeatOf, IsSameSeat};
     ghost use Rattle.handoff.specs.Inner.Seats.{AreAllSeats, AreNew, putting, taking, BalancesAt, WasEmpty, TakesNearest, AreGathered};
@@ -98,15 +98,15 @@ impl Handoff {
         let mut all = Vec::with_capacity(alloc, seats)?;
         let (lanes, mut chiefs) = open(alloc, capacity, seats)?;
         for number in 1..seats {
-            let places = another(alloc, lanes.as_slice(), &mut chiefs, number)?;
+            let ends = another(alloc, lanes.as_slice(), &mut chiefs, number)?;
             all.push_reserved(Seat {
-                places,
+                ends,
                 number,
                 taken: Record::new(),
             });
         }
         let first = Seat {
-            places: chiefs,
+            ends: chiefs,
             number: 0,
             taken: Record::new(),
         };
@@ -128,7 +128,7 @@ impl Handoff {
         ensures full { OnErr result (Held self.now.capacity (BalancesAt seat.old.number seat.old)) }
     {
         let own = seat.number;
-        self.lanes[own].put(rt, &mut seat.places[own], job)
+        self.lanes[own].put(rt, &mut seat.ends[own], job)
     }
 
     /// Takes the job that has stood longest in the queue of a seat.
@@ -140,7 +140,7 @@ impl Handoff {
         ensures unchanged { IfNone result (seat.new ≡ seat.old) }
         ensures empty { IfNone result (WasEmpty seat.old from) }
     {
-        let Some(job) = self.lanes[from].take(rt, &mut seat.places[from]) else {
+        let Some(job) = self.lanes[from].take(rt, &mut seat.ends[from]) else {
             return None;
         };
         seat.taken.push(&Taken {
@@ -186,27 +186,27 @@ impl Handoff {
         self.take_between(rt, seat, 0, own)
     }
 
-    /// Has the chiefs take in the places of a seat.
-    fn absorb(&self, chiefs: &mut Vec<Place>, places: Vec<Place>)
+    /// Has the chiefs take in the ends of a seat.
+    fn absorb(&self, chiefs: &mut Vec<LaneEnd>, ends: Vec<LaneEnd>)
         requires chiefs { AreAt self.now chiefs.old.items × AreChiefs chiefs.old.items }
-        requires places { AreAt self.now places.items }
+        requires ends { AreAt self.now ends.items }
         ensures at { AreAt self.now chiefs.new.items }
-        ensures joined { (q : ℕ) (c p : PlainPlace) → slice_get chiefs.old.items q ≡ Some c → slice_get places.items q ≡ Some p
+        ensures joined { (q : ℕ) (c p : PlainEnd) → slice_get chiefs.old.items q ≡ Some c → slice_get ends.items q ≡ Some p
             → slice_get chiefs.new.items q ≡ Some (knowing (joined c.knows p.knows) c) }
     {
         let mut at = 0;
-        for place in places {
-            self.lanes[at].absorb(&mut chiefs[at], place);
+        for end in ends {
+            self.lanes[at].absorb(&mut chiefs[at], end);
             at += 1;
         }
     }
 
     /// Has the chiefs, which have all accounts, learn the whole.
-    fn learn(&self, chiefs: Vec<Place>)
+    fn learn(&self, chiefs: Vec<LaneEnd>)
         requires chiefs { AreAt self.now chiefs.items × AreChiefs chiefs.items }
         requires all { KnowAll chiefs.items }
         ensures { (left : ℕ → List PlainJob)
-            × ((q : ℕ) (c : PlainPlace) → slice_get chiefs.items q ≡ Some c → AreSettled c.knows.accounts (left q)) }
+            × ((q : ℕ) (c : PlainEnd) → slice_get chiefs.items q ≡ Some c → AreSettled c.knows.accounts (left q)) }
     {
         let mut at = 0;
         for chief in chiefs {
@@ -225,9 +225,9 @@ impl Handoff {
         let Some(first) = seats.next() else {
             return;
         };
-        let mut chiefs = first.places;
+        let mut chiefs = first.ends;
         for seat in seats {
-            self.absorb(&mut chiefs, seat.places);
+            self.absorb(&mut chiefs, seat.ends);
         }
         self.learn(chiefs);
     }

@@ -1,6 +1,6 @@
-//! A place at a hand-off.
+//! A seat at a hand-off.
 
-use crate::lane::Place;
+use crate::lane::LaneEnd;
 use foundation::Record;
 use std::marker::Model;
 use std::snapshot::Snapshot;
@@ -14,11 +14,11 @@ pub struct Taken {
 }
 
 /// A seat of one `Handoff`, for the one thread that puts and takes there by it. `Handoff::new` makes all of them, and
-/// `Handoff::gather` takes them back. It has a place at each queue of the hand-off, of which one is its own. Clauses
+/// `Handoff::gather` takes them back. It has an end of each queue of the hand-off, of which one is its own. Clauses
 /// see at which queues it is, its number, how many seats there are, and the jobs that it put and took, in order.
 #[derive(Drop)]
 pub struct Seat {
-    pub(crate) places: Vec<Place>,
+    pub(crate) ends: Vec<LaneEnd>,
     pub(crate) number: usize,
     pub(crate) taken: Record<Taken>,
 }
@@ -29,7 +29,7 @@ impl Model for Seat {
 
     ghost Value = { PlainSeat };
 
-    ghost view = { λ s. seat_of s.number s.places.items s.taken.items };
+    ghost view = { λ s. seat_of s.number s.ends.items s.taken.items };
 
-    ghost invariant = { λ s. IsSeated (seat_of s.number s.places.items s.taken.items) s.places.items };
+    ghost invariant = { λ s. IsSeated (seat_of s.number s.ends.items s.taken.items) s.ends.items };
 }

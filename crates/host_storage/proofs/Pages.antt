@@ -38,9 +38,9 @@ put-page old page bytes size b = by_test (b / 8 == page) refl
     by_test : (t : Bool) → (b / 8 == page) ≡ t → overwritten old (page * 8) bytes b ≡ (if t then blocks_in bytes (b % 8) else old b)
     by_test true is =
         let within : is_within (page * 8) (block_count bytes) b ≡ true = grind (arith, nat_tests, is, size) in
-        let place : b - page * 8 ≡ b % 8 = grind (arith, nat_tests, is) in
+        let index : b - page * 8 ≡ b % 8 = grind (arith, nat_tests, is) in
         let there : b % 8 < block_count bytes = omega (arith, size) in
-        rw (within, place) (sym (blocks_in-whole bytes (b % 8) (length-nth_block bytes (b % 8) there)))
+        rw (within, index) (sym (blocks_in-whole bytes (b % 8) (length-nth_block bytes (b % 8) there)))
     by_test false is =
         let beside : is_within (page * 8) (block_count bytes) b ≡ false = grind (arith, nat_tests, is, size) in
         rw beside refl
@@ -57,8 +57,8 @@ put-run old f page bytes whole same b = by_test (b / 8 == page) refl
     by_test true is =
         let within : is_within (page * 8) (block_count bytes) b ≡ true = grind (arith, nat_tests, is, size) in
         let there : b - page * 8 < 8 = grind (arith, nat_tests, is) in
-        let place : 8 * page + (b - page * 8) ≡ b = grind (arith, nat_tests, is) in
-        rw within (ap (λ l. nth_block l (b - page * 8)) same ∙ nth-run f (8 * page) 8 (b - page * 8) whole there ∙ ap f place)
+        let index : 8 * page + (b - page * 8) ≡ b = grind (arith, nat_tests, is) in
+        rw within (ap (λ l. nth_block l (b - page * 8)) same ∙ nth-run f (8 * page) 8 (b - page * 8) whole there ∙ ap f index)
     by_test false is =
         let beside : is_within (page * 8) (block_count bytes) b ≡ false = grind (arith, nat_tests, is, size) in
         rw beside refl

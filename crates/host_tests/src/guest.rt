@@ -93,13 +93,13 @@ pub(crate) fn ask<R: Wait, G: Gate + Drop, C: Ledger + Weighing, D: Ledger>(
     asked: Asked,
 ) {
     let page = PAGE * u64::from(asked.queue);
-    let place = place_of(asked.queue, asked.number);
+    let addr = place_of(asked.queue, asked.number);
     let slot = 2 * (asked.number % 4);
     let head = if asked.readable == 0 { slot + 1 } else { slot };
-    let read = descriptor(place, asked.readable, NEXT, slot);
-    let written = descriptor(place + RESPONSE, asked.writable, WRITE, slot);
-    poke(rt, host, place, asked.bytes);
-    poke(rt, host, place + DATA, &[asked.data; 512]);
+    let read = descriptor(addr, asked.readable, NEXT, slot);
+    let written = descriptor(addr + RESPONSE, asked.writable, WRITE, slot);
+    poke(rt, host, addr, asked.bytes);
+    poke(rt, host, addr + DATA, &[asked.data; 512]);
     poke(rt, host, page + 16 * u64::from(slot), &read);
     poke(rt, host, page + 16 * u64::from(slot) + 16, &written);
     poke(rt, host, page + 1028 + u64::from(slot), &[head]);

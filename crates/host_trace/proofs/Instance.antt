@@ -10,7 +10,7 @@ use Rattle.unit_model.specs.Jobs.{PlainJob}
 use Rattle.device_model.specs.World.{PlainWorld, Opens, owner}
 use Rattle.device_model.specs.Transitions.{Transition}
 use Rattle.device_model.specs.After.{after}
-use Rattle.device_model.specs.Happens.{Happens, May, Leads, Occurrence, Runs, Reached, transitions_of, occurrence_of, world_of}
+use Rattle.device_model.specs.Happens.{Happens, MayHappen, Leads, Occurrence, Runs, Reached, transitions_of, occurrence_of, world_of}
 use Rattle.device_model.specs.Promise.{IsKept, IsPromised}
 use Rattle.host_trace.specs.Parts.{Part, Fixed, Share, fixed, At, parts_of, entering, marked_next}
 use Rattle.host_trace.specs.Inner.Passing.{AllAt}
@@ -147,7 +147,7 @@ are_local number apart =
 
 -- A trace
 
-may_happen : (d : Transition) (w : PlainWorld) → Happens d w → May d w
+may_happen : (d : Transition) (w : PlainWorld) → Happens d w → MayHappen d w
 may_happen (Transition.Idle e) w h = absurd h
 may_happen (Transition.CommitUnknown k x) w h = absurd h
 may_happen (Transition.EnterStale x) w h = absurd h

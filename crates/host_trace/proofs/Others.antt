@@ -117,11 +117,11 @@ unit_kept (Transition.Commit k x r) w i out =
     unit_other (stepped (Step.Commit x.entry.ticket r)) x.unit w i (λ e. out (inr (inl e)))
 unit_kept (Transition.CommitBusy k x) w i out = unit_other (stepped (Step.Busy x.entry.ticket)) x.unit w i (λ e. out (inr
     (inl e)))
-unit_kept (Transition.Leave k place t jobs) w i out = unit_other (stepped (Step.Leave t)) place w i (λ e. out (inr (inl e)))
+unit_kept (Transition.Leave k unit_index t jobs) w i out = unit_other (stepped (Step.Leave t)) unit_index w i (λ e. out (inr (inl e)))
 unit_kept (Transition.Mark t p m jobs) w i out = unit_other (stepped (step_by m)) p.unit w i (λ e. out (inr (inl e)))
 unit_kept (Transition.Hard p jobs) w i out = unit_other (stepped (Step.Reset hard_code)) p.unit w i (λ e. out (inl e))
-unit_kept (Transition.Resize place blocks) w i out = unit_other (stepped (Step.Resize blocks)) place w i (λ e. out (inl e))
-unit_kept (Transition.Deal place x) w i out = unit_other (dealing x) place w i (λ e. out (inl e))
+unit_kept (Transition.Resize unit_index blocks) w i out = unit_other (stepped (Step.Resize blocks)) unit_index w i (λ e. out (inl e))
+unit_kept (Transition.Deal unit_index x) w i out = unit_other (dealing x) unit_index w i (λ e. out (inl e))
 unit_kept d w i out = refl
 
 seat_apart : (i k : ℕ) → (Part.SeatAt i ≡ Part.SeatAt k → ⊥) → i ≡ k → ⊥
@@ -148,7 +148,7 @@ seat_kept (Transition.Resume k x) w i out =
     other (with_hand (Hand.Taken x)) k w.seats i (seat_apart i k (λ e. out (inl e)))
 seat_kept (Transition.Answer k x o xs) w i out =
     other (with_hand (Hand.Answered x.unit x.chain.ticket)) k w.seats i (seat_apart i k (λ e. out (inl e)))
-seat_kept (Transition.Leave k place t jobs) w i out = other (leaving jobs) k w.seats i (seat_apart i k (λ e. out (inl e)))
+seat_kept (Transition.Leave k unit_index t jobs) w i out = other (leaving jobs) k w.seats i (seat_apart i k (λ e. out (inl e)))
 seat_kept (Transition.Mark t p m jobs) w i out = other (with_jobs jobs) 0 w.seats i (seat_apart i 0 (λ e. out (inr (inr
     (inl e)))))
 seat_kept (Transition.Hard p jobs) w i out =
@@ -163,7 +163,7 @@ off_kept d w out = refl
 function_kept : (d : Transition) (w : PlainWorld) → (Has (parts_of d w) Part.Function → ⊥) → (after d w).function ≡ w.function
 function_kept (Transition.Open f g) w out = absurd (out (inr (inr (inr (inl refl)))))
 function_kept (Transition.Mark t p m jobs) w out = absurd (out (inl refl))
-function_kept (Transition.Ask t place rule b) w out = absurd (out (inl refl))
+function_kept (Transition.Ask t unit_index rule b) w out = absurd (out (inl refl))
 function_kept (Transition.MarkRefused t) w out = absurd (out (inl refl))
 function_kept (Transition.Check t p) w out = absurd (out (inl refl))
 function_kept (Transition.Respond c r xs) w out = absurd (out (inl refl))
@@ -179,7 +179,7 @@ buffers_kept d w out = (refl, refl)
 
 waiting_kept : (d : Transition) (w : PlainWorld) → (Has (parts_of d w) Part.Waiting → ⊥) → (after d w).waiting ≡ w.waiting
 waiting_kept (Transition.Hard p jobs) w out = absurd (out (inr (inr (inl refl))))
-waiting_kept (Transition.Resize place blocks) w out = absurd (out (inr (inl refl)))
+waiting_kept (Transition.Resize unit_index blocks) w out = absurd (out (inr (inl refl)))
 waiting_kept (Transition.Give e c xs) w out = absurd (out (inr (inl refl)))
 waiting_kept (Transition.Miss e) w out = absurd (out (inr (inl refl)))
 waiting_kept d w out = refl

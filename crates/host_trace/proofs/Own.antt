@@ -122,11 +122,11 @@ unit_own (Transition.Park x) w v i f all e = alike (parking x) x.unit w.units v.
 unit_own (Transition.EnterFull x) w v i f all e = alike (stepped (Step.Full x.entry.ticket)) x.unit w.units v.units i e
 unit_own (Transition.Commit k x r) w v i f all e = alike (stepped (Step.Commit x.entry.ticket r)) x.unit w.units v.units i e
 unit_own (Transition.CommitBusy k x) w v i f all e = alike (stepped (Step.Busy x.entry.ticket)) x.unit w.units v.units i e
-unit_own (Transition.Leave k place t jobs) w v i f all e = alike (stepped (Step.Leave t)) place w.units v.units i e
+unit_own (Transition.Leave k unit_index t jobs) w v i f all e = alike (stepped (Step.Leave t)) unit_index w.units v.units i e
 unit_own (Transition.Mark t p m jobs) w v i f all e = alike (stepped (step_by m)) p.unit w.units v.units i e
 unit_own (Transition.Hard p jobs) w v i f all e = alike (stepped (Step.Reset hard_code)) p.unit w.units v.units i e
-unit_own (Transition.Resize place blocks) w v i f all e = alike (stepped (Step.Resize blocks)) place w.units v.units i e
-unit_own (Transition.Deal place x) w v i f all e = alike (dealing x) place w.units v.units i e
+unit_own (Transition.Resize unit_index blocks) w v i f all e = alike (stepped (Step.Resize blocks)) unit_index w.units v.units i e
+unit_own (Transition.Deal unit_index x) w v i f all e = alike (dealing x) unit_index w.units v.units i e
 unit_own d w v i f all e = e
 
 -- at a seat whose number goes by the number of workers
@@ -154,7 +154,7 @@ seat_own (Transition.Defer k x) w v i f all e = alike (with_hand Hand.Empty) k w
 seat_own (Transition.Resume k x) w v i f all e = alike (with_hand (Hand.Taken x)) k w.seats v.seats i e
 seat_own (Transition.Answer k x o xs) w v i f all e =
     alike (with_hand (Hand.Answered x.unit x.chain.ticket)) k w.seats v.seats i e
-seat_own (Transition.Leave k place t jobs) w v i f all e = alike (leaving jobs) k w.seats v.seats i e
+seat_own (Transition.Leave k unit_index t jobs) w v i f all e = alike (leaving jobs) k w.seats v.seats i e
 seat_own (Transition.Mark t p m jobs) w v i f all e = alike (with_jobs jobs) 0 w.seats v.seats i e
 seat_own (Transition.Hard p jobs) w v i f all e = seat_by (with_jobs jobs) (λ n. n) w v i f e
 seat_own d w v i f all e = e
@@ -167,7 +167,7 @@ off_own d w v f all e = e
 function_own : (d : Transition) (w v : PlainWorld) → Own d w v Part.Function
 function_own (Transition.Open g n) w v f all e = refl
 function_own (Transition.Mark t p m jobs) w v f all e = ap (λ o. on_function (marking p) o) e
-function_own (Transition.Ask t place rule b) w v f all e = ap (λ o. on_function (asking b) o) e
+function_own (Transition.Ask t unit_index rule b) w v f all e = ap (λ o. on_function (asking b) o) e
 function_own (Transition.MarkRefused t) w v f all e = ap (λ o. on_function failing o) e
 function_own (Transition.Check t p) w v f all e = ap (λ o. on_function checking o) e
 function_own (Transition.Respond c r xs) w v f all e = refl
@@ -184,10 +184,10 @@ waiting_own : (d : Transition) (w v : PlainWorld) → Own d w v Part.Waiting
 waiting_own (Transition.Hard p jobs) w v f all e =
     ap (λ l. l ++ reports_of (slice_get w.units p.unit)) e ∙ ap (λ u. v.waiting ++ reports_of u) (all (Part.UnitAt p.unit)
     (inl refl))
-waiting_own (Transition.Resize place blocks) w v f all e =
-    ap (λ l. l ++ change_reports w.tells_changes (slice_get w.units place)) e
-    ∙ ap (λ u. v.waiting ++ change_reports w.tells_changes u) (all (Part.UnitAt place) (inl refl))
-    ∙ ap (λ (z : Fixed). v.waiting ++ change_reports z.tells_changes (slice_get v.units place)) f
+waiting_own (Transition.Resize unit_index blocks) w v f all e =
+    ap (λ l. l ++ change_reports w.tells_changes (slice_get w.units unit_index)) e
+    ∙ ap (λ u. v.waiting ++ change_reports w.tells_changes u) (all (Part.UnitAt unit_index) (inl refl))
+    ∙ ap (λ (z : Fixed). v.waiting ++ change_reports z.tells_changes (slice_get v.units unit_index)) f
 waiting_own (Transition.Give r c xs) w v f all e = ap (λ l. drop 1 l) e
 waiting_own (Transition.Miss r) w v f all e = ap (λ l. drop 1 l) e
 waiting_own d w v f all e = e

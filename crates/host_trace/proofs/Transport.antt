@@ -98,13 +98,13 @@ comes_at w v x f all h =
       refl,
     )
 
-hand_at : (w v : PlainWorld) (k : ℕ) (hand : Hand) (place : ℕ) → slice_get w.seats k ≡ slice_get v.seats k
-    → slice_get w.units place ≡ slice_get v.units place → HandAtUnit w k hand place → HandAtUnit v k hand place
-hand_at w v k hand place s u h = record { out = h.out; seat = sym s ∙ h.seat; unit = h.unit; there = sym u ∙ h.there }
+hand_at : (w v : PlainWorld) (k : ℕ) (hand : Hand) (unit_index : ℕ) → slice_get w.seats k ≡ slice_get v.seats k
+    → slice_get w.units unit_index ≡ slice_get v.units unit_index → HandAtUnit w k hand unit_index → HandAtUnit v k hand unit_index
+hand_at w v k hand unit_index s u h = record { out = h.out; seat = sym s ∙ h.seat; unit = h.unit; there = sym u ∙ h.there }
 
-marking_at : (w v : PlainWorld) (t : Ticket) (place : ℕ) (kind : Kind) → w.function ≡ v.function
-    → slice_get w.units place ≡ slice_get v.units place → IsMarking w t place kind → IsMarking v t place kind
-marking_at w v t place kind e u h =
+marking_at : (w v : PlainWorld) (t : Ticket) (unit_index : ℕ) (kind : Kind) → w.function ≡ v.function
+    → slice_get w.units unit_index ≡ slice_get v.units unit_index → IsMarking w t unit_index kind → IsMarking v t unit_index kind
+marking_at w v t unit_index kind e u h =
     record {
       opened = h.opened;
       there = sym e ∙ h.there;
@@ -288,10 +288,10 @@ happens_at (Transition.Answer k x o xs) w v f all h =
       writes = h.writes ∙ ap (λ z. answer_writes z x.chain _) (sym r.2);
       seen = seen_at w v xs f m h.seen;
     }
-happens_at (Transition.Leave k place t jobs) w v f all h =
+happens_at (Transition.Leave k unit_index t jobs) w v f all h =
     record {
       holds =
-          hand_at w v k (Hand.Answered place t) place (all (Part.SeatAt k) (inl refl)) (all (Part.UnitAt place) (inr
+          hand_at w v k (Hand.Answered unit_index t) unit_index (all (Part.SeatAt k) (inl refl)) (all (Part.UnitAt unit_index) (inr
           (inl refl))) h.holds;
       may = h.may;
       enables = h.enables;
@@ -305,20 +305,20 @@ happens_at (Transition.Mark t p m jobs) w v f all h =
       seat = h.seat;
       seat_there = sym (all (Part.SeatAt 0) (inr (inr (inl refl)))) ∙ h.seat_there;
     }
-happens_at (Transition.Ask t place rule b) w v f all h =
+happens_at (Transition.Ask t unit_index rule b) w v f all h =
     record {
-      marking = marking_at w v t place _ (all Part.Function (inl refl)) (all (Part.UnitAt place) (inr (inl refl))) h.marking;
+      marking = marking_at w v t unit_index _ (all Part.Function (inl refl)) (all (Part.UnitAt unit_index) (inr (inl refl))) h.marking;
       is = h.is;
     }
 happens_at (Transition.MarkRefused t) w v f all h =
     let m = h.marking in
-    let has : Has (marked_next w.function) (Part.UnitAt h.place) =
-    subst (λ o. Has (marked_next o) (Part.UnitAt h.place)) (sym m.there)
-    (subst (λ l. Has (first_of l) (Part.UnitAt h.place)) (sym m.left) (inl refl)) in
+    let has : Has (marked_next w.function) (Part.UnitAt h.unit_index) =
+    subst (λ o. Has (marked_next o) (Part.UnitAt h.unit_index)) (sym m.there)
+    (subst (λ l. Has (first_of l) (Part.UnitAt h.unit_index)) (sym m.left) (inl refl)) in
     record {
       how = h.how;
-      place = h.place;
-      marking = marking_at w v t h.place _ (all Part.Function (inl refl)) (all (Part.UnitAt h.place) (inr has)) m;
+      unit_index = h.unit_index;
+      marking = marking_at w v t h.unit_index _ (all Part.Function (inl refl)) (all (Part.UnitAt h.unit_index) (inr has)) m;
     }
 happens_at (Transition.Check t p) w v f all h =
     record {
@@ -352,10 +352,10 @@ happens_at (Transition.Hard p jobs) w v f all h =
           subst (λ (z : Fixed). slice_get v.seats z.workers ≡ Some h.seat) f
           (sym (all (Part.SeatAt w.workers) (inr (inl refl))) ∙ h.seat_there);
     }
-happens_at (Transition.Resize place blocks) w v f all h =
-    record { unit = h.unit; there = sym (all (Part.UnitAt place) (inl refl)) ∙ h.there; may = h.may }
-happens_at (Transition.Deal place x) w v f all h =
-    record { unit = h.unit; there = sym (all (Part.UnitAt place) (inl refl)) ∙ h.there; may = h.may }
+happens_at (Transition.Resize unit_index blocks) w v f all h =
+    record { unit = h.unit; there = sym (all (Part.UnitAt unit_index) (inl refl)) ∙ h.there; may = h.may }
+happens_at (Transition.Deal unit_index x) w v f all h =
+    record { unit = h.unit; there = sym (all (Part.UnitAt unit_index) (inl refl)) ∙ h.there; may = h.may }
 happens_at (Transition.Give e c xs) w v f all h =
     let q = c.ticket.queue in
     let m = all Part.Memory (inr (inr (inr (inl refl)))) in

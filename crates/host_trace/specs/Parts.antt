@@ -72,7 +72,7 @@ control (suc q) = []
 -- the unit that a function marks next
 abbrev pub first_of : List ℕ → List Part
 first_of [] = []
-first_of (place ∷ later) = Part.UnitAt place ∷ []
+first_of (unit_index ∷ later) = Part.UnitAt unit_index ∷ []
 
 abbrev pub marked_next : Option Opened → List Part
 marked_next None = []
@@ -111,15 +111,15 @@ parts_of (Transition.Defer k x) w = Part.SeatAt k ∷ Part.UnitAt x.unit ∷ Par
 parts_of Transition.Wake w = Part.Aside ∷ []
 parts_of (Transition.Resume k x) w = Part.SeatAt k ∷ Part.Aside ∷ []
 parts_of (Transition.Answer k x o xs) w = Part.SeatAt k ∷ Part.Ring x.chain.ticket.queue ∷ Part.Memory ∷ []
-parts_of (Transition.Leave k place t jobs) w = Part.SeatAt k ∷ Part.UnitAt place ∷ []
+parts_of (Transition.Leave k unit_index t jobs) w = Part.SeatAt k ∷ Part.UnitAt unit_index ∷ []
 parts_of (Transition.Mark t p m jobs) w = Part.Function ∷ Part.UnitAt p.unit ∷ Part.SeatAt 0 ∷ Part.Aside ∷ []
-parts_of (Transition.Ask t place rule b) w = Part.Function ∷ Part.UnitAt place ∷ []
+parts_of (Transition.Ask t unit_index rule b) w = Part.Function ∷ Part.UnitAt unit_index ∷ []
 parts_of (Transition.MarkRefused t) w = Part.Function ∷ marked_next w.function
 parts_of (Transition.Check t p) w = Part.Function ∷ Part.UnitAt p.unit ∷ []
 parts_of (Transition.Respond c r xs) w = Part.Function ∷ Part.Ring c.ticket.queue ∷ Part.Memory ∷ []
 parts_of (Transition.Hard p jobs) w = Part.UnitAt p.unit ∷ Part.SeatAt w.workers ∷ Part.Waiting ∷ Part.Aside ∷ []
-parts_of (Transition.Resize place blocks) w = Part.UnitAt place ∷ Part.Waiting ∷ []
-parts_of (Transition.Deal place x) w = Part.UnitAt place ∷ []
+parts_of (Transition.Resize unit_index blocks) w = Part.UnitAt unit_index ∷ Part.Waiting ∷ []
+parts_of (Transition.Deal unit_index x) w = Part.UnitAt unit_index ∷ []
 parts_of (Transition.Give e c xs) w = Part.Buffers ∷ Part.Waiting ∷ Part.Ring c.ticket.queue ∷ Part.Memory ∷ []
 parts_of (Transition.Miss e) w = Part.Buffers ∷ Part.Waiting ∷ []
 parts_of (Transition.Idle e) w = []

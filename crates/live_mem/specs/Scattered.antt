@@ -9,7 +9,7 @@ abbrev pub byte_or : Option ℕ → ℕ → ℕ
 byte_or None d = d
 byte_or (Some b) d = b
 
--- the byte in a place of a granule, if there is one; d where none is kept
+-- the byte at an index of a granule, if there is one; d where none is kept
 abbrev pub in_granule : Option (List (Option ℕ)) → ℕ → ℕ → ℕ
 in_granule None j d = d
 in_granule (Some granule) j d = byte_or (get_or granule j None) d

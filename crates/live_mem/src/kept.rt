@@ -40,7 +40,7 @@ const LEAST_ROOM: usize = 64;
 /// The least range between two reads that is worth to be noted: a walk along a ring leaves smaller ones.
 const GAP: u64 = 256;
 
-/// Returns `len` bytes from place `start` on.
+/// Returns `len` bytes from index `start` on.
 fn part(bytes: &[u8], start: usize, len: usize) -> &[u8]
     requires { start + len ≤ length bytes.now }
     ensures bytes { result.now ≡ bytes_at bytes.now start len }
@@ -49,7 +49,7 @@ fn part(bytes: &[u8], start: usize, len: usize) -> &[u8]
     &bytes[start..start + len]
 }
 
-/// Puts bytes at a place.
+/// Puts bytes at an index.
 fn put_at(out: &mut [u8], at: usize, bytes: &[u8])
     requires { at + length bytes.now ≤ length out.old }
     ensures bytes { out.new ≡ with_bytes out.old at bytes.now }

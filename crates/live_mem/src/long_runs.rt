@@ -11,7 +11,7 @@ use crate::recorded::RecordedBus;
 use std::alloc::{AllocError, Global};
 use std::marker::Model;
 
-/// The bytes of the longer runs that a phase read, side by side: those before a place of a list. Those behind it are room for more.
+/// The bytes of the longer runs that a phase read, side by side: those before an index of a list. Those behind it are room for more.
 #[derive(Drop)]
 pub(crate) struct LongRuns {
     room: Vec<u8>,

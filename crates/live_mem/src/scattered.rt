@@ -18,17 +18,17 @@ pub(crate) struct Scattered {
     granules: BTreeMap<u64, [Option<u8>; 16]>,
 }
 
-/// Keeps in a place of a granule the one of the bytes from `addr` on that stands there, if any.
+/// Keeps at an index of a granule the one of the bytes from `addr` on that stands there, if any.
 #[inline(always)]
-fn fill_place(granule: &mut [Option<u8>; 16], place: usize, at: u64, addr: u64, out: &[u8])
+fn fill_place(granule: &mut [Option<u8>; 16], index: usize, at: u64, addr: u64, out: &[u8])
     requires small { addr + length out.now ≤ 2 ^ 52 }
-    requires place { place < 16 }
-    ensures here { get_or granule.new place None
-        ≡ cond (spans addr (length out.now) at) (Some (get_or out.now (at - addr) 0)) (get_or granule.old place None) }
-    ensures others { (other : ℕ) → other ≢ place → get_or granule.new other None ≡ get_or granule.old other None }
+    requires index { index < 16 }
+    ensures here { get_or granule.new index None
+        ≡ cond (spans addr (length out.now) at) (Some (get_or out.now (at - addr) 0)) (get_or granule.old index None) }
+    ensures others { (other : ℕ) → other ≢ index → get_or granule.new other None ≡ get_or granule.old other None }
 {
     if addr <= at && at < addr + out.len() as u64 {
-        granule[place] = Some(out[(at - addr) as usize]);
+        granule[index] = Some(out[(at - addr) as usize]);
     }
 }
 
@@ -39,8 +39,8 @@ fn fill(granule: &mut [Option<u8>; 16], key: u64, addr: u64, out: &[u8])
     ensures { (j : ℕ) → j < 16 → get_or granule.new j None
         ≡ cond (spans addr (length out.now) (16 * key + j)) (Some (get_or out.now (16 * key + j - addr) 0)) (get_or granule.old j None) }
 {
-    for place in 0..16 {
-        fill_place(granule, place, GRANULE * key + place as u64, addr, out);
+    for index in 0..16 {
+        fill_place(granule, index, GRANULE * key + index as u64, addr, out);
     }
 }
 
@@ -67,8 +67,8 @@ fn put(granule: &[Option<u8>; 16], key: u64, addr: u64, out: &mut [u8])
     ensures over { (i : ℕ) → i < length out.old → get_or out.new i 0
         ≡ cond (spans (16 * key) 16 (addr + i)) (byte_or (get_or granule.now (addr + i - 16 * key) None) (get_or out.old i 0)) (get_or out.old i 0) }
 {
-    for place in 0..16 {
-        put_place(granule[place], GRANULE * key + place as u64, addr, out);
+    for index in 0..16 {
+        put_place(granule[index], GRANULE * key + index as u64, addr, out);
     }
 }
 

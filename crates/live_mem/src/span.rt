@@ -3,7 +3,7 @@
 /// The most bytes of a run that are kept in its span.
 pub const SHORT: usize = 16;
 
-/// A run of bytes that was read: `len` bytes from the guest's address `addr` on, kept from place `start` on. A run of at most
+/// A run of bytes that was read: `len` bytes from the guest's address `addr` on, kept from index `start` on. A run of at most
 /// 16 bytes is kept in the span itself, and others side by side.
 #[derive(Clone, Copy)]
 pub struct Span {

@@ -52,8 +52,8 @@ answers_none Hand.Empty q m true r n h' e = absurd e
 answers_none Hand.Empty q m false r n h' e = stays_none q r e.0.queue
 answers_none (Hand.Taken x) q m true r n h' e = absurd e
 answers_none (Hand.Taken x) q m false r n h' e = stays_none q r e.0.queue
-answers_none (Hand.Answered place t) q m true r n h' e = absurd e
-answers_none (Hand.Answered place t) q m false r n h' e = stays_none q r e.0.queue
+answers_none (Hand.Answered unit_index t) q m true r n h' e = absurd e
+answers_none (Hand.Answered unit_index t) q m false r n h' e = stays_none q r e.0.queue
 
 pub directs_none : (s : Slot) (q : BareQueue) (m : List ℕ) (b : Bool) (r : BareQueue) (n : List ℕ) (s' : Slot)
     → Directs s q m b r n s' → TakesNone q r

@@ -48,8 +48,8 @@ none_made u v a b n first last m none =
 
 pub leaves_none : (h : Hand) (u : PlainUnit) (out : Jobs) (b : Bool) (v : PlainUnit) (h' : Hand) (out' : Jobs)
     → Leaves h u out b v h' out' → AsMany u v
-leaves_none (Hand.Answered place t) u out true v h' out' e = (counted_as (e 0).0.is, acted_as (e 0).0.is)
-leaves_none (Hand.Answered place t) u out false v h' out' e = same u v e.0
+leaves_none (Hand.Answered unit_index t) u out true v h' out' e = (counted_as (e 0).0.is, acted_as (e 0).0.is)
+leaves_none (Hand.Answered unit_index t) u out false v h' out' e = same u v e.0
 leaves_none Hand.Empty u out true v h' out' e = absurd e
 leaves_none Hand.Empty u out false v h' out' e = same u v e.0
 leaves_none (Hand.Taken x) u out true v h' out' e = absurd e
@@ -95,12 +95,12 @@ stays : (h : Hand) (u v : PlainUnit) (h' : Hand) → Commits h u false v h' → 
 stays Hand.Empty u v h' c = c.0
 stays (Hand.Taken x) u v h' c = c.unit
 stays (Hand.Done x o) u v h' c = c.0
-stays (Hand.Answered place t) u v h' c = c.0
+stays (Hand.Answered unit_index t) u v h' c = c.0
 
 commits_count : (h : declared.Hand) (u v : PlainUnit) (h' : declared.Hand) (k : Hand) → Commits (hand_of h) u true v k
     → KeepsOutcome h u v h' → HasMore (receipts_due h') u v
 commits_count hand.Empty u v h' k c keeps = absurd c
-commits_count (hand.Answered place t) u v h' k c keeps = absurd c
+commits_count (hand.Answered unit_index t) u v h' k c keeps = absurd c
 commits_count (hand.Job held) u v h' k c (o, did, is) =
     subst (λ z. HasMore (receipts_due z) u v) (sym is) (answers_count u held.job o v did)
 

@@ -59,13 +59,13 @@ resize_weighs weight inventory at u v address blocks told w w' was old new there
     adds weight inventory at u v address (Some blocks) old new there resizes.0 (ap (λ z. acts_of z.steps) resizes.1.is)
     (ap (λ z. z.opening) resizes.1.is) before behind
 
--- the address at a place of the inventory
+-- the address at an index of the inventory
 pub found : (inventory all : List Address) (at : ℕ) (address : Address) → all ≡ inventory → at < length all
     → address ≡ get_or all at address → slice_get inventory at ≡ Some address
 found inventory all at address is there e =
     subst (λ l. slice_get l at ≡ Some address) is (slice_get-get_or all at address there ∙ ap Some (sym e))
 
--- the act is that of the unit of this place
+-- the act is that of the unit of this index
 pub reset_made : (inventory : PlainInventory) (at : ℕ) (address : Address) (was : Bool) (old new : List Act)
     → slice_get inventory.addresses at ≡ Some address → was ≡ true → new ≡ old ++ act.Reset address ∷ []
     → new ≡ (if was then acts_with (reset_of (slice_get inventory.addresses at)) old else old)

@@ -60,7 +60,7 @@ pub record TakesOnly (h : declared_hand.Hand) (out : Jobs) (h' : declared_hand.H
   pub takes : hand_of h' ≡ Hand.Taken job
   pub rest : out' ≡ record out { jobs = [] }
 
--- own: so it is taken, and then committed at its own unit, which stands at this place
+-- own: so it is taken, and then committed at its own unit, which stands at this index
 pub record TakesCommits (at : ℕ) (h : declared_hand.Hand) (u : PlainUnit) (out : Jobs)
     (u' : PlainUnit) (h' : declared_hand.Hand) (out' : Jobs) : Type 0 where
   pub between : declared_hand.Hand
@@ -69,7 +69,7 @@ pub record TakesCommits (at : ℕ) (h : declared_hand.Hand) (u : PlainUnit) (out
   pub commits : Commits (hand_of between) u true u' (hand_of h')
   pub keeps : KeepsOutcome between u u' h'
 
--- own: what becomes of the jobs that may run, behind an Enter at the unit of this place: they stay in the list, unless
+-- own: what becomes of the jobs that may run, behind an Enter at the unit of this index: they stay in the list, unless
 -- there is one alone and the hand is free
 abbrev pub RunsNext : ℕ → declared_hand.Hand → PlainUnit → Jobs → NextJob → PlainUnit → declared_hand.Hand → Jobs → Type 0
 RunsNext at h u out Listed u' h' out' =
@@ -77,7 +77,7 @@ RunsNext at h u out Listed u' h' out' =
 RunsNext at h u out Taken u' h' out' = (u' ≡ u) × TakesOnly h out h' out'
 RunsNext at h u out Committed u' h' out' = TakesCommits at h u out u' h' out'
 
--- own: at the unit of a place the task in the hand leaves, the request that arrived enters, and then the only job that
+-- own: at the unit of an index the task in the hand leaves, the request that arrived enters, and then the only job that
 -- may run is run
 pub record LeavesEntersRuns (at : ℕ) (h : declared_hand.Hand) (s : Slot) (u : PlainUnit) (out : Jobs) (next : NextJob)
     (u' : PlainUnit) (h' : declared_hand.Hand) (s' : Slot) (out' : Jobs) : Type 0 where

@@ -17,7 +17,7 @@ use std::sync::ledger::Ledger;
 use std::sync::{Mutex, Wait};
 use unit_history::JobList;
 
-/// Resets the unit of a place of the inventory (`phase_hard`), in one hold of its lock, and adds that to the acts.
+/// Resets the unit at an index of the inventory (`phase_hard`), in one hold of its lock, and adds that to the acts.
 /// The operator calls. Returns true if something changed, or `WrongUnit` or `NoMemory` as the phase does.
 pub fn hard_on<R: Wait, C: Ledger + Weighing, W: Ledger>(
     rt: &R,
@@ -40,7 +40,7 @@ pub fn hard_on<R: Wait, C: Ledger + Weighing, W: Ledger>(
     unit.hard(at, inventory, acts, out, waiting)
 }
 
-/// Gives the unit of a place of the inventory another capacity (`phase_resize`), in one hold of its lock, and adds that to
+/// Gives the unit at an index of the inventory another capacity (`phase_resize`), in one hold of its lock, and adds that to
 /// the acts. The operator calls. Answers as the phase does: `WrongUnit`, `BadCapacity` or `NoMemory`, with nothing
 /// changed.
 pub fn resize_on<R: Wait, C: Ledger + Weighing, W: Ledger>(

@@ -117,7 +117,7 @@ pub fn direct_on<B: QueueLender>(lender: &mut B, at: usize, slot: &mut Slot) -> 
 }
 
 /// Answers the job in the hand whose commit is over, and uses its chain (`phase_answer`), in one hold of its queue and
-/// of the memory. The seat that has the hand calls, with its place from `Hand::answering_queue`. Returns its receipt,
+/// of the memory. The seat that has the hand calls, with its index from `Hand::answering_queue`. Returns its receipt,
 /// or a note of why it got none; `None` where no chain was answered.
 pub fn answer_on<B: QueueLender>(
     lender: &mut B,

@@ -22,7 +22,7 @@ use unit_attention::Code;
 use unit_history::{JobList, StartedWrite, UnitState};
 
 /// Brings the request that arrived to its unit (`phase_enter`), in one hold of that. The owner of its queue calls, with
-/// its place from `Slot::unit`. Returns true if something changed.
+/// its index from `Slot::unit`. Returns true if something changed.
 pub fn enter_on<B: UnitLender>(
     lender: &mut B,
     at: usize,
@@ -51,7 +51,7 @@ pub fn enter_on<B: UnitLender>(
 
 /// Makes the pages of the WRITE in the hand ahead of its commit. Copies the blocks that they need in one hold of its
 /// unit (`phase_start_pages`), and makes them after it, with no lock held (`phase_prepare`). The seat that has the hand
-/// calls, with its place from `Hand::committing_unit`. Returns true if something was copied.
+/// calls, with its index from `Hand::committing_unit`. Returns true if something was copied.
 pub fn prepare_on<B: UnitLender>(lender: &mut B, at: usize, hand: &mut Hand) -> bool
     requires there { at < B.units lender.old }
     ensures did { (u : PlainUnit) × B.lends_unit lender.old at u × B.keeps_unit lender.old at u lender.new }
@@ -94,7 +94,7 @@ fn receipts_made(changed: bool, hand: &Hand) -> u64
 
 /// Commits the job in the hand (`phase_commit`), in one hold of its unit, inside which, before anything is done, the
 /// gate is passed at its point Locked. The pages that the commit left over are freed behind the hold. The seat that has
-/// the hand calls, with its place from `Hand::committing_unit`. Returns true if something changed.
+/// the hand calls, with its index from `Hand::committing_unit`. Returns true if something changed.
 pub fn commit_on<B: UnitLender, G: Gate>(
     lender: &mut B,
     gate: &G,
@@ -128,7 +128,7 @@ pub fn commit_on<B: UnitLender, G: Gate>(
 }
 
 /// Has the task in the hand leave its unit (`phase_leave`), in one hold of that. The seat that has the hand calls, with
-/// its place from `Hand::leaving_unit`. Returns true if something changed.
+/// its index from `Hand::leaving_unit`. Returns true if something changed.
 pub fn leave_on<B: UnitLender>(
     lender: &mut B,
     at: usize,
@@ -190,7 +190,7 @@ fn mark(
 }
 
 /// Marks the next unit of the open function, or looks at it (`phase_mark`), in one hold of that. The worker that has
-/// the function calls, with the unit's place from `Function::next_unit`. Returns true if something changed.
+/// the function calls, with the unit's index from `Function::next_unit`. Returns true if something changed.
 pub fn mark_on<B: UnitLender>(
     lender: &mut B,
     at: usize,
@@ -220,7 +220,7 @@ pub fn mark_on<B: UnitLender>(
 }
 
 /// Checks whether the open function's first mark is clear (`phase_check`), in one hold of that mark's unit, which stays
-/// as it is. The worker that has the function calls, with the unit's place from `Function::waits_for`. Returns true if
+/// as it is. The worker that has the function calls, with the unit's index from `Function::waits_for`. Returns true if
 /// something changed.
 pub fn check_on<B: UnitLender>(
     lender: &mut B,

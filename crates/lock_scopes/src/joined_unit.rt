@@ -110,7 +110,7 @@ fn receipts_run(next: NextJob, hand: &Hand) -> u64
 
 /// Has the task in the hand leave its unit (`phase_leave`), and then brings the request that arrived to the same unit
 /// (`phase_enter`), in one hold of that. The owner of the request's queue calls, which has the hand. It takes the
-/// unit's place from `Hand::leaving_unit` and `Slot::unit`, which agree.
+/// unit's index from `Hand::leaving_unit` and `Slot::unit`, which agree.
 pub fn leave_enter_on<B: UnitLender>(
     lender: &mut B,
     at: usize,

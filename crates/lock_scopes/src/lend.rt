@@ -19,10 +19,10 @@ use virtqueue::Queue;
 /// The units of a device, of which one is lent for as long as one closure runs. Units are counted by their indices in
 /// the inventory.
 pub trait UnitLender {
-    /// The unit at this place may be lent as this.
+    /// The unit at this index may be lent as this.
     ghost lends_unit: { Self → ℕ → PlainUnit → Type 0 };
 
-    /// The unit at this place came back as this, and nothing else changed but what counts Commits.
+    /// The unit at this index came back as this, and nothing else changed but what counts Commits.
     ghost keeps_unit: { Self → ℕ → PlainUnit → Self → Type 0 };
 
     /// So many Commits were counted for the caller that had the unit lent.
@@ -31,11 +31,11 @@ pub trait UnitLender {
     /// The number of units.
     ghost units: { Self → ℕ };
 
-    /// Returns how many units there are. Asked for a place that a request names, before that unit is lent.
+    /// Returns how many units there are. Asked for an index that a request names, before that unit is lent.
     fn unit_count(&self) -> usize
         ensures { result ≡ units self.now };
 
-    /// Runs a phase on the unit at a place, and on two values of the caller, which stay where they are. The phase
+    /// Runs a phase on the unit at an index, and on two values of the caller, which stay where they are. The phase
     /// answers how many Commits it made, too. It is no act of the operator.
     fn unit<T, X, Y, F: FnOnce(&mut UnitState, &mut X, &mut Y) -> (T, u64)>(
         &mut self,

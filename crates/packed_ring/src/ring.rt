@@ -3,7 +3,7 @@
 use crate::placement::check_layout;
 use crate::slots::{
     descriptor_at, flags_of_used, index_at, is_available, names_one, number_at, passed_at,
-    place_of, put_used, slot_after, wrap_at,
+    put_used, slot_addr, slot_after, wrap_at,
 };
 use crate::walk::{Candidate, fault_without_room, walk};
 use guest_mem::{Memory, WritableMemory};
@@ -24,7 +24,7 @@ const DISABLE: u16 = 1;
 /// RING_EVENT_FLAGS_DESC: it asks for one of a certain slot, where event indices were agreed.
 const DESC: u16 = 2;
 
-/// The wrap counter in the place of a slot, beside its offset.
+/// The wrap counter in the index of a slot, beside its offset.
 const WRAP: u16 = 32768;
 
 /// The number of ids that a chain may have: any of two bytes.
@@ -101,7 +101,7 @@ impl PackedRing {
     /// Returns how many slots were passed before the next used one.
     #[inline(always)]
     fn used_place(&self) -> u128
-        ensures place { result ≡ used_place self.now }
+        ensures passed { result ≡ used_place self.now }
         ensures behind { self.now.used_slots ≤ result }
     {
         let layout = self.base.layout();
@@ -117,9 +117,9 @@ impl PackedRing {
             return 0;
         }
         let layout = self.base.layout();
-        let place = self.available_place();
-        let wrap = if wrap_at(layout.size, place) { WRAP } else { 0 };
-        slot_after(place, layout.size) + wrap
+        let next = self.available_place();
+        let wrap = if wrap_at(layout.size, next) { WRAP } else { 0 };
+        slot_after(next, layout.size) + wrap
     }
 
     /// Returns the flags that ask the driver for this.
@@ -148,9 +148,9 @@ impl PackedRing {
         ensures next { (m : List ℕ) → M.may_be memory.new m → result ≡ is_available_in self.now m }
     {
         let layout = self.base.layout();
-        let place = self.available_place();
-        let first = descriptor_at(memory, &layout, place);
-        is_available(&first, wrap_at(layout.size, place))
+        let next = self.available_place();
+        let first = descriptor_at(memory, &layout, next);
+        is_available(&first, wrap_at(layout.size, next))
     }
 
     /// Returns the next chain, where there is one.
@@ -167,9 +167,9 @@ impl PackedRing {
         ensures same { self.new ≡ self.old }
     {
         let layout = self.base.layout();
-        let place = self.available_place();
+        let next = self.available_place();
         let Ok(draft) = self.base.draft() else {
-            return Err(fault_without_room(memory, &layout, self.base.features(), place));
+            return Err(fault_without_room(memory, &layout, self.base.features(), next));
         };
         self.find(memory, draft)
     }
@@ -188,8 +188,8 @@ impl PackedRing {
         ensures finds { (m : List ℕ) → M.may_be memory.new m → PackedFinds self.now m result }
     {
         let layout = self.base.layout();
-        let place = self.available_place();
-        match walk(draft, memory, &layout, self.base.features(), place) {
+        let next = self.available_place();
+        match walk(draft, memory, &layout, self.base.features(), next) {
             Ok(found) => {
                 let outstanding = self.base.accepted_slots() - self.base.used_slots();
                 if self.base.is_outstanding(found.id) {
@@ -294,7 +294,7 @@ impl Ring for PackedRing {
         let layout = self.base.layout();
         let used = self.used_place();
         let flags = flags_of_used(wrap_at(layout.size, used), len);
-        put_used(memory, place_of(&layout, used) + 8, len, chain.id(), flags);
+        put_used(memory, slot_addr(&layout, used) + 8, len, chain.id(), flags);
         self.base.release(chain)
     }
 
@@ -306,10 +306,10 @@ impl Ring for PackedRing {
             return flags != DISABLE;
         }
         let latest = self.base.latest_slots();
-        let place = number_at(memory, layout.driver);
+        let offset_wrap = number_at(memory, layout.driver);
         names_one(
             layout.size,
-            place,
+            offset_wrap,
             self.used_place() - latest as u128,
             latest,
         )

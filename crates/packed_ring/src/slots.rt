@@ -73,10 +73,10 @@ pub(crate) fn slot_behind(slot: u16, size: u16) -> u16
 }
 
 /// Returns where the slot lies that is reached once so many slots were passed.
-pub(crate) fn place_of(layout: &Layout, passed: u128) -> u64
+pub(crate) fn slot_addr(layout: &Layout, passed: u128) -> u64
     requires some { 0 < layout.now.size }
     requires small { layout.now.desc + 16 * layout.now.size ≤ 2 ^ 52 }
-    ensures place { result ≡ layout.now.desc + 16 * (passed % layout.now.size) }
+    ensures address { result ≡ layout.now.desc + 16 * (passed % layout.now.size) }
     ensures inside { result + 16 ≤ layout.now.desc + 16 * layout.now.size }
 {
     layout.desc + 16 * slot_after(passed, layout.size) as u64
@@ -205,41 +205,41 @@ pub(crate) fn descriptor_at<M: Memory>(memory: &mut M, layout: &Layout, passed: 
     ensures room { (n : ℕ) → M.has_room memory.old (n + 1) → M.has_room memory.new n }
     ensures descriptor { (m : List ℕ) → M.may_be memory.new m → result ≡ slot_at layout.now m passed }
 {
-    read_descriptor(memory, place_of(layout, passed))
+    read_descriptor(memory, slot_addr(layout, passed))
 }
 
-/// Returns the entry at a place of the table at an address. An error where memory to keep it is refused.
+/// Returns the entry at a position of the table at an address. An error where memory to keep it is refused.
 #[inline(always)]
 pub(crate) fn try_entry_at<M: Memory>(
     memory: &mut M,
     addr: u64,
-    place: u32,
+    position: u32,
 ) -> Result<Descriptor, AllocError>
     requires reading { M.is_open memory.old }
-    requires inside { addr + 16 * place + 16 ≤ M.extent memory.old }
+    requires inside { addr + 16 * position + 16 ≤ M.extent memory.old }
     requires small { M.extent memory.old ≤ 2 ^ 52 }
     ensures size { M.extent memory.new ≡ M.extent memory.old }
     ensures stays { (m : List ℕ) → M.may_be memory.new m → M.may_be memory.old m }
     ensures stores { M.stored memory.new ≡ M.stored memory.old }
     ensures reading { M.is_open memory.new }
-    ensures descriptor { IfOk result (λ d. (m : List ℕ) → M.may_be memory.new m → d ≡ packed_descriptor (bytes_at m (addr + 16 * place) 16)) }
+    ensures descriptor { IfOk result (λ d. (m : List ℕ) → M.may_be memory.new m → d ≡ packed_descriptor (bytes_at m (addr + 16 * position) 16)) }
 {
-    try_descriptor(memory, addr + 16 * place as u64)
+    try_descriptor(memory, addr + 16 * position as u64)
 }
 
 /// Returns true if one of so many slots, from where so many were passed, is the one that an offset and wrap names.
 #[inline(never)]
-pub(crate) fn names_one(size: u16, place: u16, passed: u128, slots: u16) -> bool
+pub(crate) fn names_one(size: u16, offset_wrap: u16, passed: u128, slots: u16) -> bool
     requires some { 0 < size }
     requires few { slots ≤ size }
-    ensures { result ≡ names_one_of size place passed slots }
+    ensures { result ≡ names_one_of size offset_wrap passed slots }
 {
-    let offset = place % 32768;
+    let offset = offset_wrap % 32768;
     let first = slot_after(passed, size);
     if offset >= size {
         return false;
     }
-    if (place / 32768 == 1) == wrap_at(size, passed) {
+    if (offset_wrap / 32768 == 1) == wrap_at(size, passed) {
         offset >= first && offset - first < slots
     } else {
         offset as u32 + (size as u32) < first as u32 + slots as u32

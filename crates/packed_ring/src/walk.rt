@@ -101,7 +101,7 @@ fn walk_table<M: Memory>(
     let entries = named.len / 16;
     let mut before = first.anew();
     let mut d = entry;
-    'along: for place in 0..entries {
+    'along: for position in 0..entries {
         let bytes = memory.size();
         if let Err(fault) = before.check_buffer(&d, bytes) {
             return Err(fault);
@@ -113,7 +113,7 @@ fn walk_table<M: Memory>(
             return Ok(draft);
         }
         before = before.with(&d);
-        let Ok(next) = try_entry_at(memory, named.addr, place + 1) else {
+        let Ok(next) = try_entry_at(memory, named.addr, position + 1) else {
             return Err(RingFault::NoMemory);
         };
         d = next;

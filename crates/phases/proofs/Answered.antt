@@ -63,16 +63,16 @@ answers_job shared x e q q' before middle after len c wrote chain used queue =
 
 -- a job whose commit is over is answered by what came of it
 pub answered : (shared : Bool) (x : PlainJob) (outcome : Option answers.Outcome) (q q' : BareQueue)
-    (before middle after : List ℕ → Type 0) (len : ℕ) (c : PlainChain) (place : ℕ) (t : Ticket) → is_some outcome ≡ true
+    (before middle after : List ℕ → Type 0) (len : ℕ) (c : PlainChain) (unit_index : ℕ) (t : Ticket) → is_some outcome ≡ true
     → WritesEndingIn (record { job = x; outcome = outcome }) before len middle
-    → IfSome (job_held (hand_with x outcome)) (λ (y : PlainJob). (place ≡ y.unit) × (c ≡ y.chain)) → t ≡ c.ticket
+    → IfSome (job_held (hand_with x outcome)) (λ (y : PlainJob). (unit_index ≡ y.unit) × (c ≡ y.chain)) → t ≡ c.ticket
     → SeenBehind shared middle after (used_writes q.ring c.id len) → ((m : List ℕ) → after m → q' ≡ completing m c q)
     → EachSeen shared before after (λ found left seen. AnswersIn shared (hand_with x outcome) q found true q' left seen
-    (Hand.Answered place t))
-answered shared x None q q' before middle after len c place t over wrote took t_is used queue = absurd (cc)
-answered shared x (Some o) q q' before middle after len c place t over wrote took t_is used queue =
+    (Hand.Answered unit_index t))
+answered shared x None q q' before middle after len c unit_index t over wrote took t_is used queue = absurd (cc)
+answered shared x (Some o) q q' before middle after len c unit_index t over wrote took t_is used queue =
     let done : Hand = Hand.Done x (Outcome.Ended (ending_of o)) in
-    let hand : Hand.Answered place t ≡ Hand.Answered x.unit x.chain.ticket =
+    let hand : Hand.Answered unit_index t ≡ Hand.Answered x.unit x.chain.ticket =
     ap (λ (p : ℕ). Hand.Answered p t) took.0
     ∙ ap (λ (k : Ticket). Hand.Answered x.unit k) (t_is ∙ ap (λ (d : PlainChain). d.ticket) took.1) in
     subst (λ (h : Hand). EachSeen shared before after (λ found left seen. AnswersIn shared done q found true q' left seen h)) (sym hand)
@@ -105,12 +105,12 @@ answered_none shared q may =
     each_read shared may may (λ found left seen. AnswersIn shared Hand.Empty q found false q left seen Hand.Empty)
     (λ m stood. stood) (λ m stood. (stays_so q m, refl))
 
-pub answered_before : (shared : Bool) (place : ℕ) (t : Ticket) (q : BareQueue) (may : List ℕ → Type 0)
-    → EachSeen shared may may (λ found left seen. AnswersIn shared (Hand.Answered place t) q found false q left seen
-    (Hand.Answered place t))
-answered_before shared place t q may =
+pub answered_before : (shared : Bool) (unit_index : ℕ) (t : Ticket) (q : BareQueue) (may : List ℕ → Type 0)
+    → EachSeen shared may may (λ found left seen. AnswersIn shared (Hand.Answered unit_index t) q found false q left seen
+    (Hand.Answered unit_index t))
+answered_before shared unit_index t q may =
     each_read shared may may
-    (λ found left seen. AnswersIn shared (Hand.Answered place t) q found false q left seen (Hand.Answered place t))
+    (λ found left seen. AnswersIn shared (Hand.Answered unit_index t) q found false q left seen (Hand.Answered unit_index t))
     (λ m stood. stood) (λ m stood. (stays_so q m, refl))
 
 -- in a memory that nobody else writes
@@ -131,10 +131,10 @@ answers_own (Hand.Done x o) h' q q' m m' n false (gone, hand) = (
 )
 answers_own Hand.Empty h' q q' m m' n true impossible = impossible
 answers_own (Hand.Taken x) h' q q' m m' n true impossible = impossible
-answers_own (Hand.Answered place t) h' q q' m m' n true impossible = impossible
+answers_own (Hand.Answered unit_index t) h' q q' m m' n true impossible = impossible
 answers_own Hand.Empty h' q q' m m' n false (stays, hand) = (record { queue = stays.queue; memory = stays.memory }, hand)
 answers_own (Hand.Taken x) h' q q' m m' n false (stays, hand) = (record { queue = stays.queue; memory = stays.memory }, hand)
-answers_own (Hand.Answered place t) h' q q' m m' n false (stays, hand) = (
+answers_own (Hand.Answered unit_index t) h' q q' m m' n false (stays, hand) = (
   record { queue = stays.queue; memory = stays.memory },
   hand,
 )

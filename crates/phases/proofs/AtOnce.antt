@@ -75,7 +75,7 @@ served_so : (shared : Bool) (stored : List Write → Type 0) (x y : PlainJob) (t
     (out out' : Jobs) (gone : Bool) (what : answers.Outcome) → calls.Enters u x (entered.Run y) v → calls.Commits v y what z
     → t ≡ y.chain.ticket → AnswersJob shared y (ending_of what) q q' found left seen
     → stored (decided_writes q.ring y.chain (came what))
-    → ((place : ℕ) → Leaves (Hand.Answered place t) z out gone u' Hand.Empty out')
+    → ((unit_index : ℕ) → Leaves (Hand.Answered unit_index t) z out gone u' Hand.Empty out')
     → ServesAtOnceIn shared stored x u q found out gone u' q' left seen out'
 served_so shared stored x y t u v z u' q q' found left seen out out' gone what enters ran used answered made leaves =
     let is : y ≡ x = enters.0 in
@@ -89,7 +89,7 @@ pub served : (shared : Bool) (stored : List Write → Type 0) (x y : PlainJob) (
     → calls.Enters u x (entered.Run y) v → calls.Commits v y what z → t ≡ y.chain.ticket
     → EachSeen shared before after (AnswersJob shared y (ending_of what) q q')
     → stored (decided_writes q.ring y.chain (came what))
-    → ((place : ℕ) → Leaves (Hand.Answered place t) z out gone u' Hand.Empty out')
+    → ((unit_index : ℕ) → Leaves (Hand.Answered unit_index t) z out gone u' Hand.Empty out')
     → EachSeen shared before after
     (λ found left seen. ServesIn shared stored x u q found s out (Some gone) u' q' left seen s out')
 served shared stored x y t u v z u' q q' before after s out out' gone what enters ran used answered made leaves =
@@ -142,9 +142,9 @@ waits_on shared stored x y u v u' q may s s' out out' none empty enters waits jo
     (subst (λ (t : Slot). EntersAs x u list v t (with_more (y ∷ []) list)) (sym empty) (runs x u v list y enters))) jobs
 
 -- a job leaves its unit, where no other waits
-left_alone : (u u' : PlainUnit) (place : ℕ) (t : Ticket) (out : Jobs) → u.parked ≡ [] → Steps u (Step.Leave t) u'
-    → Leaves (Hand.Answered place t) u out true u' Hand.Empty out
-left_alone u u' place t out none step =
+left_alone : (u u' : PlainUnit) (unit_index : ℕ) (t : Ticket) (out : Jobs) → u.parked ≡ [] → Steps u (Step.Leave t) u'
+    → Leaves (Hand.Answered unit_index t) u out true u' Hand.Empty out
+left_alone u u' unit_index t out none step =
     λ k. (
       record { asks = (step.may, refl); is = step.is },
       refl,

@@ -36,7 +36,7 @@ pub over : (h : Hand) (u v : PlainUnit) (h' : Hand) (aside : Jobs) → Commits h
 over Hand.Empty u v h' aside c = (c, refl)
 over (Hand.Taken x) u v h' aside c = inl (c, refl)
 over (Hand.Done x o) u v h' aside c = (c, refl)
-over (Hand.Answered place t) u v h' aside c = (c, refl)
+over (Hand.Answered unit_index t) u v h' aside c = (c, refl)
 
 -- where no job is to be committed nothing changes
 pub none_over : (h g : Hand) (u v : PlainUnit) (aside : Jobs) → committing_unit g ≡ None → Commits h u false v g
@@ -46,7 +46,7 @@ none_over (Hand.Taken x) g u v aside none s =
     let is : Some x.unit ≡ None = sym (ap committing_unit s.hand) ∙ none in
     absurd (cc)
 none_over (Hand.Done x o) g u v aside none s = (s, refl)
-none_over (Hand.Answered place t) g u v aside none s = (s, refl)
+none_over (Hand.Answered unit_index t) g u v aside none s = (s, refl)
 
 -- a job that is to be committed still
 pub to_commit : (x : PlainJob) (o : Option outcome_type.Outcome) (p : ℕ) → Some p ≡ committing_unit (hand_with x o)
@@ -88,18 +88,18 @@ deferred (Hand.Taken y) g x u v aside aside' there s more =
     let one : x ≡ y = cc in
     inr (λ k. (record { asks = (s.entry, s.ready, s.waits); is = s.unit }, refl, more ∙ ap (λ (z : PlainJob). with_more (z ∷ []) aside) one))
 deferred (Hand.Done y o) g x u v aside aside' there s more = let e = sym there ∙ s.1 in absurd (cc)
-deferred (Hand.Answered place t) g x u v aside aside' there s more = let e = sym there ∙ s.1 in absurd (cc)
+deferred (Hand.Answered unit_index t) g x u v aside aside' there s more = let e = sym there ∙ s.1 in absurd (cc)
 
 -- a visit is a mark or a look, whichever it was
-marks_unit : (inventory : PlainInventory) (f : Opened) (place : ℕ) (kind : Kind) (u : PlainUnit) (out : Jobs) (what : Visited)
-    (v : PlainUnit) (g : Opened) (more : Jobs) → VisitsUnit inventory f place kind u out what v g more
-    → MarksUnit inventory f place kind u out v g more
-marks_unit inventory f place (Marking m) u out visited.Marked v g more h = inl h
-marks_unit inventory f place (Marking m) u out visited.Other v g more h = inr h
-marks_unit inventory f place (Marking m) u out visited.Nothing v g more h = absurd h
-marks_unit inventory f place (Querying rule) u out visited.Other v g more h = h
-marks_unit inventory f place (Querying rule) u out visited.Marked v g more h = absurd h
-marks_unit inventory f place (Querying rule) u out visited.Nothing v g more h = absurd h
+marks_unit : (inventory : PlainInventory) (f : Opened) (unit_index : ℕ) (kind : Kind) (u : PlainUnit) (out : Jobs) (what : Visited)
+    (v : PlainUnit) (g : Opened) (more : Jobs) → VisitsUnit inventory f unit_index kind u out what v g more
+    → MarksUnit inventory f unit_index kind u out v g more
+marks_unit inventory f unit_index (Marking m) u out visited.Marked v g more h = inl h
+marks_unit inventory f unit_index (Marking m) u out visited.Other v g more h = inr h
+marks_unit inventory f unit_index (Marking m) u out visited.Nothing v g more h = absurd h
+marks_unit inventory f unit_index (Querying rule) u out visited.Other v g more h = h
+marks_unit inventory f unit_index (Querying rule) u out visited.Marked v g more h = absurd h
+marks_unit inventory f unit_index (Querying rule) u out visited.Nothing v g more h = absurd h
 
 abbrev pub did : Visited → Bool
 did visited.Nothing = false
@@ -109,11 +109,11 @@ did visited.Other = true
 marks_next : (inventory : PlainInventory) (f : Opened) (left : List ℕ) (u : PlainUnit) (out : Jobs) (what : Visited)
     (v : PlainUnit) (g : Opened) (more : Jobs) → VisitsNext inventory f left u out what v g more
     → MarksNext inventory f left u out (did what) v g more
-marks_next inventory f (place ∷ later) u out visited.Nothing v g more h = h
-marks_next inventory f (place ∷ later) u out visited.Marked v g more h =
-    marks_unit inventory f place f.function.kind u out visited.Marked v g more h
-marks_next inventory f (place ∷ later) u out visited.Other v g more h =
-    marks_unit inventory f place f.function.kind u out visited.Other v g more h
+marks_next inventory f (unit_index ∷ later) u out visited.Nothing v g more h = h
+marks_next inventory f (unit_index ∷ later) u out visited.Marked v g more h =
+    marks_unit inventory f unit_index f.function.kind u out visited.Marked v g more h
+marks_next inventory f (unit_index ∷ later) u out visited.Other v g more h =
+    marks_unit inventory f unit_index f.function.kind u out visited.Other v g more h
 marks_next inventory f [] u out visited.Nothing v g more h = h
 marks_next inventory f [] u out visited.Marked v g more h = absurd h
 marks_next inventory f [] u out visited.Other v g more h = absurd h

@@ -23,7 +23,7 @@ pub not_answered : (h : Hand) (r : RingState) → answered_writes h r false ≡ 
 not_answered Hand.Empty r = refl
 not_answered (Hand.Taken x) r = refl
 not_answered (Hand.Done x o) r = refl
-not_answered (Hand.Answered place t) r = refl
+not_answered (Hand.Answered unit_index t) r = refl
 
 pub not_directed : (s : Slot) (r : RingState) → directed_writes s r false ≡ []
 not_directed Slot.Empty r = refl
@@ -58,12 +58,12 @@ module _ {S : Type 0} (storing : S → List Store → S) where
 
     -- the same of a job whose commit is over
     pub job_stored : (s s₁ s₂ : S) (r : RingState) (x : PlainJob) (outcome : Option answers.Outcome) (before after : List ℕ → Type 0)
-        (d : PlainChain) (place len : ℕ) → is_some outcome ≡ true
+        (d : PlainChain) (unit_index len : ℕ) → is_some outcome ≡ true
         → StoresEnding (record { job = x; outcome = outcome }) (λ ws. s₁ ≡ storing s (stores_of ws))
         → WritesEndingIn (record { job = x; outcome = outcome }) before len after
-        → IfSome (job_held (hand_with x outcome)) (λ (y : PlainJob). (place ≡ y.unit) × (d ≡ y.chain))
+        → IfSome (job_held (hand_with x outcome)) (λ (y : PlainJob). (unit_index ≡ y.unit) × (d ≡ y.chain))
         → s₂ ≡ storing s₁ (stores_of (used_writes r d.id len))
         → s₂ ≡ storing s (stores_of (answered_writes (hand_with x outcome) r true))
-    job_stored s s₁ s₂ r x None before after d place len over first wrote took more = absurd (cc)
-    job_stored s s₁ s₂ r x (Some o) before after d place len over first wrote took more =
+    job_stored s s₁ s₂ r x None before after d unit_index len over first wrote took more = absurd (cc)
+    job_stored s s₁ s₂ r x (Some o) before after d unit_index len over first wrote took more =
         answer_stored s s₁ s₂ r x.chain d (answer_of (lengths_of x.chain) (ending_of o)) len first took.1 wrote.written more

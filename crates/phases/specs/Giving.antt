@@ -25,7 +25,7 @@ given_for t outcome.Unknown = given.Note (note_of t cause.Unknown)
 abbrev pub given_in : Hand → Option ReceiptOrNote
 given_in hand.Empty = None
 given_in (hand.Job h) = option_map (given_for h.job.chain.ticket) h.outcome
-given_in (hand.Answered place t) = None
+given_in (hand.Answered unit_index t) = None
 
 -- own: a Commit was made, and left a receipt
 abbrev pub is_reply : Option answers.Outcome → Bool
@@ -44,4 +44,4 @@ abbrev pub KeepsOutcome : Hand → PlainUnit → PlainUnit → Hand → Type 0
 KeepsOutcome hand.Empty u v h' = ⊤
 KeepsOutcome (hand.Job h) u v h' = (o : answers.Outcome) × Commits u h.job o v
     × (h' ≡ hand.Job (record h { outcome = Some o }))
-KeepsOutcome (hand.Answered place t) u v h' = ⊤
+KeepsOutcome (hand.Answered unit_index t) u v h' = ⊤

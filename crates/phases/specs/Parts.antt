@@ -15,31 +15,31 @@ hand_with x (Some o) = Hand.Done x (Outcome.Ended (ending_of o))
 abbrev pub hand_of : declared_hand.Hand → Hand
 hand_of hand.Empty = Hand.Empty
 hand_of (hand.Job h) = hand_with h.job h.outcome
-hand_of (hand.Answered place t) = Hand.Answered place t
+hand_of (hand.Answered unit_index t) = Hand.Answered unit_index t
 
 -- what came of the commit of the hand's job
 abbrev pub outcome_in : declared_hand.Hand → Option answers.Outcome
 outcome_in hand.Empty = None
 outcome_in (hand.Job h) = h.outcome
-outcome_in (hand.Answered place t) = None
+outcome_in (hand.Answered unit_index t) = None
 
 -- the unit at which the hand's job is to be committed
 abbrev pub committing_unit : Hand → Option ℕ
 committing_unit Hand.Empty = None
 committing_unit (Hand.Taken x) = Some x.unit
 committing_unit (Hand.Done x o) = None
-committing_unit (Hand.Answered place t) = None
+committing_unit (Hand.Answered unit_index t) = None
 
 -- the queue whose chain it is to answer
 abbrev pub answering_queue : Hand → Option ℕ
 answering_queue Hand.Empty = None
 answering_queue (Hand.Taken x) = None
 answering_queue (Hand.Done x o) = Some x.chain.ticket.queue
-answering_queue (Hand.Answered place t) = None
+answering_queue (Hand.Answered unit_index t) = None
 
 -- the unit that the hand's task is to leave
 abbrev pub leaving_unit : Hand → Option ℕ
 leaving_unit Hand.Empty = None
 leaving_unit (Hand.Taken x) = None
 leaving_unit (Hand.Done x o) = None
-leaving_unit (Hand.Answered place t) = Some place
+leaving_unit (Hand.Answered unit_index t) = Some unit_index

@@ -21,17 +21,17 @@ pub record StaysReset (u : PlainUnit) (out : Jobs) (w : List EventRecord) (u' : 
   pub jobs : out' ≡ out
   pub waiting : w' ≡ w
 
--- the unit of this place of the inventory is reset, its released jobs are appended, and the event waits; there is no room
+-- the unit at this index of the inventory is reset, its released jobs are appended, and the event waits; there is no room
 -- for the jobs, or no event may name the unit's LUN; or it is another unit; or memory was refused
 abbrev pub Resets : PlainInventory → ℕ → PlainUnit → Jobs → List EventRecord → Result Bool ResetFault → PlainUnit → Jobs
     → List EventRecord → Type 0
-Resets inventory place u out w (Ok true) u' out' w' =
-    IsAddressed inventory place u
-    × DoesUnit (Transition.Hard (mark_at place u) (handed_out u (Step.Reset hard_code))) u u'
+Resets inventory unit_index u out w (Ok true) u' out' w' =
+    IsAddressed inventory unit_index u
+    × DoesUnit (Transition.Hard (mark_at unit_index u) (handed_out u (Step.Reset hard_code))) u u'
     × (out' ≡ with_more (handed_out u (Step.Reset hard_code)) out) × (w' ≡ w ++ hard_report u ∷ [])
-Resets inventory place u out w (Ok false) u' out' w' =
-    IsAddressed inventory place u × StaysReset u out w u' out' w' × (HasPlaces out → u.opening.lun < 16384 → ⊥)
-Resets inventory place u out w (Err fault.WrongUnit) u' out' w' =
-    (IsAddressed inventory place u → ⊥) × StaysReset u out w u' out' w'
-Resets inventory place u out w (Err fault.NoMemory) u' out' w' =
-    IsAddressed inventory place u × StaysReset u out w u' out' w'
+Resets inventory unit_index u out w (Ok false) u' out' w' =
+    IsAddressed inventory unit_index u × StaysReset u out w u' out' w' × (HasPlaces out → u.opening.lun < 16384 → ⊥)
+Resets inventory unit_index u out w (Err fault.WrongUnit) u' out' w' =
+    (IsAddressed inventory unit_index u → ⊥) × StaysReset u out w u' out' w'
+Resets inventory unit_index u out w (Err fault.NoMemory) u' out' w' =
+    IsAddressed inventory unit_index u × StaysReset u out w u' out' w'

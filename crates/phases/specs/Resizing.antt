@@ -11,21 +11,21 @@ use Rattle.device_model.specs.Transitions.{Transition}
 use Rattle.device_model.specs.Event.Resize.{change_reports}
 use Rattle.phases.specs.DoingUnit.{DoesUnit}
 
--- a resize is refused where the unit is another than the one at this place of the inventory, else where no unit may have
+-- a resize is refused where the unit is another than the one at this index of the inventory, else where no unit may have
 -- so many blocks, and memory only where one may
 abbrev pub RefusesResize : PlainInventory → ℕ → PlainUnit → ℕ → ResizeFault → Type 0
-RefusesResize inventory place u blocks fault.WrongUnit = IsAddressed inventory place u → ⊥
-RefusesResize inventory place u blocks fault.BadCapacity = IsAddressed inventory place u × (is_capacity blocks ≡ false)
-RefusesResize inventory place u blocks fault.NoMemory = IsAddressed inventory place u × (is_capacity blocks ≡ true)
+RefusesResize inventory unit_index u blocks fault.WrongUnit = IsAddressed inventory unit_index u → ⊥
+RefusesResize inventory unit_index u blocks fault.BadCapacity = IsAddressed inventory unit_index u × (is_capacity blocks ≡ false)
+RefusesResize inventory unit_index u blocks fault.NoMemory = IsAddressed inventory unit_index u × (is_capacity blocks ≡ true)
 
--- the unit of this place of the inventory has so many blocks, and the event waits where the driver is told; or no event may
+-- the unit at this index of the inventory has so many blocks, and the event waits where the driver is told; or no event may
 -- name the unit's LUN; or it is refused, and nothing changed
 abbrev pub ResizesUnit : PlainInventory → ℕ → PlainUnit → ℕ → Bool → List EventRecord → Result Bool ResizeFault → PlainUnit
     → List EventRecord → Type 0
-ResizesUnit inventory place u blocks told w (Ok true) u' w' =
-    IsAddressed inventory place u × DoesUnit (Transition.Resize place blocks) u u'
+ResizesUnit inventory unit_index u blocks told w (Ok true) u' w' =
+    IsAddressed inventory unit_index u × DoesUnit (Transition.Resize unit_index blocks) u u'
     × (w' ≡ w ++ change_reports told (Some u))
-ResizesUnit inventory place u blocks told w (Ok false) u' w' =
-    IsAddressed inventory place u × (u' ≡ u) × (w' ≡ w) × (u.opening.lun < 16384 → ⊥)
-ResizesUnit inventory place u blocks told w (Err fault) u' w' =
-    (u' ≡ u) × (w' ≡ w) × RefusesResize inventory place u blocks fault
+ResizesUnit inventory unit_index u blocks told w (Ok false) u' w' =
+    IsAddressed inventory unit_index u × (u' ≡ u) × (w' ≡ w) × (u.opening.lun < 16384 → ⊥)
+ResizesUnit inventory unit_index u blocks told w (Err fault) u' w' =
+    (u' ≡ u) × (w' ≡ w) × RefusesResize inventory unit_index u blocks fault

@@ -95,12 +95,12 @@ Commits h u false u' h' = (u' ≡ u) × (h' ≡ h)
 
 -- where there is no room nothing is done; where the unit knows no such task, what the hand held is let go
 abbrev pub Leaves : Hand → PlainUnit → Jobs → Bool → PlainUnit → Hand → Jobs → Type 0
-Leaves (Hand.Answered place t) u out true u' h' out' =
-    (k : ℕ) → DoesUnit (Transition.Leave k place t (handed_out u (Step.Leave t))) u u'
+Leaves (Hand.Answered unit_index t) u out true u' h' out' =
+    (k : ℕ) → DoesUnit (Transition.Leave k unit_index t (handed_out u (Step.Leave t))) u u'
     × (h' ≡ Hand.Empty) × (out' ≡ with_more (handed_out u (Step.Leave t)) out)
-Leaves (Hand.Answered place t) u out false u' h' out' =
+Leaves (Hand.Answered unit_index t) u out false u' h' out' =
     (u' ≡ u) × (out' ≡ out)
-    × (((HasPlaces out → ⊥) × (h' ≡ Hand.Answered place t))
+    × (((HasPlaces out → ⊥) × (h' ≡ Hand.Answered unit_index t))
     ⊎ (CannotLeave (task_of t (alive u.steps)) t u.steps × (h' ≡ Hand.Empty)))
 Leaves h u out true u' h' out' = ⊥
 Leaves h u out false u' h' out' = (u' ≡ u) × (h' ≡ h) × (out' ≡ out)
@@ -115,7 +115,7 @@ pub record StaysMark (u u' : PlainUnit) (f f' : Opened) (out out' : Jobs) : Type
 
 -- a mark of a unit stands behind all its steps
 abbrev pub mark_at : ℕ → PlainUnit → Place
-mark_at place u = record { unit = place; place = length u.steps }
+mark_at unit_index u = record { unit = unit_index; place = length u.steps }
 
 -- the function fails, and nothing else changed
 pub record FailsMark (u u' : PlainUnit) (f f' : Opened) (out out' : Jobs) : Type 0 where
@@ -125,27 +125,27 @@ pub record FailsMark (u u' : PlainUnit) (f f' : Opened) (out out' : Jobs) : Type
 
 -- the unit is the one that the function names, and its tasks are marked
 abbrev pub MarksTasks : PlainInventory → Opened → ℕ → MarkBy → PlainUnit → Jobs → PlainUnit → Opened → Jobs → Type 0
-MarksTasks inventory f place m u out u' f' out' =
-    IsAddressed inventory place u
-    × DoesUnit (Transition.Mark f.chain.ticket (mark_at place u) m (handed_out u (step_by m))) u u'
-    × (f' ≡ record f { function = marking (mark_at place u) f.function })
+MarksTasks inventory f unit_index m u out u' f' out' =
+    IsAddressed inventory unit_index u
+    × DoesUnit (Transition.Mark f.chain.ticket (mark_at unit_index u) m (handed_out u (step_by m))) u u'
+    × (f' ≡ record f { function = marking (mark_at unit_index u) f.function })
     × (out' ≡ with_more (handed_out u (step_by m)) out)
 
 -- the unit is the one that the function names, and is marked or looked at; or the function fails: there, or where a mark is
 -- refused memory
 abbrev pub MarksUnit : PlainInventory → Opened → ℕ → Kind → PlainUnit → Jobs → PlainUnit → Opened → Jobs → Type 0
-MarksUnit inventory f place (Marking m) u out u' f' out' =
-    MarksTasks inventory f place m u out u' f' out' ⊎ FailsMark u u' f f' out out'
-MarksUnit inventory f place (Querying rule) u out u' f' out' =
-    (IsAddressed inventory place u
-    × DoesUnit (Transition.Ask f.chain.ticket place rule (any_met rule (alive u.steps))) u u'
+MarksUnit inventory f unit_index (Marking m) u out u' f' out' =
+    MarksTasks inventory f unit_index m u out u' f' out' ⊎ FailsMark u u' f f' out out'
+MarksUnit inventory f unit_index (Querying rule) u out u' f' out' =
+    (IsAddressed inventory unit_index u
+    × DoesUnit (Transition.Ask f.chain.ticket unit_index rule (any_met rule (alive u.steps))) u u'
     × (f' ≡ record f { function = asking (any_met rule (alive u.steps)) f.function }) × (out' ≡ out))
-    ⊎ ((IsAddressed inventory place u → ⊥) × FailsMark u u' f f' out out')
+    ⊎ ((IsAddressed inventory unit_index u → ⊥) × FailsMark u u' f f' out out')
 
 abbrev pub MarksNext : PlainInventory → Opened → List ℕ → PlainUnit → Jobs → Bool → PlainUnit → Opened → Jobs → Type 0
-MarksNext inventory f (place ∷ later) u out true u' f' out' =
-    MarksUnit inventory f place f.function.kind u out u' f' out'
-MarksNext inventory f (place ∷ later) u out false u' f' out' = (HasPlaces out → ⊥) × StaysMark u u' f f' out out'
+MarksNext inventory f (unit_index ∷ later) u out true u' f' out' =
+    MarksUnit inventory f unit_index f.function.kind u out u' f' out'
+MarksNext inventory f (unit_index ∷ later) u out false u' f' out' = (HasPlaces out → ⊥) × StaysMark u u' f f' out out'
 MarksNext inventory f [] u out true u' f' out' = ⊥
 MarksNext inventory f [] u out false u' f' out' = StaysMark u u' f f' out out'
 

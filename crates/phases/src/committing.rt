@@ -31,7 +31,7 @@ pub fn phase_commit(unit: &mut UnitState, hand: &mut Hand) -> bool
 }
 
 /// Commits the job in the hand as [`phase_commit`] does. Where it waits, it goes from the hand behind those that wait, in a
-/// list in which the caller sees to it that there is a place free. Returns true if something changed: not where no job is
+/// list in which the caller sees to it that there is room. Returns true if something changed: not where no job is
 /// in the hand that is to be committed.
 pub fn phase_commit_or_defer(unit: &mut UnitState, hand: &mut Hand, aside: &mut JobList) -> bool
     requires room { length aside.old.jobs < aside.old.limit }
@@ -55,7 +55,7 @@ pub fn phase_commit_or_defer(unit: &mut UnitState, hand: &mut Hand, aside: &mut 
 
 /// Has the task in the hand leave its unit, which the caller found by the hand; the jobs that this lets go on are
 /// appended to the list. Returns true if something changed: not where no task is in the hand, or where the list has
-/// fewer than 64 free places. A unit that doesn't know the task, which never happens in one device, stays as it was,
+/// room for fewer than 64. A unit that doesn't know the task, which never happens in one device, stays as it was,
 /// and the hand lets go.
 pub fn phase_leave(unit: &mut UnitState, hand: &mut Hand, out: &mut JobList) -> bool
     ensures { Leaves (hand_of hand.old) unit.old out.old result unit.new (hand_of hand.new) out.new }

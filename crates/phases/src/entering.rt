@@ -38,8 +38,8 @@ fn enter(unit: &mut UnitState, arrival: Arrival, slot: &mut Slot, out: &mut JobL
 
 /// Brings the request that arrived to its unit, which the caller found by the slot. It enters, and its job is appended
 /// to the list where nothing blocks it. Where it is refused, it stands in the slot to be answered TASK SET FULL, BUSY
-/// or FAILURE. Returns true if something changed: not where no request arrived, or where the list has fewer than 64
-/// free places.
+/// or FAILURE. Returns true if something changed: not where no request arrived, or where the list has room for fewer
+/// than 64.
 pub fn phase_enter(unit: &mut UnitState, slot: &mut Slot, out: &mut JobList) -> bool
     ensures { Enters (slot_of slot.old) unit.old out.old result unit.new (slot_of slot.new) out.new }
 {

@@ -7,7 +7,7 @@
 //! nothing to do, a job waits for its unit's backed disk, or a test fails that never fails in one device. It never
 //! blocks, and what answers a request gives its receipt or a note.
 //!
-//! A function or the operator asks or changes a unit only where that has the address of the place that is named.
+//! A function or the operator asks or changes a unit only where that has the address at the index that is named.
 //! Else the function fails, the operator's act answers `WrongUnit`, and that unit stays as it was.
 //!
 //! On a queue each is said of any memory (`phase_fetch_in` ..), and of a `GuestMem` by its one list. For all that

@@ -28,7 +28,7 @@ fn mark_tasks(unit: &mut UnitState, mark: MarkBy, out: &mut JobList) -> Result<P
 /// The outcome of a step of the open function.
 #[derive(Clone, Copy, Debug, PartialEq, Eq)]
 pub enum Visited {
-    /// Nothing: no unit is left, or the list has fewer than 64 free places.
+    /// Nothing: no unit is left, or the list has room for fewer than 64.
     Nothing,
     /// It marked the tasks of its next unit.
     Marked,
@@ -51,10 +51,10 @@ pub fn phase_visit(
     if !has_places(out) {
         return Visited::Nothing;
     }
-    let Some(place) = opened.function.next_unit() else {
+    let Some(unit_index) = opened.function.next_unit() else {
         return Visited::Nothing;
     };
-    if !is_addressed(inventory, place, unit) {
+    if !is_addressed(inventory, unit_index, unit) {
         opened.function.refused();
         return Visited::Other;
     }
@@ -77,7 +77,7 @@ pub fn phase_visit(
 }
 
 /// Takes the step of [`phase_visit`]. Returns true if something changed: not where no unit is left, or where the list has
-/// fewer than 64 free places.
+/// room for fewer than 64.
 pub fn phase_mark(
     unit: &mut UnitState,
     inventory: &Inventory,

@@ -39,20 +39,20 @@ fn reset_event(unit: &UnitState) -> Event
     }
 }
 
-/// Resets the unit of a place of the inventory for the operator: jobs of tasks that wait there are appended to the list,
-/// and the event of the reset waits. Returns true if something changed: not where the list has fewer than 64 free
-/// places, or no event can name the unit's LUN. `WrongUnit` where this isn't the unit that the inventory names there,
+/// Resets the unit at an index of the inventory for the operator: jobs of tasks that wait there are appended to the list,
+/// and the event of the reset waits. Returns true if something changed: not where the list has room for fewer than
+/// 64, or no event can name the unit's LUN. `WrongUnit` where this isn't the unit that the inventory names there,
 /// `NoMemory` where the event or the step was refused memory; nothing changed then.
 pub fn phase_hard(
     unit: &mut UnitState,
     inventory: &Inventory,
-    place: usize,
+    unit_index: usize,
     out: &mut JobList,
     waiting: &mut WaitingEvents,
 ) -> Result<bool, ResetFault>
-    ensures { Resets inventory.now place unit.old out.old waiting.old result unit.new out.new waiting.new }
+    ensures { Resets inventory.now unit_index unit.old out.old waiting.old result unit.new out.new waiting.new }
 {
-    if !is_addressed(inventory, place, unit) {
+    if !is_addressed(inventory, unit_index, unit) {
         return Err(ResetFault::WrongUnit);
     }
     if !has_places(out) || unit.lun() >= LUNS {

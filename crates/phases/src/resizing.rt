@@ -51,21 +51,21 @@ fn change_event(unit: &UnitState) -> Event
     }
 }
 
-/// Gives the unit of a place of the inventory another capacity, wherever its tasks stand; the event of that waits where
+/// Gives the unit at an index of the inventory another capacity, wherever its tasks stand; the event of that waits where
 /// the driver is `told`. Returns true if something changed: not where no event can name the unit's LUN. `WrongUnit`
 /// where this isn't the unit that the inventory names there, `BadCapacity` where no unit may have so many blocks,
 /// `NoMemory` where the event or the step was refused memory; nothing changed then.
 pub fn phase_resize(
     unit: &mut UnitState,
     inventory: &Inventory,
-    place: usize,
+    unit_index: usize,
     blocks: u64,
     told: bool,
     waiting: &mut WaitingEvents,
 ) -> Result<bool, ResizeFault>
-    ensures { ResizesUnit inventory.now place unit.old blocks told waiting.old result unit.new waiting.new }
+    ensures { ResizesUnit inventory.now unit_index unit.old blocks told waiting.old result unit.new waiting.new }
 {
-    if !is_addressed(inventory, place, unit) {
+    if !is_addressed(inventory, unit_index, unit) {
         return Err(ResizeFault::WrongUnit);
     }
     if unit.lun() >= LUNS {

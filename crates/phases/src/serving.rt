@@ -102,7 +102,7 @@ impl<'a, M: WritableMemory> Answering for Answer<'a, M> {
 #[inline(always)]
 fn leave(unit: &mut UnitState, answered: Answered, out: &mut JobList) -> bool
     requires { HasPlaces out.old }
-    ensures { (place : _) → Leaves (plain.Hand.Answered place answered) unit.old out.old result
+    ensures { (unit_index : _) → Leaves (plain.Hand.Answered unit_index answered) unit.old out.old result
         unit.new plain.Hand.Empty out.new }
 {
     match unit.leave(answered, out) {
@@ -196,7 +196,7 @@ fn serve_by_steps<M: WritableMemory>(
 /// - What refuses the request stands in the slot.
 /// - The command waits for its unit's disk, which is backed. The job is appended to the list, to be committed later.
 ///
-/// The queue owns the chain, and the list has 64 places free, which the caller sees to.
+/// The queue owns the chain, and the list has room for 64, which the caller sees to.
 #[inline(always)]
 pub fn serve_request(
     unit: &mut UnitState,

@@ -19,7 +19,7 @@ use Rattle.command_model.specs.Absent.{absent_reply}
 use Rattle.command_model.specs.PlainReply.{PlainReply, refusal}
 use Rattle.command_model.specs.Data.{data_of}
 use Rattle.request_intake.specs.Answers.{failed, answer_of_reply}
-use Rattle.request_intake.specs.Inventory.{PlainInventory, has_target, is_cached, place_of, profile_of}
+use Rattle.request_intake.specs.Inventory.{PlainInventory, has_target, is_cached, index_of, profile_of}
 use Rattle.request_intake.specs.declared.answer.ChainLengths.{ChainLengths}
 use Rattle.request_intake.specs.declared.attribute.TaskAttribute.{TaskAttribute}
 use Rattle.request_intake.specs.declared.attribute.TaskAttribute.TheVariants.{Simple, Ordered, HeadOfQueue}
@@ -57,27 +57,27 @@ fails c = Direct (failed c)
 abbrev pub replies : ChainLengths → PlainReply → Decision
 replies n r = Direct (answer_of_reply n r)
 
--- a LUN that is absent, or the unit at a place
+-- a LUN that is absent, or the unit at an index
 abbrev pub decide_unit : Option ℕ → ChainLengths → List ℕ → Request → TaskAttribute → Command → Decision
 decide_unit None n bytes r attribute c = replies n (absent_reply c)
-decide_unit (Some place) n bytes r attribute c =
-    Enter place (record { id = r.id; attribute = attribute; command = c; data_out = data_of c (drop 51 bytes) })
+decide_unit (Some unit_index) n bytes r attribute c =
+    Enter unit_index (record { id = r.id; attribute = attribute; command = c; data_out = data_of c (drop 51 bytes) })
 
 -- a task attribute that isn't SIMPLE, ORDERED or HEAD OF QUEUE
 abbrev pub decide_attribute : Option TaskAttribute → Option ℕ → ChainLengths → List ℕ → Request → Command → Decision
-decide_attribute None place n bytes r c = replies n (refusal invalid_message_error)
-decide_attribute (Some attribute) place n bytes r c = decide_unit place n bytes r attribute c
+decide_attribute None unit_index n bytes r c = replies n (refusal invalid_message_error)
+decide_attribute (Some attribute) unit_index n bytes r c = decide_unit unit_index n bytes r attribute c
 
--- of a request whose target is there, and whose unit is at this place, if anywhere: OVERRUN first
+-- of a request whose target is there, and whose unit is at this index, if anywhere: OVERRUN first
 abbrev pub decide_command : Option ℕ → ChainLengths → List ℕ → Request → Command → Decision
-decide_command place n bytes r c =
-    if overruns n c then fails code.Overrun else decide_attribute (attribute_of r.attribute) place n bytes r c
+decide_command unit_index n bytes r c =
+    if overruns n c then fails code.Overrun else decide_attribute (attribute_of r.attribute) unit_index n bytes r c
 
 -- a target that isn't there; else the command is that of the unit's profile, and of its write cache
 abbrev pub decide_address : PlainInventory → ChainLengths → List ℕ → Request → Decision
 decide_address units n bytes r =
     if has_target units.addresses r.address.target
-    then decide_command (place_of units.addresses r.address) n bytes r
+    then decide_command (index_of units.addresses r.address) n bytes r
     (command_for (is_cached units r.address) (profile_of units r.address) r.cdb)
     else fails code.BadTarget
 

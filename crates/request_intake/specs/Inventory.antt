@@ -17,7 +17,7 @@ abbrev pub has_cache : UnitSpec → Bool
 has_cache u = (told_by u.profile u.identity).write_cache
 
 -- own: the address of each unit, the profile of its commands, and whether it has a volatile write cache, each at its unit's
--- place
+-- index
 pub record PlainInventory : Type 0 where
   pub addresses : List Address
   pub profiles : List Profile
@@ -53,27 +53,27 @@ is_rising (a ∷ b ∷ more) = stands_before a b && is_rising (b ∷ more)
 abbrev pub has_target : List Address → ℕ → Bool
 has_target units target = list_any (λ u. u.target == target) units
 
--- the place of an address
-abbrev pub place_of : List Address → Address → Option ℕ
-place_of units a = position (λ u. (u.target == a.target) && (u.lun == a.lun)) units
+-- the index of an address
+abbrev pub index_of : List Address → Address → Option ℕ
+index_of units a = position (λ u. (u.target == a.target) && (u.lun == a.lun)) units
 
--- own: the profile of the unit at a place that was found; narrow where none was
+-- own: the profile of the unit at an index that was found; narrow where none was
 abbrev pub profile_at : PlainInventory → Option ℕ → Profile
 profile_at units None = Narrow
-profile_at units (Some place) = unwrap_or (slice_get units.profiles place) Narrow
+profile_at units (Some unit_index) = unwrap_or (slice_get units.profiles unit_index) Narrow
 
 -- own: the profile of the unit with this address; narrow where none is there
 abbrev pub profile_of : PlainInventory → Address → Profile
-profile_of units a = profile_at units (place_of units.addresses a)
+profile_of units a = profile_at units (index_of units.addresses a)
 
--- own: whether the unit at a place that was found has a volatile write cache; not where none was
+-- own: whether the unit at an index that was found has a volatile write cache; not where none was
 abbrev pub cache_at : PlainInventory → Option ℕ → Bool
 cache_at units None = false
-cache_at units (Some place) = unwrap_or (slice_get units.caches place) false
+cache_at units (Some unit_index) = unwrap_or (slice_get units.caches unit_index) false
 
 -- own: whether the unit with this address has one; not where none is there
 abbrev pub is_cached : PlainInventory → Address → Bool
-is_cached units a = cache_at units (place_of units.addresses a)
+is_cached units a = cache_at units (index_of units.addresses a)
 
 -- the LUNs of a target
 abbrev pub luns_of : List Address → ℕ → List ℕ

@@ -66,10 +66,10 @@ fn command_for(is_cached: bool, profile: Profile, cdb: &[u8; CDB_BYTES]) -> Comm
 }
 
 /// Returns the decision on a request whose target is there, and whose unit, of this profile, with a volatile write cache
-/// or without, is at this place of the inventory, if it is anywhere. It is inlined, so that a request to a unit that is there costs no further call.
+/// or without, is at this index of the inventory, if it is anywhere. It is inlined, so that a request to a unit that is there costs no further call.
 #[inline(always)]
 fn decide_by_command(
-    place: Option<usize>,
+    unit_index: Option<usize>,
     is_cached: bool,
     profile: Profile,
     bytes: &mut Vec<u8>,
@@ -81,8 +81,8 @@ fn decide_by_command(
     requires sum { lengths.now.readable + lengths.now.writable ≤ 2 ^ 32 }
     requires room { RESPONSE_BYTES ≤ lengths.now.writable }
     ensures decision { result
-        ≡ decide_command place lengths.now bytes.old.items request.now (command_for is_cached profile request.now.cdb) }
-    ensures suits { (units : ℕ) → IfSome place (λ at. at < units) → Suits units lengths.now result }
+        ≡ decide_command unit_index lengths.now bytes.old.items request.now (command_for is_cached profile request.now.cdb) }
+    ensures suits { (units : ℕ) → IfSome unit_index (λ at. at < units) → Suits units lengths.now result }
 {
     let command = command_for(is_cached, profile, &request.cdb);
     let need = need(&command);
@@ -94,11 +94,11 @@ fn decide_by_command(
     let Some(attribute) = attribute_of(request.attribute) else {
         return Decision::Direct(DirectAnswer::refused(lengths, Sense::INVALID_MESSAGE_ERROR));
     };
-    match place {
+    match unit_index {
         None => Decision::Direct(DirectAnswer::absent(lengths, &command)),
-        Some(place) => {
+        Some(unit_index) => {
             Decision::Enter(
-                place,
+                unit_index,
                 UnitRequest::new(request.id, attribute, command, need.out, bytes),
             )
         }
@@ -120,10 +120,17 @@ fn decide_by_address(
     ensures suits { Suits (length inventory.now.addresses) lengths.now result }
 {
     match inventory.find(&request.address) {
-        Some(place) => {
-            let is_cached = inventory.has_cache_at(place);
-            let profile = inventory.profile_at(place);
-            decide_by_command(Some(place), is_cached, profile, bytes, lengths, request)
+        Some(unit_index) => {
+            let is_cached = inventory.has_cache_at(unit_index);
+            let profile = inventory.profile_at(unit_index);
+            decide_by_command(
+                Some(unit_index),
+                is_cached,
+                profile,
+                bytes,
+                lengths,
+                request,
+            )
         }
         None if inventory.has_target(request.address.target) => {
             decide_by_command(None, false, Profile::Narrow, bytes, lengths, request)

@@ -2,7 +2,7 @@
 
 ghost use Rattle.std.specs.Prelude.{◌≡◌, ◌<◌, ◌≤◌, ◌^◌, true, map, length, slice_get, Some, IfSome, IfOk};
 ghost use Rattle.scsi_codec.specs.Lun.{address_at, number_of};
-ghost use Rattle.request_intake.specs.Inventory.{address_of, stands_before, inventory_of, is_rising, has_cache, has_target, place_of, luns_of};
+ghost use Rattle.request_intake.specs.Inventory.{address_of, stands_before, inventory_of, is_rising, has_cache, has_target, index_of, luns_of};
 
 use arrayvec::ArrayVec;
 use cdb::Profile;
@@ -62,7 +62,7 @@ pub struct Inventory {
 }
 
 /// Keeps what a request is decided by once its unit is found: the commands that the unit knows, whether it has a volatile
-/// write cache, and the number of its address. Free places of a list have the narrow ones.
+/// write cache, and the number of its address. Free slots of a list have the narrow ones.
 #[derive(Clone, Copy)]
 struct Known {
     profile: Profile,
@@ -118,7 +118,7 @@ impl Inventory {
         Inventory { addresses, known }
     }
 
-    /// Returns the addresses, each at its unit's place.
+    /// Returns the addresses, each at its unit's index.
     pub fn as_slice(&self) -> &[Address]
         ensures addresses { result.now ≡ self.now.addresses }
         ensures few { length result.now ≤ MOST_UNITS }
@@ -136,11 +136,11 @@ impl Inventory {
             .any(|address| address.target == target)
     }
 
-    /// Returns the place of the unit with this address; `None` where it isn't there.
+    /// Returns the index of the unit with this address; `None` where it isn't there.
     pub fn find(&self, address: &Address) -> Option<usize>
-        ensures place { result ≡ place_of self.now.addresses address.now }
-        ensures within { IfSome result (λ place. place < length self.now.addresses) }
-        ensures target { IfSome result (λ place. has_target self.now.addresses address.now.target ≡ true) }
+        ensures index { result ≡ index_of self.now.addresses address.now }
+        ensures within { IfSome result (λ unit_index. unit_index < length self.now.addresses) }
+        ensures target { IfSome result (λ unit_index. has_target self.now.addresses address.now.target ≡ true) }
     {
         self.addresses
             .as_slice()
@@ -148,35 +148,35 @@ impl Inventory {
             .position(|it| it.target == address.target && it.lun == address.lun)
     }
 
-    /// Returns the profile of the unit at this place.
+    /// Returns the profile of the unit at this index.
     #[inline(always)]
-    pub fn profile_at(&self, place: usize) -> Profile
-        requires place { place < length self.now.addresses }
-        ensures { slice_get self.now.profiles place ≡ Some result }
+    pub fn profile_at(&self, unit_index: usize) -> Profile
+        requires unit_index { unit_index < length self.now.addresses }
+        ensures { slice_get self.now.profiles unit_index ≡ Some result }
     {
-        self.known.as_slice()[place].profile
+        self.known.as_slice()[unit_index].profile
     }
 
-    /// Returns true if the unit at this place has a volatile write cache.
+    /// Returns true if the unit at this index has a volatile write cache.
     #[inline(always)]
-    pub fn has_cache_at(&self, place: usize) -> bool
-        requires place { place < length self.now.addresses }
-        ensures { slice_get self.now.caches place ≡ Some result }
+    pub fn has_cache_at(&self, unit_index: usize) -> bool
+        requires unit_index { unit_index < length self.now.addresses }
+        ensures { slice_get self.now.caches unit_index ≡ Some result }
     {
-        self.known.as_slice()[place].write_cache
+        self.known.as_slice()[unit_index].write_cache
     }
 
-    /// Returns the number of the address of the unit at this place.
+    /// Returns the number of the address of the unit at this index.
     #[inline(always)]
     #[tactic(auto, using(crate::proofs::Numbers::numbered))]
-    pub fn number_at(&self, place: usize) -> u32
-        requires place { place < length self.now.addresses }
-        ensures number { slice_get (map number_of self.now.addresses) place ≡ Some result }
-        ensures address { slice_get self.now.addresses place ≡ Some (address_at result) }
+    pub fn number_at(&self, unit_index: usize) -> u32
+        requires unit_index { unit_index < length self.now.addresses }
+        ensures number { slice_get (map number_of self.now.addresses) unit_index ≡ Some result }
+        ensures address { slice_get self.now.addresses unit_index ≡ Some (address_at result) }
         ensures range { result < 2 ^ 24 }
     {
-        let _number = self.addresses.as_slice()[place].number();
-        self.known.as_slice()[place].number
+        let _number = self.addresses.as_slice()[unit_index].number();
+        self.known.as_slice()[unit_index].number
     }
 
     /// Returns the LUNs of a target, rising, for a unit that opens. `AllocError` where their list was refused memory.

@@ -14,8 +14,8 @@ use crate::decision::Decision;
 /// A request that asks for the medium comes to a unit with a volatile write cache as `Bad` or `Unknown` alone, whatever it
 /// asks for besides. So the unit neither reads nor writes for it.
 pub fn medium_is_not_promised()
-    ensures { (units : PlainInventory) (bytes : List ℕ) (n : Lengths) (place : ℕ) (asked : ARequest) (r : PlainRequest)
+    ensures { (units : PlainInventory) (bytes : List ℕ) (n : Lengths) (unit_index : ℕ) (asked : ARequest) (r : PlainRequest)
         → reading bytes n.writable ≡ Ok asked → IsTrue (asks_medium asked.cdb)
-        → slice_get units.caches place ≡ Some true → decided units bytes n ≡ Decision.Enter place r
+        → slice_get units.caches unit_index ≡ Some true → decided units bytes n ≡ Decision.Enter unit_index r
         → r.command ≡ unpromised asked.cdb }
 {}

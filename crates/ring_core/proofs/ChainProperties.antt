@@ -28,7 +28,7 @@ use Rattle.ring_core.proofs.Tabulated.{length-tabulated, get_or-tabulated}
 use Rattle.ring_core.proofs.RightChains.{less_or_same, split_names, packed_names, split_direct, packed_direct, split_none, split_tests, split_table_tests, packed_tests, packed_table_tests, chain_right, run_few}
 use Rattle.ring_core.proofs.Walking.{packed_walk}
 
--- What stands at a place of a list:
+-- What stands at an index of a list:
 there : {X : Type 0} (xs : List X) (k : ℕ) (d : X) → k < length xs → slice_get xs k ≡ Some (get_or xs k d)
 there xs k d lt = grind (arith, common_steps, gets)
 

@@ -54,18 +54,18 @@ positions a b c d e f = ap (λ (i : RingIndex). position_of i c) e ∙ ap (λ (i
 abbrev opened_as : Form → RingState → RingState
 opened_as f s = opening f s.queue (going_on s.layout (position_in_form f s)) s.features s.memory (length s.outstanding)
 
-place_as : (f : Form) (s : RingState) → 0 < s.layout.size → position_in_form f (opened_as f s) ≡ position_in_form f s
+position_as : (f : Form) (s : RingState) → 0 < s.layout.size → position_in_form f (opened_as f s) ≡ position_in_form f s
 unfolding opening
-place_as Split s some =
+position_as Split s some =
     positions _ _ _ _
     (indices _ _ true true (index_stays (s.layout.first_available.index + length s.log.accepted)) refl)
     (indices _ _ true true (index_stays (s.layout.first_used.index + length s.log.used)) refl)
-place_as Packed s some =
+position_as Packed s some =
     positions _ _ _ _ (begun s.layout.size (available_place s) some) (begun s.layout.size (used_place s) some)
 
-pub same_place : (s : RingState) → 0 < s.layout.size → position (reopened s) ≡ position s
+pub same_position : (s : RingState) → 0 < s.layout.size → position (reopened s) ≡ position s
 unfolding opening
-same_place s some = place_as s.form s some
+same_position s some = position_as s.form s some
 
 -- What it offers, by what it depends on
 
@@ -195,14 +195,14 @@ unfolding opening
 packed_offers s m o some sound none =
     let t : RingState = opened_as Packed s in
     let size : ℕ = s.layout.size in
-    let place : ℕ = available_place s in
-    let i : index_at size (available_place t) ≡ index_at size place = begun size place some in
-    let slot : available_place t % size ≡ place % size = ap (λ (k : RingIndex). k.index) i in
-    let wrap : wrap_counter size (available_place t) ≡ wrap_counter size place = ap (λ (k : RingIndex). k.wrap) i in
+    let passed : ℕ = available_place s in
+    let i : index_at size (available_place t) ≡ index_at size passed = begun size passed some in
+    let slot : available_place t % size ≡ passed % size = ap (λ (k : RingIndex). k.index) i in
+    let wrap : wrap_counter size (available_place t) ≡ wrap_counter size passed = ap (λ (k : RingIndex). k.wrap) i in
     let descriptor : ℕ → Descriptor = λ k. packed_descriptor (bytes_at m (s.layout.desc + 16 * k) 16) in
-    let first : slot_at t.layout m (available_place t) ≡ slot_at s.layout m place = ap descriptor slot in
-    let all : slots_from t.layout m (available_place t) ≡ slots_from s.layout m place =
-    fun_ext (λ k. ap descriptor (sym (mod-add-mod (available_place t) size k) ∙ ap (λ (x : ℕ). (x + k) % size) slot ∙ mod-add-mod place size k)) in
+    let first : slot_at t.layout m (available_place t) ≡ slot_at s.layout m passed = ap descriptor slot in
+    let all : slots_from t.layout m (available_place t) ≡ slots_from s.layout m passed =
+    fun_ext (λ k. ap descriptor (sym (mod-add-mod (available_place t) size k) ∙ ap (λ (x : ℕ). (x + k) % size) slot ∙ mod-add-mod passed size k)) in
     let free : under t ≡ under s = fun_ext (λ id. none_there (length s.outstanding) id ∙ sym (none id)) in
     let outstanding : 0 - 0 ≡ s.accepted_slots - s.used_slots = omega (arith, sound.slots_counted, no_slots s.outstanding none) in (
       λ x.

@@ -98,7 +98,7 @@ stores_in_two (p ∷ ps) at a b =
               let da : drop (p.len - at) a ≡ [] = drop_all (p.len - at) a (omega arith) in
               let tab : take (p.len - at) (a ++ b) ≡ a ++ take left b = ap (λ (i : ℕ). take i (a ++ b)) k ∙ take_over a b left in
               let dab : drop (p.len - at) (a ++ b) ≡ drop left b = ap (λ (i : ℕ). drop i (a ++ b)) k ∙ drop_over a b left in
-              let place : p.addr + (at + length a) ≡ x + length a = omega arith in
+              let address : p.addr + (at + length a) ≡ x + length a = omega arith in
               let first : in_stores (p ∷ ps) at a ≡ stores_at x a =
               stores_into p ps at a w lt
               ∙ ap (λ (bs : List ℕ). stores_at x bs ++ in_stores ps 0 (drop (p.len - at) a)) ta
@@ -107,7 +107,7 @@ stores_in_two (p ∷ ps) at a b =
               ∙ append-nil (stores_at x a) in
               ap (λ (ss : List Store). ss ++ in_stores (p ∷ ps) (at + length a) b) first
               ∙ ap (λ (ss : List Store). stores_at x a ++ ss) (stores_into p ps (at + length a) b w short)
-              ∙ ap (λ (i : ℕ). stores_at x a ++ (stores_at i (take left b) ++ in_stores ps 0 (drop left b))) place
+              ∙ ap (λ (i : ℕ). stores_at x a ++ (stores_at i (take left b) ++ in_stores ps 0 (drop left b))) address
               ∙ sym (append_assoc (stores_at x a) (stores_at (x + length a) (take left b)) (in_stores ps 0 (drop left b)))
               ∙ ap (λ (ss : List Store). ss ++ in_stores ps 0 (drop left b)) (sym (stores_behind x a (take left b)))
               ∙ sym (stores_into p ps at (a ++ b) w lt

@@ -10,13 +10,13 @@ below_or_last n m lt = grind arith
 clash : (c : OutstandingChain) → None ≡ Some c → ⊥
 clash c e = cc
 
--- the item at a place, whatever stands for one past the end
+-- the item at an index, whatever stands for one past the end
 pub same_at : {X : Type 0} (xs : List X) (i : ℕ) (d e : X) → i < length xs → get_or xs i d ≡ get_or xs i e
 same_at [] i d e lt = absurd (omega arith)
 same_at (x ∷ xs) zero d e lt = refl
 same_at (x ∷ xs) (suc i) d e lt = same_at xs i d e (omega arith)
 
--- a fact of the place that was looked at last, and of those before it
+-- a fact of the index that was looked at last, and of those before it
 module _ (xs : List (Option OutstandingChain)) (i : ℕ) where
   at_last : (k : ℕ) (x : Option OutstandingChain) (c : OutstandingChain) → get_or xs i None ≡ x → k ≡ i → get_or xs k None ≡ Some c → x ≡ Some c
   at_last k x c is same e = sym is ∙ ap (λ (j : ℕ). get_or xs j None) (sym same) ∙ e

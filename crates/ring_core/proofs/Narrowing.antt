@@ -21,18 +21,18 @@ is_kept most p = p.writable && nat_lt 0 p.len && nat_lt 0 most
 abbrev pub cut : ℕ → Part → Part
 cut most p = record p { len = min p.len most }
 
-data Place (most : ℕ) (p : Part) : Type 0 where
-  Kept : p.writable ≡ true → 0 < p.len → 0 < most → Place most p
-  Over : p.writable ≡ false → Place most p
-  Empty : p.writable ≡ true → p.len ≡ 0 → Place most p
-  Behind : p.writable ≡ true → most ≡ 0 → Place most p
+data Standing (most : ℕ) (p : Part) : Type 0 where
+  Kept : p.writable ≡ true → 0 < p.len → 0 < most → Standing most p
+  Over : p.writable ≡ false → Standing most p
+  Empty : p.writable ≡ true → p.len ≡ 0 → Standing most p
+  Behind : p.writable ≡ true → most ≡ 0 → Standing most p
 
 true_or_false : (b : Bool) → (b ≡ true) ⊎ (b ≡ false)
 true_or_false true = inl refl
 true_or_false false = inr refl
 
-place : (most : ℕ) (p : Part) → Place most p
-place most p =
+standing : (most : ℕ) (p : Part) → Standing most p
+standing most p =
     elim (true_or_false p.writable) [
       | inr r ↦ Over r
       | inl w ↦ elim (cases_lt 0 p.len) [
@@ -64,7 +64,7 @@ behind most p ps w done =
 -- no byte is in no part
 pub none_first : (ps : List Part) → first_writable 0 ps ≡ []
 none_first [] = refl
-none_first (p ∷ ps) = elim (place 0 p) [
+none_first (p ∷ ps) = elim (standing 0 p) [
   | Kept w some left ↦ absurd (omega (arith, left))
   | Over r ↦ over 0 p ps r ∙ none_first ps
   | Empty w none ↦ empty 0 p ps w none ∙ none_first ps
@@ -76,7 +76,7 @@ pub few_first : (most : ℕ) (ps : List Part) → length (first_writable most ps
 few_first most [] = omega arith
 few_first most (p ∷ ps) =
     let P : List Part → Type 0 = λ qs. length qs ≤ most in
-    elim (place most p) [
+    elim (standing most p) [
       | Kept w some left ↦ subst P (sym (keeps most p ps w some left)) (omega (arith, few_first (most - p.len) ps, some, left))
       | Over r ↦ subst P (sym (over most p ps r)) (few_first most ps)
       | Empty w none ↦ subst P (sym (empty most p ps w none)) (few_first most ps)
@@ -96,7 +96,7 @@ reads_none p ps w = sum_by-cons (λ (q : Part). cond q.writable 0 q.len) p ps �
 -- they are as many bytes as are wanted, or as there are
 pub room_first : (most : ℕ) (ps : List Part) → writable_total (first_writable most ps) ≡ min most (writable_total ps)
 room_first most [] = omega arith
-room_first most (p ∷ ps) = elim (place most p) [
+room_first most (p ∷ ps) = elim (standing most p) [
   | Kept w some left ↦
       ap writable_total (keeps most p ps w some left)
       ∙ writes_of (cut most p) (first_writable (most - p.len) ps) w
@@ -109,7 +109,7 @@ room_first most (p ∷ ps) = elim (place most p) [
 -- none is read
 pub none_read : (most : ℕ) (ps : List Part) → readable_total (first_writable most ps) ≡ 0
 none_read most [] = refl
-none_read most (p ∷ ps) = elim (place most p) [
+none_read most (p ∷ ps) = elim (standing most p) [
   | Kept w some left ↦
       ap readable_total (keeps most p ps w some left)
       ∙ reads_none (cut most p) (first_writable (most - p.len) ps) w
@@ -129,7 +129,7 @@ all_inside size most (p ∷ ps) all =
     let here : inside size p ≡ true = All-head (λ (q : Part). inside size q ≡ true) p ps all in
     let rest : AllPass (inside size) ps = All-tail (λ (q : Part). inside size q ≡ true) p ps all in
     let P : List Part → Type 0 = λ qs. AllPass (inside size) qs in
-    elim (place most p) [
+    elim (standing most p) [
       | Kept w some left ↦
           subst P (sym (keeps most p ps w some left))
           (All-cons (λ (q : Part). inside size q ≡ true) (cut most p) (first_writable (most - p.len) ps)
@@ -200,7 +200,7 @@ same_written most (p ∷ ps) bs le = elim (cases_lt 0 (length bs)) [
       ap (λ (xs : List ℕ). scatter_writes (first_writable most (p ∷ ps)) 0 xs) is
       ∙ no_writes (first_writable most (p ∷ ps)) 0
       ∙ sym (ap (λ (xs : List ℕ). scatter_writes (p ∷ ps) 0 xs) is ∙ no_writes (p ∷ ps) 0)
-  | inl more ↦ elim (place most p) [
+  | inl more ↦ elim (standing most p) [
     | Kept w some left ↦
         ap (λ (qs : List Part). scatter_writes qs 0 bs) (keeps most p ps w some left)
         ∙ written_into (cut most p) (first_writable (most - p.len) ps) bs w (omega (arith, some, left)) more

@@ -118,10 +118,10 @@ named_there x false lt =
     rw (a, b) (grind (arith, nat_tests))
 
 -- a chain that begins at a named slot has it
-named_first : (size place t n : ℕ) → is_named size place t ≡ true → names_one size place t (suc n) ≡ true
+named_first : (size offset_wrap t n : ℕ) → is_named size offset_wrap t ≡ true → names_one size offset_wrap t (suc n) ≡ true
 unfolding names_one
-named_first size place t zero is = let e : t + 0 ≡ t = omega arith in rw e is
-named_first size place t (suc n) is = rw (named_first size place t n is) refl
+named_first size offset_wrap t zero is = let e : t + 0 ≡ t = omega arith in rw e is
+named_first size offset_wrap t (suc n) is = rw (named_first size offset_wrap t n is) refl
 
 below : (x : ℕ) (w : Bool) → x < 32768 → x + cond w 32768 0 < 65536
 below x true lt = omega arith
@@ -149,12 +149,12 @@ next_of_packed s m (suc n) some most inside any = by_index s.features.event_inde
         → packed_notifies s (all_written m (packed_asking s Next ∷ [])) (available_place s) (suc n) ≡ true
     by_index true is =
         let lt : x < 32768 = omega (arith, mod-lt t some, most) in
-        let place = x + cond w 32768 0 in
-        let offset : little_number 2 (bytes_at (with_bytes m at (little_bytes 2 place ++ little_bytes 2 2)) at 2) ≡ place =
-        first_number m at place (little_bytes 2 2) (omega (arith, inside)) (below x w lt) in
-        let flags : little_number 2 (bytes_at (with_bytes m at (little_bytes 2 place ++ little_bytes 2 2)) (at + 2) 2) ≡ 2 =
-        second_number m at place 2 (omega (arith, inside)) (omega arith) in
-        rw (is, flags, offset) (named_first s.layout.size place t n (named_there x w lt))
+        let offset_wrap = x + cond w 32768 0 in
+        let offset : little_number 2 (bytes_at (with_bytes m at (little_bytes 2 offset_wrap ++ little_bytes 2 2)) at 2) ≡ offset_wrap =
+        first_number m at offset_wrap (little_bytes 2 2) (omega (arith, inside)) (below x w lt) in
+        let flags : little_number 2 (bytes_at (with_bytes m at (little_bytes 2 offset_wrap ++ little_bytes 2 2)) (at + 2) 2) ≡ 2 =
+        second_number m at offset_wrap 2 (omega (arith, inside)) (omega arith) in
+        rw (is, flags, offset) (named_first s.layout.size offset_wrap t n (named_there x w lt))
     by_index false is =
         let flags : little_number 2 (bytes_at (with_bytes m at (little_bytes 2 0 ++ little_bytes 2 0)) (at + 2) 2) ≡ 0 =
         second_number m at 0 0 (omega (arith, inside)) (omega arith) in

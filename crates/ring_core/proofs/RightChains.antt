@@ -131,7 +131,7 @@ module _ (at : ℕ → Descriptor) where
         | inr same ↦ let e : is_writable (at k) ≡ true = ap (λ (i : ℕ). is_writable (at i)) (sym same) ∙ w in grind (arith, common_steps)
       ]
 
-  -- the part at a place is that of the descriptor there
+  -- the part at an index is that of the descriptor there
   part_at : (n k : ℕ) (p : Part) → slice_get (map part_of (front at n)) k ≡ Some p → (k < n) × (p ≡ part_of (at k))
   unfolding front
   part_at zero k p e = absurd (cc)

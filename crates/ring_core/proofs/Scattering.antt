@@ -188,11 +188,11 @@ two_goes size m (p ∷ ps) at a b is all =
               let k : p.len - at ≡ length a + left = omega arith in
               let tab : take (p.len - at) (a ++ b) ≡ a ++ take left b = ap (λ (i : ℕ). take i (a ++ b)) k ∙ take_over a b left in
               let dab : drop (p.len - at) (a ++ b) ≡ drop left b = ap (λ (i : ℕ). drop i (a ++ b)) k ∙ drop_over a b left in
-              let place : p.addr + (at + length a) ≡ x + length a = omega arith in
+              let address : p.addr + (at + length a) ≡ x + length a = omega arith in
               let inside_it : x ≤ length m = omega (arith, room size p at here lt, is) in
               scattered_into (scattered m (p ∷ ps) at a) p ps (at + length a) b w short
               ∙ ap (λ (n : List ℕ). scattered (with_bytes n (p.addr + (at + length a)) (take left b)) ps 0 (drop left b)) first
-              ∙ ap (λ (i : ℕ). scattered (with_bytes (with_bytes m x a) i (take left b)) ps 0 (drop left b)) place
+              ∙ ap (λ (i : ℕ). scattered (with_bytes (with_bytes m x a) i (take left b)) ps 0 (drop left b)) address
               ∙ ap (λ (n : List ℕ). scattered n ps 0 (drop left b)) (with_more m x a (take left b) inside_it)
               ∙ sym (scattered_into m p ps at (a ++ b) w lt
               ∙ ap (λ (bs : List ℕ). scattered (with_bytes m x bs) ps 0 (drop (p.len - at) (a ++ b))) tab

@@ -249,7 +249,7 @@ sound-break s f sound guest =
       broken_by_guest = λ e. guest (same_Some f NoMemory e);
     }
 
--- what was put into a free place and taken back leaves the list as it was
+-- what was put into a free entry and taken back leaves the list as it was
 pub put_back : (xs : List (Option OutstandingChain)) (i : ℕ) (v : Option OutstandingChain) → i < length xs → get_or xs i None ≡ None → set (set xs i v) i None ≡ xs
 put_back xs i v lt free =
     ext_get_or None (set (set xs i v) i None) xs (length-set (set xs i v) i None ∙ length-set xs i v) (λ j below.

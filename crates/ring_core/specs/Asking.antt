@@ -86,13 +86,13 @@ split_notifies s m index = cond s.features.event_index (avail_event s m == index
 abbrev pub device_event_flags : RingState → List ℕ → ℕ
 device_event_flags s m = little_number 2 (bytes_at m (s.layout.device + 2) 2) % 4
 
-abbrev pub device_event_place : RingState → List ℕ → ℕ
-device_event_place s m = little_number 2 (bytes_at m s.layout.device 2)
+abbrev pub device_event_offset_wrap : RingState → List ℕ → ℕ
+device_event_offset_wrap s m = little_number 2 (bytes_at m s.layout.device 2)
 
 -- the driver notifies the device of a chain of so many slots, from where t were passed, once it made that available
 -- (2.8.10)
 abbrev pub packed_notifies : RingState → List ℕ → ℕ → ℕ → Bool
 packed_notifies s m t slots =
     cond (s.features.event_index && (device_event_flags s m == 2))
-    (names_one s.layout.size (device_event_place s m) t slots)
+    (names_one s.layout.size (device_event_offset_wrap s m) t slots)
     (not (device_event_flags s m == 1))

@@ -1,4 +1,4 @@
--- A packed virtqueue (VIRTIO 1.2, 2.8): which chain lies at its next place, and what a completion writes.
+-- A packed virtqueue (VIRTIO 1.2, 2.8): which chain lies at its next slot, and what a completion writes.
 use Rattle.std.specs.Prelude.{ℕ, zero, suc, ◌+◌, ◌*◌, ◌-◌, ◌%◌, ◌/◌, ◌==◌, ◌&&◌, ◌||◌, not, nat_lt, nat_le, Bool, false, ◌≡◌, cond, List, [], ◌∷◌, ◌++◌, length, drop, Option, is_some, bit_and}
 use Rattle.byteorder.specs.Endian.{little_number, little_bytes}
 use Rattle.guest_mem.specs.Memory.{bytes_at}
@@ -121,7 +121,7 @@ chain_wrong s id slots =
 abbrev pub used_flags : Bool → ℕ → ℕ
 used_flags wrap len = cond wrap 32896 0 + cond (nat_lt 0 len) 2 0
 
--- what a completion writes (2.8.3, 2.8.4): len, id and flags of one used descriptor in the slot at the device's place;
+-- what a completion writes (2.8.3, 2.8.4): len, id and flags of one used descriptor in the device's next slot;
 -- its addr stays
 abbrev pub packed_used_writes : RingState → ℕ → ℕ → List Write
 packed_used_writes s id len =
@@ -144,13 +144,13 @@ event_offset_wrap s m = little_number 2 (bytes_at m s.layout.driver 2)
 -- the slot that is reached once t slots were passed is the one that an offset and wrap names: its number is the offset,
 -- and the wrap bit (15) is the wrap counter there
 abbrev pub is_named : ℕ → ℕ → ℕ → Bool
-is_named size place t =
-    (t % size == place % 32768) && (cond (place / 32768 == 1) (wrap_counter size t) (not (wrap_counter size t)))
+is_named size offset_wrap t =
+    (t % size == offset_wrap % 32768) && (cond (offset_wrap / 32768 == 1) (wrap_counter size t) (not (wrap_counter size t)))
 
 -- one of n slots from where t were passed is named
 unfoldable pub names_one : ℕ → ℕ → ℕ → ℕ → Bool
-names_one size place t zero = false
-names_one size place t (suc n) = names_one size place t n || is_named size place (t + n)
+names_one size offset_wrap t zero = false
+names_one size offset_wrap t (suc n) = names_one size offset_wrap t n || is_named size offset_wrap (t + n)
 
 -- a notice is wanted of the latest used chain: where event indices were agreed and flags are DESC, that is the one of
 -- whose slots one is named; before the first completion there is none. Otherwise always, but with flags DISABLE.

@@ -1,4 +1,4 @@
--- A split virtqueue (VIRTIO 1.2, 2.7): which chain lies at its next place, and what a completion writes.
+-- A split virtqueue (VIRTIO 1.2, 2.7): which chain lies at its next entry, and what a completion writes.
 use Rattle.std.specs.Prelude.{ℕ, zero, suc, ◌+◌, ◌*◌, ◌-◌, ◌%◌, ◌/◌, ◌==◌, ◌&&◌, not, nat_lt, nat_le, Bool, cond, List, [], ◌∷◌, ◌++◌, length, drop, Option, is_some, bit_and}
 use Rattle.byteorder.specs.Endian.{little_number, little_bytes}
 use Rattle.guest_mem.specs.Memory.{bytes_at}

@@ -24,5 +24,5 @@ found_under chains id = under_one chains.first id (get nat_cmp chains.others id)
 
 -- the chains under the first so many heads or ids
 abbrev pub entries_listed : Entries → ℕ → List (Option OutstandingChain)
-entries_listed (ByHead places) ids = places.items
+entries_listed (ByHead entries) ids = entries.items
 entries_listed (ById chains) ids = tabulated (found_under chains) ids

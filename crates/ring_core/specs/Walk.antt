@@ -68,7 +68,7 @@ unfoldable pub front : (ℕ → Descriptor) → ℕ → List Descriptor
 front at zero = []
 front at (suc n) = front at n ++ at n ∷ []
 
--- A sequence of descriptors: which one stands at each place, whether a run along it goes on past one, and what is wrong
+-- A sequence of descriptors: which one stands at each index, whether a run along it goes on past one, and what is wrong
 -- with one, each behind all that stands before it
 pub record Sequence : Type 0 where
   pub at : ℕ → Descriptor

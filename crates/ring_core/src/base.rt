@@ -48,7 +48,7 @@ impl Model for RingBase {
 }
 
 impl RingBase {
-    /// Makes a split queue of which nothing was fetched yet, with a place for each head.
+    /// Makes a split queue of which nothing was fetched yet, with an entry for each head.
     pub fn split(
         alloc: Global,
         queue: u16,

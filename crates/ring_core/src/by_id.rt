@@ -20,7 +20,7 @@ pub struct IdAndChain {
 /// The outstanding chains under their ids, which are any of 65,536.
 #[derive(Drop)]
 pub struct ChainsById {
-    // One that found this place free. Where each chain is used before the next is taken, the map is never touched.
+    // One that found this entry free. Where each chain is used before the next is taken, the map is never touched.
     pub(crate) first: Option<IdAndChain>,
     // The others.
     pub(crate) others: BTreeMap<u16, OutstandingChain>,

@@ -107,7 +107,7 @@ fn read_part<M: Memory>(
     requires reading { M.is_open memory.old }
     requires inside { inside (M.extent memory.old) part.now ≡ true }
     requires at { at ≤ most }
-    requires place { at + min (cond part.now.writable 0 part.now.len) (most - at) ≤ length bytes.old }
+    requires room { at + min (cond part.now.writable 0 part.now.len) (most - at) ≤ length bytes.old }
     ensures size { M.extent memory.new ≡ M.extent memory.old }
     ensures stays { (m : List ℕ) → M.may_be memory.new m → M.may_be memory.old m }
     ensures stores { M.stored memory.new ≡ M.stored memory.old }
@@ -124,8 +124,8 @@ fn read_part<M: Memory>(
     Ok(at + len)
 }
 
-/// Reads the first readable bytes of the parts, all of which were claimed, each into its place. There are as many places as
-/// bytes, at most `most`.
+/// Reads the first readable bytes of the parts, all of which were claimed, each into its place. There is room for as many
+/// as there are, at most `most`.
 #[inline(always)]
 fn read_parts<M: Memory>(
     memory: &mut M,
@@ -135,7 +135,7 @@ fn read_parts<M: Memory>(
 ) -> Result<(), AllocError>
     requires reading { M.is_open memory.old }
     requires inside { AllPass (inside (M.extent memory.old)) parts.now }
-    requires places { length bytes.old ≡ min (readable_total parts.now) most }
+    requires room { length bytes.old ≡ min (readable_total parts.now) most }
     ensures size { M.extent memory.new ≡ M.extent memory.old }
     ensures stays { (m : List ℕ) → M.may_be memory.new m → M.may_be memory.old m }
     ensures stores { M.stored memory.new ≡ M.stored memory.old }

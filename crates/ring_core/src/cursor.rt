@@ -10,15 +10,15 @@ use crate::descriptor::Part;
 use guest_mem::WritableMemory;
 use std::marker::Model;
 
-/// A place in the writable parts of a chain, from which bytes are written: so those of many goes follow one another, and
-/// no go looks at the parts before the place.
+/// A position in the writable parts of a chain, from which bytes are written: so those of many goes follow one another, and
+/// no go looks at the parts before it.
 #[derive(Drop)]
 pub struct Cursor<'a> {
     parts: &'a [Part],
-    // The part of the place, and how many bytes of it lie before the place. They may be all.
+    // The part of the position, and how many bytes of it lie before the position. They may be all.
     index: usize,
     skip: u64,
-    // How many writable bytes lie before the place.
+    // How many writable bytes lie before the position.
     at: u64,
 }
 
@@ -49,7 +49,7 @@ impl<'a> Cursor<'a> {
         }
     }
 
-    /// Writes `bytes` over the writable parts in order, from the place on, and moves the place behind them. Where parts
+    /// Writes `bytes` over the writable parts in order, from the position on, and moves it behind them. Where parts
     /// overlap the later write wins. It takes no memory. Called before `Ring::complete`, with a memory of the size that
     /// the chain's had, and with the bytes within the writable parts.
     pub fn write<M: WritableMemory>(&mut self, memory: &mut M, bytes: &[u8])

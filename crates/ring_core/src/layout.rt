@@ -48,7 +48,7 @@ pub struct Layout {
     pub first_used: RingIndex,
 }
 
-/// The place where a queue goes on: by these first indices of its layout another device goes on where this one is.
+/// The position where a queue goes on: by these first indices of its layout another device goes on where this one is.
 #[derive(Clone, Copy, Debug, PartialEq, Eq)]
 pub struct Position {
     /// The index of the next entry or slot that the device takes.

@@ -20,7 +20,7 @@ pub struct OutstandingChain {
 /// The ways in which the chains are kept.
 #[derive(Drop)]
 pub enum Entries {
-    /// A place for each head, made once: a split queue's heads are below its size.
+    /// An entry for each head, made once: a split queue's heads are below its size.
     ByHead(Vec<Option<OutstandingChain>>),
     /// An entry for each outstanding chain: a packed queue's ids are any of 65,536, of which at
     /// most as many as its size are outstanding.
@@ -69,13 +69,13 @@ fn lesser(least: Option<u64>, chain: Option<OutstandingChain>) -> Option<u64>
     }
 }
 
-/// Returns the least number of the chains in their places.
-fn least_by_head(places: &[Option<OutstandingChain>]) -> Option<u64>
-    ensures { IsLeastBelow places.now (length places.now) result }
+/// Returns the least number of the chains under their heads.
+fn least_by_head(entries: &[Option<OutstandingChain>]) -> Option<u64>
+    ensures { IsLeastBelow entries.now (length entries.now) result }
 {
     let mut least = None;
-    for place in places {
-        least = lesser(least, *place);
+    for entry in entries {
+        least = lesser(least, *entry);
     }
     least
 }
@@ -113,15 +113,15 @@ impl Model for OutstandingTable {
 }
 
 impl OutstandingTable {
-    /// Makes a table with none outstanding under the heads below `ids`, with a place for each.
+    /// Makes a table with none outstanding under the heads below `ids`, with an entry for each.
     pub(crate) fn by_head(alloc: Global, ids: usize) -> Result<OutstandingTable, AllocError>
         requires { ids ≤ 65536 }
         ensures { IfOk result (λ table. table ≡ replicate ids None) }
     {
-        let mut places = Vec::new(alloc);
-        places.resize(ids, None)?;
+        let mut entries = Vec::new(alloc);
+        entries.resize(ids, None)?;
         Ok(OutstandingTable {
-            entries: Entries::ByHead(places),
+            entries: Entries::ByHead(entries),
             ids,
         })
     }
@@ -143,7 +143,7 @@ impl OutstandingTable {
         ensures { result ≡ get_or self.now id None }
     {
         match &self.entries {
-            Entries::ByHead(places) => places.get(id as usize).copied().flatten(),
+            Entries::ByHead(entries) => entries.get(id as usize).copied().flatten(),
             Entries::ById(chains) => chain_at(chains, self.ids, id),
         }
     }
@@ -153,7 +153,7 @@ impl OutstandingTable {
         ensures { IsLeastBelow self.now (length self.now) result }
     {
         match &self.entries {
-            Entries::ByHead(places) => least_by_head(places),
+            Entries::ByHead(entries) => least_by_head(entries),
             Entries::ById(chains) => least_by_id(chains, self.ids),
         }
     }
@@ -166,8 +166,8 @@ impl OutstandingTable {
         ensures err { OnErr result (self.new ≡ self.old) }
     {
         match &mut self.entries {
-            Entries::ByHead(places) => {
-                places[id as usize] = Some(chain);
+            Entries::ByHead(entries) => {
+                entries[id as usize] = Some(chain);
                 return Ok(());
             }
             Entries::ById(chains) => {
@@ -183,8 +183,8 @@ impl OutstandingTable {
         ensures { self.new ≡ slice_set self.old id None }
     {
         match &mut self.entries {
-            Entries::ByHead(places) => {
-                places[id as usize] = None;
+            Entries::ByHead(entries) => {
+                entries[id as usize] = None;
                 return;
             }
             Entries::ById(chains) => {

@@ -68,7 +68,7 @@ pub struct Row {
     pub shows: &'static str,
     /// The pages of guest memory.
     pub pages: u32,
-    /// The place of the queue.
+    /// Where the queue lies.
     pub layout: Layout,
     /// The features that were agreed.
     pub features: u64,

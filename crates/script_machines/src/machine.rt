@@ -11,7 +11,7 @@ use world::{Event, Notify, Served};
 
 /// A device of one thread with its guest's memory, which the guest's driver writes and reads between two lines.
 pub trait Machine: GuestMemory + Device + Drop {
-    /// Opens the device of a configuration. A unit has its disk on a storage of its host where `caches` says at its place how
+    /// Opens the device of a configuration. A unit has its disk on a storage of its host where `caches` says at its index how
     /// many pages are in memory at most. `BadConfig` where it isn't taken.
     fn open(alloc: Global, config: &Config, caches: &[Option<usize>]) -> Result<Self, Stop>;
 
@@ -29,8 +29,8 @@ pub trait Machine: GuestMemory + Device + Drop {
     /// Takes down which pages the host is asked for since it was looked last.
     fn note_wanted(&mut self) -> Result<(), NoMemory>;
 
-    /// Does what a line of the host says with the disk of the unit at a place.
-    fn host(&mut self, place: u16, line: HostLine) -> Result<(), NoMemory>;
+    /// Does what a line of the host says with the disk of the unit at an index.
+    fn host(&mut self, unit_index: u16, line: HostLine) -> Result<(), NoMemory>;
 
     /// Takes an event; false where it changes nothing.
     fn step(&mut self, event: Event) -> Result<bool, NoMemory>;

@@ -95,7 +95,7 @@ impl Machine for OwnMachine {
         Ok(())
     }
 
-    fn host(&mut self, _place: u16, _line: HostLine) -> Result<(), NoMemory> {
+    fn host(&mut self, _unit_index: u16, _line: HostLine) -> Result<(), NoMemory> {
         Ok(())
     }
 

@@ -39,8 +39,8 @@ struct HostTasks {
 /// Takes a page out of a list. Returns true if it was there.
 fn take(pages: &mut Vec<u64>, page: u64) -> bool {
     match pages.iter().position(|other| *other == page) {
-        Some(place) => {
-            let _page = pages.remove(place);
+        Some(index) => {
+            let _page = pages.remove(index);
             true
         }
         None => false,
@@ -114,23 +114,23 @@ impl Device for StoredMachine {
     }
 
     fn hosted(&self, address: Address) -> Option<Hosted<'_>> {
-        let place = self.device.world().place(address.target, address.lun)?;
-        let tasks = self.tasks.get(place as usize)?;
+        let unit_index = self.device.world().unit_index(address.target, address.lun)?;
+        let tasks = self.tasks.get(unit_index as usize)?;
         Some(Hosted {
             wanted: tasks.wanted.as_slice(),
             given: tasks.given.as_slice(),
-            storage: self.device.storage(place),
+            storage: self.device.storage(unit_index),
         })
     }
 }
 
 impl StoredMachine {
     /// Notes a page that the host was asked for, if one is left; false where none is.
-    fn note_next(&mut self, place: u16) -> Result<bool, NoMemory> {
-        let Some(page) = self.device.next_wanted(place) else {
+    fn note_next(&mut self, unit_index: u16) -> Result<bool, NoMemory> {
+        let Some(page) = self.device.next_wanted(unit_index) else {
             return Ok(false);
         };
-        match self.tasks.get_mut(place as usize) {
+        match self.tasks.get_mut(unit_index as usize) {
             Some(tasks) => add(&mut tasks.wanted, page)?,
             None => return Ok(false),
         }
@@ -138,44 +138,44 @@ impl StoredMachine {
     }
 
     /// Takes a page out of those that the host was asked for. Returns true if it was there.
-    fn take_wanted(&mut self, place: u16, page: u64) -> bool {
-        match self.tasks.get_mut(place as usize) {
+    fn take_wanted(&mut self, unit_index: u16, page: u64) -> bool {
+        match self.tasks.get_mut(unit_index as usize) {
             Some(tasks) => take(&mut tasks.wanted, page),
             None => false,
         }
     }
 
     /// Takes a page out of those that it is writing. Returns true if it was there.
-    fn take_given(&mut self, place: u16, page: u64) -> bool {
-        match self.tasks.get_mut(place as usize) {
+    fn take_given(&mut self, unit_index: u16, page: u64) -> bool {
+        match self.tasks.get_mut(unit_index as usize) {
             Some(tasks) => take(&mut tasks.given, page),
             None => false,
         }
     }
 
     /// Takes the next page that is to be written, if one is left.
-    fn give(&mut self, place: u16) -> Result<(), NoMemory> {
-        let Some(page) = self.device.give(place)? else {
+    fn give(&mut self, unit_index: u16) -> Result<(), NoMemory> {
+        let Some(page) = self.device.give(unit_index)? else {
             return Ok(());
         };
-        match self.tasks.get_mut(place as usize) {
+        match self.tasks.get_mut(unit_index as usize) {
             Some(tasks) => add(&mut tasks.given, page),
             None => Ok(()),
         }
     }
 
     /// Reads a page that the host was asked for, and hands it in.
-    fn load(&mut self, place: u16, page: u64) -> Result<(), NoMemory> {
-        if self.take_wanted(place, page) {
-            let _loaded = self.device.load(place, page)?;
+    fn load(&mut self, unit_index: u16, page: u64) -> Result<(), NoMemory> {
+        if self.take_wanted(unit_index, page) {
+            let _loaded = self.device.load(unit_index, page)?;
         }
         Ok(())
     }
 
     /// Ends the write of a page, which is kept, or failed.
-    fn written(&mut self, place: u16, page: u64, kept: bool) -> Result<(), NoMemory> {
-        if self.take_given(place, page) {
-            let _kept = self.device.written(place, page, kept)?;
+    fn written(&mut self, unit_index: u16, page: u64, kept: bool) -> Result<(), NoMemory> {
+        if self.take_given(unit_index, page) {
+            let _kept = self.device.written(unit_index, page, kept)?;
         }
         Ok(())
     }
@@ -203,12 +203,12 @@ impl Machine for StoredMachine {
     fn end(&mut self) {}
 
     fn note_wanted(&mut self) -> Result<(), NoMemory> {
-        for place in 0..self.tasks.len() {
-            let Ok(place) = u16::try_from(place) else {
+        for unit_index in 0..self.tasks.len() {
+            let Ok(unit_index) = u16::try_from(unit_index) else {
                 return Ok(());
             };
             for _ in 0..u64::MAX {
-                if !self.note_next(place)? {
+                if !self.note_next(unit_index)? {
                     break;
                 }
             }
@@ -216,24 +216,24 @@ impl Machine for StoredMachine {
         Ok(())
     }
 
-    fn host(&mut self, place: u16, line: HostLine) -> Result<(), NoMemory> {
+    fn host(&mut self, unit_index: u16, line: HostLine) -> Result<(), NoMemory> {
         match line {
-            HostLine::Load(_, page) => self.load(place, page),
+            HostLine::Load(_, page) => self.load(unit_index, page),
             HostLine::Refuse(_, page) => {
-                if self.take_wanted(place, page) {
-                    let _waited = self.device.load_failed(place, page);
+                if self.take_wanted(unit_index, page) {
+                    let _waited = self.device.load_failed(unit_index, page);
                 }
                 Ok(())
             }
             HostLine::Lose(_, page) => {
-                if self.take_wanted(place, page) {
-                    let _waited = self.device.lost(place, page);
+                if self.take_wanted(unit_index, page) {
+                    let _waited = self.device.lost(unit_index, page);
                 }
                 Ok(())
             }
-            HostLine::Give(_) => self.give(place),
-            HostLine::Keep(_, page) => self.written(place, page, true),
-            HostLine::Fail(_, page) => self.written(place, page, false),
+            HostLine::Give(_) => self.give(unit_index),
+            HostLine::Keep(_, page) => self.written(unit_index, page, true),
+            HostLine::Fail(_, page) => self.written(unit_index, page, false),
         }
     }
 

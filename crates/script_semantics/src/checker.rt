@@ -124,8 +124,8 @@ impl Checker {
 
     /// Returns the word of a line of blocks from one on that are of a storage, or aren't.
     fn absent_blocks(&self, unit: Address, first: u64, is_stored: bool) -> usize {
-        let place = self.known.place(unit);
-        match place.and_then(|place| self.known.units.get(place as usize)) {
+        let unit_index = self.known.unit_index(unit);
+        match unit_index.and_then(|unit_index| self.known.units.get(unit_index as usize)) {
             None => 1,
             Some(_) if self.known.is_backed(unit) != is_stored => 1,
             Some(unit) if first > unit.blocks => 2,
@@ -153,8 +153,8 @@ impl Checker {
             Command::Guest(GuestLine::TaskManagement(function)) => self.add(function.name),
             Command::Print(PrintLine::Show(name)) | Command::Wait(name) => self.find(name),
             Command::Resize(unit, blocks) => {
-                if let Some(place) = self.known.place(*unit) {
-                    self.known.resize(place, *blocks);
+                if let Some(unit_index) = self.known.unit_index(*unit) {
+                    self.known.resize(unit_index, *blocks);
                 }
                 Ok(())
             }

@@ -15,11 +15,11 @@ use std::alloc::{AllocError, Global};
 use std::num::NonZeroU16;
 
 /// Sets what may be set once.
-fn set_once<T: Drop>(place: &mut Option<T>, value: T) -> Result<(), LineFault> {
-    if place.is_some() {
+fn set_once<T: Drop>(slot: &mut Option<T>, value: T) -> Result<(), LineFault> {
+    if slot.is_some() {
         return Err(LineFault::OutOfPlace);
     }
-    *place = Some(value);
+    *slot = Some(value);
     Ok(())
 }
 
@@ -206,21 +206,21 @@ fn features_of(form: Form, features: Features) -> u64 {
     VERSION_1 | form | indirect | event_idx | change
 }
 
-/// Returns where a ring of a form begins, by a place in it. `BadConfig` where a split ring is given a wrap counter, or a
+/// Returns where a ring of a form begins, by a position in it. `BadConfig` where a split ring is given a wrap counter, or a
 /// packed one none.
-fn index_of(form: Form, place: RingPlace) -> Result<RingIndex, LineFault> {
-    let wrap = match (form, place.wrap) {
+fn index_of(form: Form, position: RingPlace) -> Result<RingIndex, LineFault> {
+    let wrap = match (form, position.wrap) {
         (Form::Split, None) => true,
         (Form::Packed, Some(wrap)) => wrap,
         _ => return Err(LineFault::BadConfig),
     };
     Ok(RingIndex {
-        index: place.index,
+        index: position.index,
         wrap,
     })
 }
 
-/// Returns the rings that a header asks for: where no line says where they begin, at their first place.
+/// Returns the rings that a header asks for: where no line says where they begin, at their first index.
 fn rings_of(form: Form, size: NonZeroU16, start: Option<Start>) -> Result<Rings, LineFault> {
     let (available, used) = match start {
         Some(start) => (

@@ -22,7 +22,7 @@ pub struct Known {
 impl Known {
     /// Refuses a line by `BadValue` where it sends to what is no queue of requests, races for bytes outside memory,
     /// prints of a queue, a unit or blocks that aren't there, or is about the storage of a disk that has none. This is
-    /// looked at before the line's place. Called for each line behind the header.
+    /// looked at before where the line stands. Called for each line behind the header.
     pub fn check(&self, command: &Command<'_>) -> Result<(), LineFault> {
         let is_known = match command {
             Command::Guest(GuestLine::Send(send)) => {
@@ -49,7 +49,7 @@ impl Known {
     fn may_print(&self, line: PrintLine<'_>) -> bool {
         match line {
             PrintLine::Order(queue) | PrintLine::Notices(queue) => queue < self.queues,
-            PrintLine::History(unit) => self.place(unit).is_some(),
+            PrintLine::History(unit) => self.unit_index(unit).is_some(),
             PrintLine::Blocks(unit, first, count) => {
                 !self.is_backed(unit) && self.has_blocks(unit, first, count)
             }
@@ -63,10 +63,10 @@ impl Known {
 
     /// Returns true if a unit's disk is on a storage.
     pub(crate) fn is_backed(&self, unit: Address) -> bool {
-        let Some(place) = self.place(unit) else {
+        let Some(unit_index) = self.unit_index(unit) else {
             return false;
         };
-        match self.caches.get(place as usize) {
+        match self.caches.get(unit_index as usize) {
             Some(cache) => cache.is_some(),
             None => false,
         }
@@ -82,18 +82,18 @@ impl Known {
         false
     }
 
-    /// Takes down that the unit at a place has so many blocks from now on. Called once the unit was resized.
-    pub fn resize(&mut self, place: u16, blocks: u64) {
-        if let Some(known) = self.units.get_mut(place as usize) {
+    /// Takes down that the unit at an index has so many blocks from now on. Called once the unit was resized.
+    pub fn resize(&mut self, unit_index: u16, blocks: u64) {
+        if let Some(known) = self.units.get_mut(unit_index as usize) {
             known.blocks = blocks;
         }
     }
 
-    /// Returns the place of a unit, by which the operator names it; `None` where it isn't there. Asked for a line that
+    /// Returns the index of a unit, by which the operator names it; `None` where it isn't there. Asked for a line that
     /// names a unit.
-    pub fn place(&self, unit: Address) -> Option<u16> {
-        let place = self.units.iter().position(|known| known.target == unit.target
+    pub fn unit_index(&self, unit: Address) -> Option<u16> {
+        let unit_index = self.units.iter().position(|known| known.target == unit.target
             && known.lun == unit.lun)?;
-        u16::try_from(place).ok()
+        u16::try_from(unit_index).ok()
     }
 }

@@ -236,8 +236,8 @@ fn print_event<W: Write>(
 
 /// Prints what the used event buffers tell, in the order in which they were used, as they stand now.
 fn events<W: Write>(out: &mut W, memory: &GuestMem, driver: &Driver) -> Result<(), Stop> {
-    for (place, at) in driver.used_event_buffers().iter().enumerate() {
-        print_event(out, memory, place.saturating_add(1), *at)?;
+    for (index, at) in driver.used_event_buffers().iter().enumerate() {
+        print_event(out, memory, index.saturating_add(1), *at)?;
     }
     Ok(())
 }

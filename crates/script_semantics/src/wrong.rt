@@ -74,7 +74,7 @@ fn unknown_word(line: &[u8]) -> usize {
     words.position(|word| !word.is_ascii()).unwrap_or(0)
 }
 
-/// Returns the word of a line that its place doesn't take. It fails where memory runs out.
+/// Returns the word of a line that its position doesn't take. It fails where memory runs out.
 fn wrong_value(alloc: Global, line: &[u8]) -> Result<Option<usize>, AllocError> {
     let words = match text_of(alloc, line)? {
         LineText::Words(words) => words,

@@ -15,7 +15,7 @@ pub enum LineFault {
     /// The line begins with no word of the language, or has a byte above 7f.
     #[error("unknown line")]
     UnknownLine,
-    /// A word that its place doesn't take, or too few or too many words.
+    /// A word that its position doesn't take, or too few or too many words.
     #[error("bad value")]
     BadValue,
     /// A header line behind the header, or for the second time; a line that the command doesn't take, or not on this

@@ -98,8 +98,8 @@ pub(crate) fn command_block(alloc: Global, text: &str) -> Result<[u8; CDB_BYTES]
         item.append_copies(item.repeat, &mut all)?;
     }
     let mut cdb = [0; CDB_BYTES];
-    for (place, byte) in cdb.iter_mut().zip(all.iter()) {
-        *place = *byte;
+    for (slot, byte) in cdb.iter_mut().zip(all.iter()) {
+        *slot = *byte;
     }
     Ok(cdb)
 }

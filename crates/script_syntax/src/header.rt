@@ -32,7 +32,7 @@ pub struct Queues {
     pub size: u16,
 }
 
-/// The places where the rings of all queues begin.
+/// The positions where the rings of all queues begin.
 #[derive(Clone, Copy)]
 pub struct Start {
     /// Where the driver makes its first chain available.
@@ -114,7 +114,7 @@ pub enum HeaderLine {
     Ring(Form),
     /// Their number and size.
     Queues(Queues),
-    /// The places where their rings begin.
+    /// The positions where their rings begin.
     Start(Start),
     /// The number of workers.
     Workers(u16),
@@ -139,7 +139,7 @@ fn read_memory(values: &[&str]) -> Result<Memory, LineFault> {
     Ok(Memory { pages, is_live })
 }
 
-/// Reads the places where rings begin.
+/// Reads the positions where rings begin.
 fn read_start(values: &[&str]) -> Result<Start, LineFault> {
     let [available, used] = values else {
         return Err(LineFault::BadValue);
@@ -241,7 +241,7 @@ pub fn only<'a>(values: &[&'a str]) -> Result<&'a str, LineFault>
 
 impl HeaderLine {
     /// Reads a line by its first word and the others; `None` where the first is no word of a header.
-    /// `BadValue` where the others aren't what it takes. It doesn't look at the line's place.
+    /// `BadValue` where the others aren't what it takes. It doesn't look at where the line stands.
     pub fn read(keyword: &str, values: &[&str]) -> Result<Option<HeaderLine>, LineFault> {
         let line = match keyword {
             "memory" => HeaderLine::Memory(read_memory(values)?),

@@ -1,4 +1,4 @@
-//! Places in a ring, as words name them.
+//! Positions in a ring, as words name them.
 
 ghost use Rattle.std.specs.Prelude.{◌≡◌, IfOk, IfErr};
 ghost use Rattle.script_syntax.specs.Inner.Values.{IsRingPlace, IsSlot, IsWrapCounter};
@@ -6,7 +6,7 @@ ghost use Rattle.script_syntax.specs.Inner.Values.{IsRingPlace, IsSlot, IsWrapCo
 use crate::fault::LineFault;
 use crate::values::number;
 
-/// A place in a ring. It isn't known here which form the ring has.
+/// A position in a ring. It isn't known here which form the ring has.
 #[derive(Clone, Copy)]
 pub struct RingPlace {
     /// The index of a split ring, or the slot of a packed one.
@@ -15,9 +15,9 @@ pub struct RingPlace {
     pub wrap: Option<bool>,
 }
 
-/// Reads a place that was written as an index `N`, or as `N:W` with a wrap counter W, 0 or 1.
+/// Reads a position that was written as an index `N`, or as `N:W` with a wrap counter W, 0 or 1.
 pub(crate) fn ring_place(word: &str) -> Result<RingPlace, LineFault>
-    ensures taken { IfOk result (λ place. IsRingPlace word.now place) }
+    ensures taken { IfOk result (λ position. IsRingPlace word.now position) }
     ensures fault { IfErr result (λ fault. fault ≡ LineFault.BadValue) }
 {
     match word.split_once(':') {
@@ -31,7 +31,7 @@ pub(crate) fn ring_place(word: &str) -> Result<RingPlace, LineFault>
 
 /// Reads a slot that was written as two words, its number and the wrap counter there.
 fn slot_of(slot: &str, counter: &str) -> Result<RingPlace, LineFault>
-    ensures taken { IfOk result (λ place. IsSlot slot.now counter.now place) }
+    ensures taken { IfOk result (λ position. IsSlot slot.now counter.now position) }
     ensures fault { IfErr result (λ fault. fault ≡ LineFault.BadValue) }
 {
     let index = number::<u16>(slot)?;

@@ -1,4 +1,4 @@
-//! The values in the places of a line: numbers, names, units and bytes.
+//! The values in the positions of a line: numbers, names, units and bytes.
 
 ghost use Rattle.std.specs.Prelude.{ℕ, ◌≡◌, ◌<◌, ◌*◌, ◌-◌, ◌^◌, ◌++◌, min, length, [], true, false, ◌⊎◌, Ok, Err, IsOk, OnErr, IfOk, OnOk, IfErr, ◌↔◌};
 ghost use Rattle.std.specs.List.{repeat};

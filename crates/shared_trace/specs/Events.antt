@@ -21,6 +21,6 @@ pub record PlainMark (E : Type 0) : Type 0 where
   pub own : List E
   pub known : List E
 
--- of each mark, with its place
+-- of each mark, with its index
 abbrev pub Each : {E : Type 0} → (ℕ → PlainMark E → Type 0) → List (PlainMark E) → Type 0
 Each {E} P marks = (k : ℕ) (other : PlainMark E) → k < length marks → P k (slice_index_or marks k other)

@@ -8,7 +8,7 @@ use crate::book::{Book, Front};
 use crate::law::{Laws, Naming};
 use crate::mark::Mark;
 
-/// Tells whether each mark has its place, and as many events as its word counts in a log that is then seen.
+/// Tells whether each mark has its index, and as many events as its word counts in a log that is then seen.
 fn are_counted<E, L: Laws<E>, J: Naming>(
     book: &Book<E, L, J>,
     front: &mut Front<E, L, J>,

@@ -13,7 +13,7 @@ const QUEUES: u16 = 4;
 /// The bytes of a page.
 const PAGE: u64 = 4096;
 
-/// The place of a queue's request in its page, and of its response.
+/// The offset of a queue's request in its page, and of its response.
 const REQUEST: u64 = 3072;
 
 const RESPONSE: u64 = 3584;

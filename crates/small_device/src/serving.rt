@@ -78,11 +78,11 @@ fn enter<B: UnitLender + QueueLender>(
     mut slot: Slot,
     mut out: JobList,
 ) -> Option<JobList> {
-    let place = slot.unit()?;
-    if place >= lender.unit_count() {
+    let unit_index = slot.unit()?;
+    if unit_index >= lender.unit_count() {
         return None;
     }
-    if enter_on(lender, place, &mut slot, &mut out) && slot.is_empty() {
+    if enter_on(lender, unit_index, &mut slot, &mut out) && slot.is_empty() {
         return Some(out);
     }
     None
@@ -91,11 +91,11 @@ fn enter<B: UnitLender + QueueLender>(
 /// Commits a job.
 fn commit<B: UnitLender + QueueLender>(lender: &mut B, job: Job) -> Option<Hand> {
     let mut hand = Hand::taken(job);
-    let place = hand.committing_unit()?;
-    if place >= lender.unit_count() {
+    let unit_index = hand.committing_unit()?;
+    if unit_index >= lender.unit_count() {
         return None;
     }
-    if commit_on(lender, &Open, place, &mut hand) {
+    if commit_on(lender, &Open, unit_index, &mut hand) {
         return Some(hand);
     }
     None
@@ -116,11 +116,11 @@ fn leaves<B: UnitLender + QueueLender>(
     mut hand: Hand,
     mut out: JobList,
 ) -> Option<bool> {
-    let place = hand.leaving_unit()?;
-    if place >= lender.unit_count() {
+    let unit_index = hand.leaving_unit()?;
+    if unit_index >= lender.unit_count() {
         return None;
     }
-    let did = leave_on(lender, place, &mut hand, &mut out);
+    let did = leave_on(lender, unit_index, &mut hand, &mut out);
     Some(did && hand.is_empty())
 }
 
@@ -177,12 +177,14 @@ fn mark_and_check<B: UnitLender + QueueLender>(
     mut function: OpenFunction,
     mut out: JobList,
 ) -> Option<OpenFunction> {
-    let place = function.function.next_unit()?;
-    if place >= lender.unit_count() || !mark_on(lender, place, inventory, &mut function, &mut out) {
+    let unit_index = function.function.next_unit()?;
+    if unit_index >= lender.unit_count()
+        || !mark_on(lender, unit_index, inventory, &mut function, &mut out)
+    {
         return None;
     }
-    let place = function.function.waits_for()?.unit;
-    if place < lender.unit_count() && check_on(lender, place, inventory, &mut function) {
+    let unit_index = function.function.waits_for()?.unit;
+    if unit_index < lender.unit_count() && check_on(lender, unit_index, inventory, &mut function) {
         return Some(function);
     }
     None

@@ -2,7 +2,7 @@
 //!
 //! # Proved
 //!
-//! By one contract: `fetch` answers the chain at the next place and its first 1,048,627 readable bytes. It answers
+//! By one contract: `fetch` answers the chain at the next entry and its first 1,048,627 readable bytes. It answers
 //! none exactly where none is available, as `is_idle` says. Each fault is answered exactly where its cause is the
 //! first in the order of tests. A fault breaks its queue for good, and accepted chains can still be completed. Want
 //! of memory changes nothing. `complete` writes the used entry. `wants_notice` is the driver's flag.

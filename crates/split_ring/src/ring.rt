@@ -146,8 +146,8 @@ impl SplitRing {
             return Err(RingFault::IndexJump);
         }
         let index = self.available_index();
-        let place = layout.driver + 4 + 2 * (index % layout.size) as u64;
-        let head = number_at(memory, place);
+        let addr = layout.driver + 4 + 2 * (index % layout.size) as u64;
+        let head = number_at(memory, addr);
         if head >= layout.size {
             return Err(RingFault::HeadOutOfRange);
         }
@@ -281,8 +281,8 @@ impl Ring for SplitRing {
         let _size = memory.size();
         let layout = self.base.layout();
         let own = self.used_index_after(self.base.log().used());
-        let place = layout.device + 4 + 8 * (own % layout.size) as u64;
-        put_element(memory, place, chain.id() as u32, len);
+        let addr = layout.device + 4 + 8 * (own % layout.size) as u64;
+        put_element(memory, addr, chain.id() as u32, len);
         put_number(memory, layout.device + 2, own.wrapping_add(1));
         self.base.release(chain)
     }
@@ -304,8 +304,8 @@ impl Ring for SplitRing {
         }
         let layout = self.base.layout();
         if self.base.features().event_index {
-            let place = layout.device + 4 + 8 * layout.size as u64;
-            return Some(Asking::one(place, self.wanted_index(notify)));
+            let addr = layout.device + 4 + 8 * layout.size as u64;
+            return Some(Asking::one(addr, self.wanted_index(notify)));
         }
         let flags = match notify {
             Notify::Next => 0,

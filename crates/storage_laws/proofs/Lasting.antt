@@ -154,8 +154,8 @@ module _ (u : PlainUnit) (e : Entry) (l : Ledger) (whole : (b : ℕ) → length 
 
   bytes_of_page : (page : ℕ) (bytes : List ℕ) → IsPageOf (blocks_of u.opening u.steps) page bytes → (b : ℕ) → b / 8 ≡ page → blocks_in bytes (b % 8) ≡ blocks_of u.opening u.steps b
   bytes_of_page page bytes is b here =
-      let place : 8 * page + b % 8 ≡ b = omega (arith, here) in
-      let one : nth_block bytes (b % 8) ≡ blocks_of u.opening u.steps b = is (b % 8) (omega arith) ∙ ap (λ n. blocks_of u.opening u.steps n) place in
+      let number : 8 * page + b % 8 ≡ b = omega (arith, here) in
+      let one : nth_block bytes (b % 8) ≡ blocks_of u.opening u.steps b = is (b % 8) (omega arith) ∙ ap (λ n. blocks_of u.opening u.steps n) number in
       blocks_in-whole bytes (b % 8) (ap (λ x. length x) one ∙ whole b) ∙ one
 
   given_page : (page : ℕ) (bytes : List ℕ) → IsPageOf (blocks_of u.opening u.steps) page bytes → IsDurable u.opening u.steps (and_then (Dealing.Give page bytes) l) e
@@ -295,26 +295,26 @@ by_step : (s : Step) (e : Entry) (k : ℕ) (us : List PlainUnit) (i : ℕ) (u v 
     → slice_get (change (stepped s) k us) i ≡ Some v → AreWhole u → Leaves e u → Leaves e v
 by_step s e k us i u v at now whole was = changed (Leaves e) (stepped s) k us i u v (λ _ it. on_step s u e whole it) at now was
 
-pub stays : (d : Transition) (w : PlainWorld) (place : ℕ) (u v : PlainUnit) (e : Entry) → Happens d w → UnitIs w place u → UnitIs (after d w) place v
+pub stays : (d : Transition) (w : PlainWorld) (unit_index : ℕ) (u v : PlainUnit) (e : Entry) → Happens d w → UnitIs w unit_index u → UnitIs (after d w) unit_index v
     → AreWhole u → Leaves e u → Leaves e v
-stays (Transition.Run x) w place u v e h at now whole was = by_step (Step.Enter x.entry) e x.unit w.units place u v at now whole was
-stays (Transition.Park x) w place u v e h at now whole was =
-    changed (Leaves e) (parking x) x.unit w.units place u v (λ _ it l there. on_more u e whole it (Step.Enter x.entry) l there) at now was
-stays (Transition.EnterFull x) w place u v e h at now whole was = by_step (Step.Full x.entry.ticket) e x.unit w.units place u v at now whole was
-stays (Transition.Commit k x r) w place u v e h at now whole was = by_step (Step.Commit x.entry.ticket r) e x.unit w.units place u v at now whole was
-stays (Transition.CommitBusy k x) w place u v e h at now whole was = by_step (Step.Busy x.entry.ticket) e x.unit w.units place u v at now whole was
-stays (Transition.Leave k i t jobs) w place u v e h at now whole was = by_step (Step.Leave t) e i w.units place u v at now whole was
-stays (Transition.Mark t p (Abort rule) jobs) w place u v e h at now whole was = by_step (step_by (Abort rule)) e p.unit w.units place u v at now whole was
-stays (Transition.Mark t p (Reset c) jobs) w place u v e h at now whole was = by_step (step_by (Reset c)) e p.unit w.units place u v at now whole was
-stays (Transition.Hard p jobs) w place u v e h at now whole was = by_step (Step.Reset hard_code) e p.unit w.units place u v at now whole was
-stays (Transition.Resize k blocks) w place u v e h at now whole was = by_step (Step.Resize blocks) e k w.units place u v at now whole was
-stays (Transition.Deal k x) w place u v e h at now whole was =
-    changed (Leaves e) (dealing x) k w.units place u v
+stays (Transition.Run x) w unit_index u v e h at now whole was = by_step (Step.Enter x.entry) e x.unit w.units unit_index u v at now whole was
+stays (Transition.Park x) w unit_index u v e h at now whole was =
+    changed (Leaves e) (parking x) x.unit w.units unit_index u v (λ _ it l there. on_more u e whole it (Step.Enter x.entry) l there) at now was
+stays (Transition.EnterFull x) w unit_index u v e h at now whole was = by_step (Step.Full x.entry.ticket) e x.unit w.units unit_index u v at now whole was
+stays (Transition.Commit k x r) w unit_index u v e h at now whole was = by_step (Step.Commit x.entry.ticket r) e x.unit w.units unit_index u v at now whole was
+stays (Transition.CommitBusy k x) w unit_index u v e h at now whole was = by_step (Step.Busy x.entry.ticket) e x.unit w.units unit_index u v at now whole was
+stays (Transition.Leave k i t jobs) w unit_index u v e h at now whole was = by_step (Step.Leave t) e i w.units unit_index u v at now whole was
+stays (Transition.Mark t p (Abort rule) jobs) w unit_index u v e h at now whole was = by_step (step_by (Abort rule)) e p.unit w.units unit_index u v at now whole was
+stays (Transition.Mark t p (Reset c) jobs) w unit_index u v e h at now whole was = by_step (step_by (Reset c)) e p.unit w.units unit_index u v at now whole was
+stays (Transition.Hard p jobs) w unit_index u v e h at now whole was = by_step (Step.Reset hard_code) e p.unit w.units unit_index u v at now whole was
+stays (Transition.Resize k blocks) w unit_index u v e h at now whole was = by_step (Step.Resize blocks) e k w.units unit_index u v at now whole was
+stays (Transition.Deal k x) w unit_index u v e h at now whole was =
+    changed (Leaves e) (dealing x) k w.units unit_index u v
     (λ there it. on_deal x u e (subst (λ z. IsAsItIs z x) (same (sym h.there ∙ there)) h.may.as_it_is) whole it) at now was
-stays d w place u v e h at now whole was = subst (Leaves e) (sym (same (sym now ∙ at))) was
+stays d w unit_index u v e h at now whole was = subst (Leaves e) (sym (same (sym now ∙ at))) was
 
-pub stays_durable : (w : PlainWorld) (d : Transition) (place : ℕ) (u v : PlainUnit) (e : Entry) (l m : Ledger) → Happens d w → UnitIs w place u
-    → UnitIs (after d w) place v → AreWhole u → u.storage ≡ Some l → v.storage ≡ Some m → IsDurable u.opening u.steps l e
+pub stays_durable : (w : PlainWorld) (d : Transition) (unit_index : ℕ) (u v : PlainUnit) (e : Entry) (l m : Ledger) → Happens d w → UnitIs w unit_index u
+    → UnitIs (after d w) unit_index v → AreWhole u → u.storage ≡ Some l → v.storage ≡ Some m → IsDurable u.opening u.steps l e
     → IsDurable v.opening v.steps m e
-stays_durable w d place u v e l m h at now whole one two was =
-    stays d w place u v e h at now whole (λ k is. subst (λ x. IsDurable u.opening u.steps x e) (same (sym one ∙ is)) was) m two
+stays_durable w d unit_index u v e l m h at now whole one two was =
+    stays d w unit_index u v e h at now whole (λ k is. subst (λ x. IsDurable u.opening u.steps x e) (same (sym one ∙ is)) was) m two

@@ -16,7 +16,7 @@ ghost use Rattle.device_model.specs.Found.{UnitIs};
 /// (`IsDurable`), it leaves that behind each transition, too. `a_flush_ends_once_it_is_kept` says so of the moment when a
 /// SYNCHRONIZE CACHE ends with GOOD: so it is then, and from then on. Blocks have 512 bytes, as those of a device have.
 pub fn what_a_flush_left_stays()
-    ensures { (w : PlainWorld) (d : Transition) (place : ℕ) (u v : PlainUnit) (e : Entry) (l m : Ledger) → Happens d w →
-        UnitIs w place u → UnitIs (after d w) place v → ((b : ℕ) → length (blocks_of u.opening u.steps b) ≡ 512) →
+    ensures { (w : PlainWorld) (d : Transition) (unit_index : ℕ) (u v : PlainUnit) (e : Entry) (l m : Ledger) → Happens d w →
+        UnitIs w unit_index u → UnitIs (after d w) unit_index v → ((b : ℕ) → length (blocks_of u.opening u.steps b) ≡ 512) →
         u.storage ≡ Some l → v.storage ≡ Some m → IsDurable u.opening u.steps l e → IsDurable v.opening v.steps m e }
 {}

@@ -59,8 +59,8 @@ serving_asked_keeps queues most w w' (Err x) is =
     (served_keeps (asks queues) (most - all_steps is.rounds) is.behind w' (Err x) is.serves.0)
 
 -- an event of the code but a resize
-pub plain_served : (e : declared.Event) → ((place blocks : ℕ) → e ≡ event.Resize place blocks → ⊥) → is_served (plain_event e) ≡ true
-plain_served (event.Resize place blocks) not = absurd (not place blocks refl)
+pub plain_served : (e : declared.Event) → ((unit_index blocks : ℕ) → e ≡ event.Resize unit_index blocks → ⊥) → is_served (plain_event e) ≡ true
+plain_served (event.Resize unit_index blocks) not = absurd (not unit_index blocks refl)
 plain_served e not = refl
 
 pub stepped_keeps : (w w' : PlainWorld) (e : Event) (r : Result Bool NoMemory) → is_served e ≡ true → Steps w e r w' → KeepsDisks w w'

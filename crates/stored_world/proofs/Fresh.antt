@@ -28,7 +28,7 @@ use Rattle.stored_world.specs.Inner.Opening.{IsFresh, IsZeroDisk, AddsDisk}
 use Rattle.stored_world.specs.Inner.Stored.{IsStorageBy, IsHosted, AreHosted}
 use Rattle.stored_world.specs.declared.hosted.HostedDisk.{HostedDisk}
 
--- at each place where there is a unit, a cache, a disk and maybe a storage, these are as they open
+-- at each index where there is a unit, a cache, a disk and maybe a storage, these are as they open
 abbrev pub AreZeroDisks : List UnitSpec → List (Option ℕ) → List Disk → List (Option HostedDisk) → Type 0
 AreZeroDisks wanted caches ds hs =
     (k : ℕ) (u : UnitSpec) (cache : Option ℕ) (d : Disk) (h : Option HostedDisk) → slice_get wanted k ≡ Some u
@@ -92,7 +92,7 @@ hosted_fresh d u h none is =
       capacity = is.capacity ∙ capacity_at d u u.steps none;
     }
 
--- the unit at a place where there is a disk is one over that
+-- the unit at an index where there is a disk is one over that
 unit_at : (us : List PlainUnit) (ds : List Disk) (k : ℕ) (v : PlainUnit) (d : Disk) → slice_get (over_disks us ds) k ≡ Some v
     → slice_get ds k ≡ Some d → (u : PlainUnit) × (unit_over d u ≡ v)
 unit_at [] ds k v d at has = absurd (nothing at)

@@ -52,22 +52,22 @@ set_at (z ∷ xs) (suc i) zero x y e = inr e
 set_at (z ∷ xs) (suc i) (suc j) x y e = elim (set_at xs i j x y e) [ inl h ↦ inl (ap (λ n. suc n) h.0, h.1) | inr h ↦ inr h ]
 
 -- one storage is put, or taken out
-pub hosted_set : (us : List PlainUnit) (hs : List (Option HostedDisk)) (place : ℕ) (o : Option HostedDisk)
-    → ((h : HostedDisk) → o ≡ Some h → (u : PlainUnit) → slice_get us place ≡ Some u → IsHosted u h) → AreHosted us hs → AreHosted us (set hs place o)
-hosted_set us hs place o puts are k u h at there =
-    elim (set_at hs place k o (Some h) there) [
+pub hosted_set : (us : List PlainUnit) (hs : List (Option HostedDisk)) (unit_index : ℕ) (o : Option HostedDisk)
+    → ((h : HostedDisk) → o ≡ Some h → (u : PlainUnit) → slice_get us unit_index ≡ Some u → IsHosted u h) → AreHosted us hs → AreHosted us (set hs unit_index o)
+hosted_set us hs unit_index o puts are k u h at there =
+    elim (set_at hs unit_index k o (Some h) there) [
       | inl here ↦ puts h (sym here.1) u (subst (λ i. slice_get us i ≡ Some u) here.0 at)
       | inr was ↦ are k u h at was
     ]
 
--- what was set at a place in the list stands there
-pub gone_at : (hs : List (Option HostedDisk)) (place : ℕ) (h : HostedDisk) → place < length hs → slice_get (set hs place None) place ≡ Some (Some h) → ⊥
-gone_at [] place h within e = absurd (let w = within in omega (arith, w))
+-- what was set at an index in the list stands there
+pub gone_at : (hs : List (Option HostedDisk)) (unit_index : ℕ) (h : HostedDisk) → unit_index < length hs → slice_get (set hs unit_index None) unit_index ≡ Some (Some h) → ⊥
+gone_at [] unit_index h within e = absurd (let w = within in omega (arith, w))
 gone_at (z ∷ hs) zero h within e = nothing (same e)
 gone_at (z ∷ hs) (suc i) h within e = gone_at hs i h (let w = within in omega (arith, w)) e
 
-pub none_at : (hs : List (Option HostedDisk)) (place : ℕ) (h : HostedDisk) → length hs ≤ place → slice_get hs place ≡ Some (Some h) → ⊥
-none_at [] place h behind e = nothing e
+pub none_at : (hs : List (Option HostedDisk)) (unit_index : ℕ) (h : HostedDisk) → length hs ≤ unit_index → slice_get hs unit_index ≡ Some (Some h) → ⊥
+none_at [] unit_index h behind e = nothing e
 none_at (z ∷ hs) zero h behind e = absurd (let w = behind in omega (arith, w))
 none_at (z ∷ hs) (suc i) h behind e = none_at hs i h (let w = behind in omega (arith, w)) e
 
@@ -84,32 +84,32 @@ if_none_is None P e p = p
 if_none_is (Some y) P e p = absurd (nothing (sym e))
 
 -- what the host's storage keeps of a page of a unit
-pub page_kept : (us : List PlainUnit) (hs : List (Option HostedDisk)) (place page : ℕ) (h : HostedDisk) (bytes : List ℕ) → AreHosted us hs
-    → slice_get hs place ≡ Some (Some h) → IsPageOf (kept_blocks h.storage) page bytes → IsKeptPage us place page bytes
-page_kept us hs place page h bytes are there is u at =
+pub page_kept : (us : List PlainUnit) (hs : List (Option HostedDisk)) (unit_index page : ℕ) (h : HostedDisk) (bytes : List ℕ) → AreHosted us hs
+    → slice_get hs unit_index ≡ Some (Some h) → IsPageOf (kept_blocks h.storage) page bytes → IsKeptPage us unit_index page bytes
+page_kept us hs unit_index page h bytes are there is u at =
     on_some u.storage (λ s. IsPageOf (storage_by s).kept page bytes)
-    (λ l has k below. is k below ∙ ((are place u h at there).storage l has).kept (8 * page + k))
+    (λ l has k below. is k below ∙ ((are unit_index u h at there).storage l has).kept (8 * page + k))
 
 -- units of which one changed, whose disk has no storage here
-pub hosted_beside : (g : PlainUnit → PlainUnit) (place : ℕ) (us : List PlainUnit) (hs : List (Option HostedDisk))
-    → ((h : HostedDisk) → slice_get hs place ≡ Some (Some h) → ⊥) → AreHosted us hs → AreHosted (change g place us) hs
-hosted_beside g place us hs gone are k v h at there =
-    let o = at_other g place us k v at in
+pub hosted_beside : (g : PlainUnit → PlainUnit) (unit_index : ℕ) (us : List PlainUnit) (hs : List (Option HostedDisk))
+    → ((h : HostedDisk) → slice_get hs unit_index ≡ Some (Some h) → ⊥) → AreHosted us hs → AreHosted (change g unit_index us) hs
+hosted_beside g unit_index us hs gone are k v h at there =
+    let o = at_other g unit_index us k v at in
     elim o.2 [
       | inl here ↦ absurd (gone h (subst (λ i. slice_get hs i ≡ Some (Some h)) here.0 there))
       | inr beside ↦ subst (λ x. IsHosted x h) (sym beside.1) (are k o.0 h o.1 there)
     ]
 
 -- the one that changed
-pub hosted_there : (g : PlainUnit → PlainUnit) (place : ℕ) (us : List PlainUnit) (h h' : HostedDisk)
-    → ((u : PlainUnit) → slice_get us place ≡ Some u → IsHosted u h) → ((u : PlainUnit) → IsHosted u h → IsHosted (g u) h')
-    → (v : PlainUnit) → slice_get (change g place us) place ≡ Some v → IsHosted v h'
-hosted_there g place us h h' was goes v at = by_place (at_other g place us place v at)
+pub hosted_there : (g : PlainUnit → PlainUnit) (unit_index : ℕ) (us : List PlainUnit) (h h' : HostedDisk)
+    → ((u : PlainUnit) → slice_get us unit_index ≡ Some u → IsHosted u h) → ((u : PlainUnit) → IsHosted u h → IsHosted (g u) h')
+    → (v : PlainUnit) → slice_get (change g unit_index us) unit_index ≡ Some v → IsHosted v h'
+hosted_there g unit_index us h h' was goes v at = by_index (at_other g unit_index us unit_index v at)
   where
-    by_place : (x : PlainUnit) × (slice_get us place ≡ Some x) × (((place ≡ place) × (v ≡ g x)) ⊎ (((place == place) ≡ false) × (v ≡ x)))
+    by_index : (x : PlainUnit) × (slice_get us unit_index ≡ Some x) × (((unit_index ≡ unit_index) × (v ≡ g x)) ⊎ (((unit_index == unit_index) ≡ false) × (v ≡ x)))
         → IsHosted v h'
-    by_place (x, there, inl here) = subst (λ y. IsHosted y h') (sym here.1) (goes x (was x there))
-    by_place (x, there, inr beside) = absurd (let no = beside.0 in grind (arith, nat_tests, no))
+    by_index (x, there, inl here) = subst (λ y. IsHosted y h') (sym here.1) (goes x (was x there))
+    by_index (x, there, inr beside) = absurd (let no = beside.0 in grind (arith, nat_tests, no))
 
 -- a page in one of two storages that agree
 page_same : (p b : ℕ) (f g old new : Blocks) → f b ≡ g b → old b ≡ new b → with_page p f old b ≡ with_page p g new b
@@ -180,91 +180,91 @@ hosted_resized blocks u h h' given kept size is =
 -- What a deal and a resize change
 
 abbrev is_deal : Event → Bool
-is_deal (Event.Deal place d) = true
+is_deal (Event.Deal unit_index d) = true
 is_deal e = false
 
-abbrev deal_place : Event → ℕ
-deal_place (Event.Deal place d) = place
-deal_place e = 0
+abbrev deal_index : Event → ℕ
+deal_index (Event.Deal unit_index d) = unit_index
+deal_index e = 0
 
 abbrev deal_of : Event → Dealing
-deal_of (Event.Deal place d) = d
+deal_of (Event.Deal unit_index d) = d
 deal_of e = Dealing.Load 0
 
-deal_units : (t : Transition) (w : PlainWorld) (place : ℕ) (d : Dealing) → event_of t ≡ Event.Deal place d → Happens t w
-    → (after t w).units ≡ change (dealing d) place w.units
-deal_units (Transition.Deal k x) w place d event happens =
-    ap (λ (i : ℕ). change (dealing x) i w.units) (ap deal_place event) ∙ ap (λ (y : Dealing). change (dealing y) place w.units) (ap deal_of event)
-deal_units (Transition.Idle e) w place d event happens = absurd happens
-deal_units t w place d event happens = absurd (let no : false ≡ true = ap is_deal event in cc)
+deal_units : (t : Transition) (w : PlainWorld) (unit_index : ℕ) (d : Dealing) → event_of t ≡ Event.Deal unit_index d → Happens t w
+    → (after t w).units ≡ change (dealing d) unit_index w.units
+deal_units (Transition.Deal k x) w unit_index d event happens =
+    ap (λ (i : ℕ). change (dealing x) i w.units) (ap deal_index event) ∙ ap (λ (y : Dealing). change (dealing y) unit_index w.units) (ap deal_of event)
+deal_units (Transition.Idle e) w unit_index d event happens = absurd happens
+deal_units t w unit_index d event happens = absurd (let no : false ≡ true = ap is_deal event in cc)
 
-pub dealt_units : (w w' : PlainWorld) (place : ℕ) (d : Dealing) → Turns w (Event.Deal place d) true w' → w'.units ≡ change (dealing d) place w.units
-dealt_units w w' place d (t, event, happens, is) = ap (λ (x : PlainWorld). x.units) is ∙ deal_units t w place d event happens
+pub dealt_units : (w w' : PlainWorld) (unit_index : ℕ) (d : Dealing) → Turns w (Event.Deal unit_index d) true w' → w'.units ≡ change (dealing d) unit_index w.units
+dealt_units w w' unit_index d (t, event, happens, is) = ap (λ (x : PlainWorld). x.units) is ∙ deal_units t w unit_index d event happens
 
 abbrev is_resize : Event → Bool
-is_resize (Event.Resize place blocks) = true
+is_resize (Event.Resize unit_index blocks) = true
 is_resize e = false
 
-abbrev resize_place : Event → ℕ
-resize_place (Event.Resize place blocks) = place
-resize_place e = 0
+abbrev resize_index : Event → ℕ
+resize_index (Event.Resize unit_index blocks) = unit_index
+resize_index e = 0
 
 abbrev resize_blocks : Event → ℕ
-resize_blocks (Event.Resize place blocks) = blocks
+resize_blocks (Event.Resize unit_index blocks) = blocks
 resize_blocks e = 0
 
 -- a resize that happened
-resize_units : (t : Transition) (w : PlainWorld) (place blocks : ℕ) → event_of t ≡ Event.Resize place blocks → (action_of t).changed ≡ true
-    → (after t w).units ≡ change (stepped (Step.Resize blocks)) place w.units
-resize_units (Transition.Resize k n) w place blocks event told =
-    ap (λ (i : ℕ). change (stepped (Step.Resize n)) i w.units) (ap resize_place event)
-    ∙ ap (λ (m : ℕ). change (stepped (Step.Resize m)) place w.units) (ap resize_blocks event)
-resize_units (Transition.Idle e) w place blocks event told = absurd (let no : false ≡ true = told in cc)
-resize_units t w place blocks event told = absurd (let no : false ≡ true = ap is_resize event in cc)
+resize_units : (t : Transition) (w : PlainWorld) (unit_index blocks : ℕ) → event_of t ≡ Event.Resize unit_index blocks → (action_of t).changed ≡ true
+    → (after t w).units ≡ change (stepped (Step.Resize blocks)) unit_index w.units
+resize_units (Transition.Resize k n) w unit_index blocks event told =
+    ap (λ (i : ℕ). change (stepped (Step.Resize n)) i w.units) (ap resize_index event)
+    ∙ ap (λ (m : ℕ). change (stepped (Step.Resize m)) unit_index w.units) (ap resize_blocks event)
+resize_units (Transition.Idle e) w unit_index blocks event told = absurd (let no : false ≡ true = told in cc)
+resize_units t w unit_index blocks event told = absurd (let no : false ≡ true = ap is_resize event in cc)
 
-pub resized_units : (w w' : PlainWorld) (place blocks : ℕ) → IsStep w (Event.Resize place blocks) true w'
-    → w'.units ≡ change (stepped (Step.Resize blocks)) place w.units
-resized_units w w' place blocks s =
+pub resized_units : (w w' : PlainWorld) (unit_index blocks : ℕ) → IsStep w (Event.Resize unit_index blocks) true w'
+    → w'.units ≡ change (stepped (Step.Resize blocks)) unit_index w.units
+resized_units w w' unit_index blocks s =
     let t = s.step in
     ap (λ (x : PlainWorld). x.units) t.is
-    ∙ resize_units t.transition w place blocks t.event (ap (λ a. a.changed) t.action ∙ s.told)
+    ∙ resize_units t.transition w unit_index blocks t.event (ap (λ a. a.changed) t.action ∙ s.told)
 
 -- one that didn't
-unresized : (t : Transition) (w : PlainWorld) (place blocks : ℕ) → event_of t ≡ Event.Resize place blocks → (action_of t).changed ≡ false
+unresized : (t : Transition) (w : PlainWorld) (unit_index blocks : ℕ) → event_of t ≡ Event.Resize unit_index blocks → (action_of t).changed ≡ false
     → (after t w).units ≡ w.units
-unresized (Transition.Idle e) w place blocks event told = refl
-unresized (Transition.Resize k n) w place blocks event told = absurd (let no : true ≡ false = told in cc)
-unresized t w place blocks event told = absurd (let no : false ≡ true = ap is_resize event in cc)
+unresized (Transition.Idle e) w unit_index blocks event told = refl
+unresized (Transition.Resize k n) w unit_index blocks event told = absurd (let no : true ≡ false = told in cc)
+unresized t w unit_index blocks event told = absurd (let no : false ≡ true = ap is_resize event in cc)
 
-pub unresized_units : (w w' : PlainWorld) (place blocks : ℕ) → IsStep w (Event.Resize place blocks) false w' → w'.units ≡ w.units
-unresized_units w w' place blocks s =
+pub unresized_units : (w w' : PlainWorld) (unit_index blocks : ℕ) → IsStep w (Event.Resize unit_index blocks) false w' → w'.units ≡ w.units
+unresized_units w w' unit_index blocks s =
     let t = s.step in
-    ap (λ (x : PlainWorld). x.units) t.is ∙ unresized t.transition w place blocks t.event (ap (λ a. a.changed) t.action ∙ s.told)
+    ap (λ (x : PlainWorld). x.units) t.is ∙ unresized t.transition w unit_index blocks t.event (ap (λ a. a.changed) t.action ∙ s.told)
 
 -- What the calls do to the storages
 
 -- a deal of the host with a unit whose storage is taken out
-pub hosted_by_deal : (w w' : PlainWorld) (place : ℕ) (d : Dealing) (hs : List (Option HostedDisk)) → DealsAsPromised w place d w'
-    → ((h : HostedDisk) → slice_get hs place ≡ Some (Some h) → ⊥) → AreHosted w.units hs → AreHosted w'.units hs
-hosted_by_deal w w' place d hs deals gone are =
-    subst (λ us. AreHosted us hs) (sym (dealt_units w w' place d deals.turns)) (hosted_beside (dealing d) place w.units hs gone are)
+pub hosted_by_deal : (w w' : PlainWorld) (unit_index : ℕ) (d : Dealing) (hs : List (Option HostedDisk)) → DealsAsPromised w unit_index d w'
+    → ((h : HostedDisk) → slice_get hs unit_index ≡ Some (Some h) → ⊥) → AreHosted w.units hs → AreHosted w'.units hs
+hosted_by_deal w w' unit_index d hs deals gone are =
+    subst (λ us. AreHosted us hs) (sym (dealt_units w w' unit_index d deals.turns)) (hosted_beside (dealing d) unit_index w.units hs gone are)
 
 -- the storage of that unit, dealt with alike
-pub hosted_of_deal : (w w' : PlainWorld) (place : ℕ) (d : Dealing) (h h' : HostedDisk) → DealsAsPromised w place d w'
-    → ((u : PlainUnit) → slice_get w.units place ≡ Some u → IsHosted u h)
+pub hosted_of_deal : (w w' : PlainWorld) (unit_index : ℕ) (d : Dealing) (h h' : HostedDisk) → DealsAsPromised w unit_index d w'
+    → ((u : PlainUnit) → slice_get w.units unit_index ≡ Some u → IsHosted u h)
     → ((b : ℕ) → given_blocks h'.storage b ≡ (dealt d (record { given = given_blocks h.storage; kept = kept_blocks h.storage; unkept = λ c. [] })).given b)
     → ((b : ℕ) → kept_blocks h'.storage b ≡ (dealt d (record { given = given_blocks h.storage; kept = kept_blocks h.storage; unkept = λ c. [] })).kept b)
-    → h'.capacity ≡ h.capacity → (v : PlainUnit) → slice_get w'.units place ≡ Some v → IsHosted v h'
-hosted_of_deal w w' place d h h' deals was given kept size v at =
-    hosted_there (dealing d) place w.units h h' was (λ u is. hosted_dealt d u h h' given kept size is) v
-    (ap (λ us. slice_get us place) (sym (dealt_units w w' place d deals.turns)) ∙ at)
+    → h'.capacity ≡ h.capacity → (v : PlainUnit) → slice_get w'.units unit_index ≡ Some v → IsHosted v h'
+hosted_of_deal w w' unit_index d h h' deals was given kept size v at =
+    hosted_there (dealing d) unit_index w.units h h' was (λ u is. hosted_dealt d u h h' given kept size is) v
+    (ap (λ us. slice_get us unit_index) (sym (dealt_units w w' unit_index d deals.turns)) ∙ at)
 
 -- one that leaves each storage
-pub hosted_told : (w w' : PlainWorld) (place : ℕ) (d : Dealing) (hs : List (Option HostedDisk)) → DealsAsPromised w place d w'
+pub hosted_told : (w w' : PlainWorld) (unit_index : ℕ) (d : Dealing) (hs : List (Option HostedDisk)) → DealsAsPromised w unit_index d w'
     → ((s : Storage) (b : ℕ) → (dealt d s).given b ≡ s.given b) → ((s : Storage) (b : ℕ) → (dealt d s).kept b ≡ s.kept b)
     → AreHosted w.units hs → AreHosted w'.units hs
-hosted_told w w' place d hs deals given kept are k v h at there =
-    let o = at_other (dealing d) place w.units k v (ap (λ us. slice_get us k) (sym (dealt_units w w' place d deals.turns)) ∙ at) in
+hosted_told w w' unit_index d hs deals given kept are k v h at there =
+    let o = at_other (dealing d) unit_index w.units k v (ap (λ us. slice_get us k) (sym (dealt_units w w' unit_index d deals.turns)) ∙ at) in
     let had : Storage = record { given = given_blocks h.storage; kept = kept_blocks h.storage; unkept = λ c. [] } in
     elim o.2 [
       | inl here ↦ subst (λ x. IsHosted x h) (sym here.1)
@@ -272,55 +272,55 @@ hosted_told w w' place d hs deals given kept are k v h at there =
       | inr beside ↦ subst (λ x. IsHosted x h) (sym beside.1) (are k o.0 h o.1 there)
     ]
 
-pub hosted_by_told : (told : Bool) (w w' : PlainWorld) (place : ℕ) (d : Dealing) (hs : List (Option HostedDisk))
-    → (IsTrue told → DealsAsPromised w place d w') → (IsFalse told → w' ≡ w)
+pub hosted_by_told : (told : Bool) (w w' : PlainWorld) (unit_index : ℕ) (d : Dealing) (hs : List (Option HostedDisk))
+    → (IsTrue told → DealsAsPromised w unit_index d w') → (IsFalse told → w' ≡ w)
     → ((s : Storage) (b : ℕ) → (dealt d s).given b ≡ s.given b) → ((s : Storage) (b : ℕ) → (dealt d s).kept b ≡ s.kept b)
     → AreHosted w.units hs → AreHosted w'.units hs
-hosted_by_told true w w' place d hs deals still given kept are = hosted_told w w' place d hs (deals refl) given kept are
-hosted_by_told false w w' place d hs deals still given kept are = subst (λ (x : PlainWorld). AreHosted x.units hs) (sym (still refl)) are
+hosted_by_told true w w' unit_index d hs deals still given kept are = hosted_told w w' unit_index d hs (deals refl) given kept are
+hosted_by_told false w w' unit_index d hs deals still given kept are = subst (λ (x : PlainWorld). AreHosted x.units hs) (sym (still refl)) are
 
-pub hosted_by_load : (r : Result Bool NoMemory) (w w' : PlainWorld) (place : ℕ) (d : Dealing) (hs : List (Option HostedDisk))
-    → IfOk r (λ told. IsTrue told → DealsAsPromised w place d w') → IfOk r (λ told. IsFalse told → w' ≡ w) → OnErr r (w' ≡ w)
+pub hosted_by_load : (r : Result Bool NoMemory) (w w' : PlainWorld) (unit_index : ℕ) (d : Dealing) (hs : List (Option HostedDisk))
+    → IfOk r (λ told. IsTrue told → DealsAsPromised w unit_index d w') → IfOk r (λ told. IsFalse told → w' ≡ w) → OnErr r (w' ≡ w)
     → ((s : Storage) (b : ℕ) → (dealt d s).given b ≡ s.given b) → ((s : Storage) (b : ℕ) → (dealt d s).kept b ≡ s.kept b)
     → AreHosted w.units hs → AreHosted w'.units hs
-hosted_by_load (Ok told) w w' place d hs deals still err given kept are = hosted_by_told told w w' place d hs deals still given kept are
-hosted_by_load (Err x) w w' place d hs deals still err given kept are = subst (λ (y : PlainWorld). AreHosted y.units hs) (sym err) are
+hosted_by_load (Ok told) w w' unit_index d hs deals still err given kept are = hosted_by_told told w w' unit_index d hs deals still given kept are
+hosted_by_load (Err x) w w' unit_index d hs deals still err given kept are = subst (λ (y : PlainWorld). AreHosted y.units hs) (sym err) are
 
--- what a unit at a place has, where the units are the same
-pub hosted_still : (us us' : List PlainUnit) (place : ℕ) (h : HostedDisk) → us' ≡ us → ((u : PlainUnit) → slice_get us place ≡ Some u → IsHosted u h)
-    → (u : PlainUnit) → slice_get us' place ≡ Some u → IsHosted u h
-hosted_still us us' place h alike was u at = was u (ap (λ x. slice_get x place) (sym alike) ∙ at)
+-- what a unit at an index has, where the units are the same
+pub hosted_still : (us us' : List PlainUnit) (unit_index : ℕ) (h : HostedDisk) → us' ≡ us → ((u : PlainUnit) → slice_get us unit_index ≡ Some u → IsHosted u h)
+    → (u : PlainUnit) → slice_get us' unit_index ≡ Some u → IsHosted u h
+hosted_still us us' unit_index h alike was u at = was u (ap (λ x. slice_get x unit_index) (sym alike) ∙ at)
 
-pub hosted_by_give : (r : Result (Option GivenPage) NoMemory) (w w' : PlainWorld) (place : ℕ) (hs : List (Option HostedDisk))
-    → IfOk r (λ given. IfSome given (λ g. DealsAsPromised w place (Dealing.Give g.page g.bytes.items) w'))
-    → IfOk r (λ given. IfNone given (w' ≡ w)) → OnErr r (w' ≡ w) → ((h : HostedDisk) → slice_get hs place ≡ Some (Some h) → ⊥)
+pub hosted_by_give : (r : Result (Option GivenPage) NoMemory) (w w' : PlainWorld) (unit_index : ℕ) (hs : List (Option HostedDisk))
+    → IfOk r (λ given. IfSome given (λ g. DealsAsPromised w unit_index (Dealing.Give g.page g.bytes.items) w'))
+    → IfOk r (λ given. IfNone given (w' ≡ w)) → OnErr r (w' ≡ w) → ((h : HostedDisk) → slice_get hs unit_index ≡ Some (Some h) → ⊥)
     → AreHosted w.units hs → AreHosted w'.units hs
-hosted_by_give (Ok (Some g)) w w' place hs deals none err gone are = hosted_by_deal w w' place (Dealing.Give g.page g.bytes.items) hs deals gone are
-hosted_by_give (Ok None) w w' place hs deals none err gone are = subst (λ (x : PlainWorld). AreHosted x.units hs) (sym none) are
-hosted_by_give (Err x) w w' place hs deals none err gone are = subst (λ (y : PlainWorld). AreHosted y.units hs) (sym err) are
+hosted_by_give (Ok (Some g)) w w' unit_index hs deals none err gone are = hosted_by_deal w w' unit_index (Dealing.Give g.page g.bytes.items) hs deals gone are
+hosted_by_give (Ok None) w w' unit_index hs deals none err gone are = subst (λ (x : PlainWorld). AreHosted x.units hs) (sym none) are
+hosted_by_give (Err x) w w' unit_index hs deals none err gone are = subst (λ (y : PlainWorld). AreHosted y.units hs) (sym err) are
 
-pub hosted_by_written : (r : Result Bool NoMemory) (w w' : PlainWorld) (place : ℕ) (d : Dealing) (hs : List (Option HostedDisk))
-    → IfOk r (λ told. IsTrue told → DealsAsPromised w place d w') → IfOk r (λ told. IsFalse told → w' ≡ w) → OnErr r (w' ≡ w)
-    → ((h : HostedDisk) → slice_get hs place ≡ Some (Some h) → ⊥) → AreHosted w.units hs → AreHosted w'.units hs
-hosted_by_written (Ok true) w w' place d hs deals still err gone are = hosted_by_deal w w' place d hs (deals refl) gone are
-hosted_by_written (Ok false) w w' place d hs deals still err gone are = subst (λ (x : PlainWorld). AreHosted x.units hs) (sym (still refl)) are
-hosted_by_written (Err x) w w' place d hs deals still err gone are = subst (λ (y : PlainWorld). AreHosted y.units hs) (sym err) are
+pub hosted_by_written : (r : Result Bool NoMemory) (w w' : PlainWorld) (unit_index : ℕ) (d : Dealing) (hs : List (Option HostedDisk))
+    → IfOk r (λ told. IsTrue told → DealsAsPromised w unit_index d w') → IfOk r (λ told. IsFalse told → w' ≡ w) → OnErr r (w' ≡ w)
+    → ((h : HostedDisk) → slice_get hs unit_index ≡ Some (Some h) → ⊥) → AreHosted w.units hs → AreHosted w'.units hs
+hosted_by_written (Ok true) w w' unit_index d hs deals still err gone are = hosted_by_deal w w' unit_index d hs (deals refl) gone are
+hosted_by_written (Ok false) w w' unit_index d hs deals still err gone are = subst (λ (x : PlainWorld). AreHosted x.units hs) (sym (still refl)) are
+hosted_by_written (Err x) w w' unit_index d hs deals still err gone are = subst (λ (y : PlainWorld). AreHosted y.units hs) (sym err) are
 
-pub hosted_by_resize : (r : Result Bool NoMemory) (w w' : PlainWorld) (place blocks : ℕ) (hs : List (Option HostedDisk))
-    → Steps w (Event.Resize place blocks) r w' → ((h : HostedDisk) → slice_get hs place ≡ Some (Some h) → ⊥) → AreHosted w.units hs
+pub hosted_by_resize : (r : Result Bool NoMemory) (w w' : PlainWorld) (unit_index blocks : ℕ) (hs : List (Option HostedDisk))
+    → Steps w (Event.Resize unit_index blocks) r w' → ((h : HostedDisk) → slice_get hs unit_index ≡ Some (Some h) → ⊥) → AreHosted w.units hs
     → AreHosted w'.units hs
-hosted_by_resize (Ok true) w w' place blocks hs steps gone are =
-    subst (λ us. AreHosted us hs) (sym (resized_units w w' place blocks steps)) (hosted_beside (stepped (Step.Resize blocks)) place w.units hs gone are)
-hosted_by_resize (Ok false) w w' place blocks hs steps gone are =
-    subst (λ us. AreHosted us hs) (sym (unresized_units w w' place blocks steps)) are
-hosted_by_resize (Err x) w w' place blocks hs steps gone are = subst (λ (y : PlainWorld). AreHosted y.units hs) (sym steps.1) are
+hosted_by_resize (Ok true) w w' unit_index blocks hs steps gone are =
+    subst (λ us. AreHosted us hs) (sym (resized_units w w' unit_index blocks steps)) (hosted_beside (stepped (Step.Resize blocks)) unit_index w.units hs gone are)
+hosted_by_resize (Ok false) w w' unit_index blocks hs steps gone are =
+    subst (λ us. AreHosted us hs) (sym (unresized_units w w' unit_index blocks steps)) are
+hosted_by_resize (Err x) w w' unit_index blocks hs steps gone are = subst (λ (y : PlainWorld). AreHosted y.units hs) (sym steps.1) are
 
 -- the unit that was resized, with its storage
-pub hosted_of_resize : (w w' : PlainWorld) (place blocks : ℕ) (h h' : HostedDisk) → IsStep w (Event.Resize place blocks) true w'
-    → ((u : PlainUnit) → slice_get w.units place ≡ Some u → IsHosted u h)
+pub hosted_of_resize : (w w' : PlainWorld) (unit_index blocks : ℕ) (h h' : HostedDisk) → IsStep w (Event.Resize unit_index blocks) true w'
+    → ((u : PlainUnit) → slice_get w.units unit_index ≡ Some u → IsHosted u h)
     → ((b : ℕ) → given_blocks h'.storage b ≡ cut (min h.capacity blocks) (given_blocks h.storage) b)
     → ((b : ℕ) → kept_blocks h'.storage b ≡ cut (min h.capacity blocks) (kept_blocks h.storage) b)
-    → h'.capacity ≡ blocks → (v : PlainUnit) → slice_get w'.units place ≡ Some v → IsHosted v h'
-hosted_of_resize w w' place blocks h h' steps was given kept size v at =
-    hosted_there (stepped (Step.Resize blocks)) place w.units h h' was (λ u is. hosted_resized blocks u h h' given kept size is) v
-    (ap (λ us. slice_get us place) (sym (resized_units w w' place blocks steps)) ∙ at)
+    → h'.capacity ≡ blocks → (v : PlainUnit) → slice_get w'.units unit_index ≡ Some v → IsHosted v h'
+hosted_of_resize w w' unit_index blocks h h' steps was given kept size v at =
+    hosted_there (stepped (Step.Resize blocks)) unit_index w.units h h' was (λ u is. hosted_resized blocks u h h' given kept size is) v
+    (ap (λ us. slice_get us unit_index) (sym (resized_units w w' unit_index blocks steps)) ∙ at)

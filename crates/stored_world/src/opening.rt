@@ -53,7 +53,7 @@ impl StoredWorld {
     ghost use Rattle.stored_world.specs.Inner.Opening.{AreCachesFor, IsStoredOpening, StoredRefusedAs};
 
     /// Opens the device of a configuration over disks of zeros, each of its unit's capacity. Where `caches` has a number at the
-    /// unit's place, the disk is on a storage of zeros, with at most so many of its pages of 8 blocks in memory. Else all of it is
+    /// unit's index, the disk is on a storage of zeros, with at most so many of its pages of 8 blocks in memory. Else all of it is
     /// in memory, and it has no storage. No clause says how many pages are in memory.
     ///
     /// Answers `BadConfig` where one of these holds, unless memory was refused before:
@@ -78,12 +78,12 @@ impl StoredWorld {
         }
         let mut disks = Vec::new(alloc);
         let mut hosted = Vec::new(alloc);
-        for place in 0..caches.len() {
-            let blocks = config.units[place].blocks;
+        for unit_index in 0..caches.len() {
+            let blocks = config.units[unit_index].blocks;
             if blocks >= MOST {
                 return Err(StartFault::BadConfig);
             }
-            match add_disk(alloc, blocks, caches[place], &mut disks, &mut hosted) {
+            match add_disk(alloc, blocks, caches[unit_index], &mut disks, &mut hosted) {
                 Ok(()) => {}
                 Err(_) => return Err(StartFault::NoMemory),
             }

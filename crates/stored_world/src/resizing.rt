@@ -15,13 +15,13 @@ impl StoredWorld {
     ghost use Rattle.world.specs.Steps.{Steps};
     ghost use Rattle.stored_world.specs.Inner.Device.{world_of};
 
-    /// Gives the unit at a place so many blocks, and cuts its storage off.
-    pub(crate) fn resize(&mut self, place: u16, blocks: u64) -> Result<bool, NoMemory>
-        ensures steps { Steps (world_of self.old) (AnEvent.Resize place blocks) result (world_of self.new) }
-        ensures promise { StepsAsPromised (world_of self.old) (AnEvent.Resize place blocks) result (world_of self.new) }
+    /// Gives the unit at an index so many blocks, and cuts its storage off.
+    pub(crate) fn resize(&mut self, unit_index: u16, blocks: u64) -> Result<bool, NoMemory>
+        ensures steps { Steps (world_of self.old) (AnEvent.Resize unit_index blocks) result (world_of self.new) }
+        ensures promise { StepsAsPromised (world_of self.old) (AnEvent.Resize unit_index blocks) result (world_of self.new) }
     {
-        let disk = self.take_disk(place);
-        let resized = self.world.step(Event::Resize(place, blocks));
+        let disk = self.take_disk(unit_index);
+        let resized = self.world.step(Event::Resize(unit_index, blocks));
         let Some(mut disk) = disk else {
             return resized;
         };
@@ -31,11 +31,11 @@ impl StoredWorld {
                 if end <= MOST {
                     disk.storage.cut(end);
                     disk.capacity = blocks;
-                    self.put_disk(place, disk);
+                    self.put_disk(unit_index, disk);
                 }
             }
-            Ok(false) => self.put_disk(place, disk),
-            Err(_) => self.put_disk(place, disk),
+            Ok(false) => self.put_disk(unit_index, disk),
+            Err(_) => self.put_disk(unit_index, disk),
         }
         resized
     }

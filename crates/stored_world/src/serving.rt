@@ -30,8 +30,8 @@ impl StoredWorld {
         ensures steps { Steps (world_of self.old) (plain_event event) result (world_of self.new) }
         ensures promise { StepsAsPromised (world_of self.old) (plain_event event) result (world_of self.new) }
     {
-        if let Event::Resize(place, blocks) = event {
-            return self.resize(place, blocks);
+        if let Event::Resize(unit_index, blocks) = event {
+            return self.resize(unit_index, blocks);
         }
         self.world.step(event)
     }

@@ -21,27 +21,27 @@ pub struct StoredWorld {
 }
 
 impl StoredWorld {
-    /// Takes out the storage of the unit at a place, if it is there.
-    pub(crate) fn take_disk(&mut self, place: u16) -> Option<HostedDisk>
+    /// Takes out the storage of the unit at an index, if it is there.
+    pub(crate) fn take_disk(&mut self, unit_index: u16) -> Option<HostedDisk>
         ensures world { self.new.world ≡ self.old.world }
-        ensures disk { IfSome result (λ h. (u : PlainUnit) → slice_get self.old.world.units place ≡ Some u → IsHosted u h) }
-        ensures gone { (h : HostedDisk) → slice_get self.new.disks.items place ≡ Some (Some h) → ⊥ }
+        ensures disk { IfSome result (λ h. (u : PlainUnit) → slice_get self.old.world.units unit_index ≡ Some u → IsHosted u h) }
+        ensures gone { (h : HostedDisk) → slice_get self.new.disks.items unit_index ≡ Some (Some h) → ⊥ }
     {
-        let place = place as usize;
-        if place >= self.disks.len() {
+        let unit_index = unit_index as usize;
+        if unit_index >= self.disks.len() {
             return None;
         }
-        mem::replace(&mut self.disks[place], None)
+        mem::replace(&mut self.disks[unit_index], None)
     }
 
     /// Puts it back.
-    pub(crate) fn put_disk(&mut self, place: u16, disk: HostedDisk)
-        requires hosted { (u : PlainUnit) → slice_get self.old.world.units place ≡ Some u → IsHosted u disk }
+    pub(crate) fn put_disk(&mut self, unit_index: u16, disk: HostedDisk)
+        requires hosted { (u : PlainUnit) → slice_get self.old.world.units unit_index ≡ Some u → IsHosted u disk }
         ensures world { self.new.world ≡ self.old.world }
     {
-        let place = place as usize;
-        if place < self.disks.len() {
-            self.disks[place] = Some(disk);
+        let unit_index = unit_index as usize;
+        if unit_index < self.disks.len() {
+            self.disks[unit_index] = Some(disk);
         }
     }
 }

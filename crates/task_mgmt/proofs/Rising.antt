@@ -1,10 +1,10 @@
--- The places of a target's units are all that there are, each once, rising, and below the number of units.
+-- The indexes of a target's units are all that there are, each once, rising, and below the number of units.
 use Rattle.std.proofs.Common.{◌≡◌, ℕ, zero, suc, Bool, true, false, cond, ◌&&◌, ◌||◌, nat_le, nat_lt, ◌+◌, ◌<◌, ◌≤◌, ◌==◌, inl, inr, List, [], ◌∷◌, length, filter, slice_get, refl, ap, ◌∙◌, arith}
 use Rattle.std.specs.List.{range_with_len, list_any, AllByRecursion}
 use Rattle.std.proofs.lemmas.Bool.{cases_eq, cases_lt}
 use Rattle.std.proofs.lemmas.Bool.Decides.{nat_tests}
 use Rattle.scsi_codec.specs.declared.lun.Address.{Address}
-use Rattle.task_mgmt.specs.Demands.{is_of_target, places_of}
+use Rattle.task_mgmt.specs.Demands.{is_of_target, indexes_of}
 use Rattle.task_mgmt.specs.Visits.{AreRising}
 
 -- Each once, rising
@@ -25,8 +25,8 @@ rising : (p : ℕ → Bool) (a n : ℕ) → AreRising (filter p (range_with_len 
 rising p a zero = tt
 rising p a (suc n) = rising_if (p a) a (filter p (range_with_len (a + 1) n)) (above p a (a + 1) n (omega arith)) (rising p (a + 1) n)
 
-pub places_rising : (units : List Address) (target : ℕ) → AreRising (places_of units target)
-places_rising units target = rising (λ place. is_of_target target (slice_get units place)) 0 (length units)
+pub places_rising : (units : List Address) (target : ℕ) → AreRising (indexes_of units target)
+places_rising units target = rising (λ unit_index. is_of_target target (slice_get units unit_index)) 0 (length units)
 
 -- Below the number of units
 
@@ -38,8 +38,8 @@ below : (p : ℕ → Bool) (m a n : ℕ) → a + n ≤ m → AllByRecursion (λ 
 below p m a zero h = tt
 below p m a (suc n) h = below_if (p a) m a (filter p (range_with_len (a + 1) n)) (omega arith) (below p m (a + 1) n (omega arith))
 
-pub places_there : (units : List Address) (target : ℕ) → AllByRecursion (λ k. k < length units) (places_of units target)
-places_there units target = below (λ place. is_of_target target (slice_get units place)) (length units) 0 (length units) (omega arith)
+pub places_there : (units : List Address) (target : ℕ) → AllByRecursion (λ k. k < length units) (indexes_of units target)
+places_there units target = below (λ unit_index. is_of_target target (slice_get units unit_index)) (length units) 0 (length units) (omega arith)
 
 -- All that there are
 
@@ -67,9 +67,9 @@ past [] target k h = refl
 past (a ∷ units) target zero h = absurd (omega arith)
 past (a ∷ units) target (suc k) h = past units target k (omega arith)
 
-pub places_all : (units : List Address) (target k : ℕ) → list_any (λ it. it == k) (places_of units target) ≡ is_of_target target (slice_get units k)
+pub places_all : (units : List Address) (target k : ℕ) → list_any (λ it. it == k) (indexes_of units target) ≡ is_of_target target (slice_get units k)
 places_all units target k =
-    let found = any_of (λ place. is_of_target target (slice_get units place)) k 0 (length units) in
+    let found = any_of (λ unit_index. is_of_target target (slice_get units unit_index)) k 0 (length units) in
     elim (cases_lt k (length units)) [
       | inl within ↦ found ∙ grind (arith, nat_tests)
       | inr beyond ↦

@@ -4,7 +4,7 @@ use Rattle.std.specs.List.{range_with_len}
 use Rattle.scsi_codec.specs.declared.lun.Address.{Address}
 use Rattle.scsi_codec.specs.declared.control_queue.FunctionResponse.{FunctionResponse}
 use Rattle.scsi_codec.specs.declared.control_queue.FunctionResponse.TheVariants.{BadTarget, Rejected, IncorrectLun}
-use Rattle.request_intake.specs.Inventory.{has_target, place_of}
+use Rattle.request_intake.specs.Inventory.{has_target, index_of}
 use Rattle.task_mgmt.specs.declared.kind.Kind.{Kind}
 use Rattle.task_mgmt.specs.Functions.{PlainFunction, kind_of, opened}
 
@@ -12,19 +12,19 @@ abbrev pub is_of_target : ℕ → Option Address → Bool
 is_of_target target None = false
 is_of_target target (Some a) = a.target == target
 
--- own: the places of a target's units, rising
-abbrev pub places_of : List Address → ℕ → List ℕ
-places_of units target = filter (λ place. is_of_target target (slice_get units place)) (range_with_len 0 (length units))
+-- own: the indexes of a target's units, rising
+abbrev pub indexes_of : List Address → ℕ → List ℕ
+indexes_of units target = filter (λ unit_index. is_of_target target (slice_get units unit_index)) (range_with_len 0 (length units))
 
--- the unit at this place, which the target may lack
+-- the unit at this index, which the target may lack
 abbrev pub demanded_of_unit : Option ℕ → Kind → Result (Kind × List ℕ) FunctionResponse
 demanded_of_unit None kind = Err IncorrectLun
-demanded_of_unit (Some place) kind = Ok (kind, place ∷ [])
+demanded_of_unit (Some unit_index) kind = Ok (kind, unit_index ∷ [])
 
 -- I_T NEXUS RESET, 4, is for all units of the target, whatever the LUN (SAM-5 §7.6), every other function for one
 abbrev pub demanded_of_target : List Address → ℕ → Address → Kind → Result (Kind × List ℕ) FunctionResponse
 demanded_of_target units subtype a kind =
-    if subtype == 4 then Ok (kind, places_of units a.target) else demanded_of_unit (place_of units a) kind
+    if subtype == 4 then Ok (kind, indexes_of units a.target) else demanded_of_unit (index_of units a) kind
 
 -- an address that isn't readable, or a target that isn't there
 abbrev pub demanded_at : List Address → ℕ → Option Address → Kind → Result (Kind × List ℕ) FunctionResponse

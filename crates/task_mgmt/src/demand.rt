@@ -1,7 +1,7 @@
 //! The beginning of a function, or the reason for which it is refused.
 
 ghost use Rattle.std.specs.Prelude.{◌≡◌, ◌≤◌, length};
-ghost use Rattle.task_mgmt.specs.Demands.{places_of, demanded, begun};
+ghost use Rattle.task_mgmt.specs.Demands.{indexes_of, demanded, begun};
 
 use crate::function::Function;
 use crate::kind::kind_of;
@@ -23,18 +23,18 @@ pub struct TaskManagement {
     pub id: u64,
 }
 
-/// Returns the places of a target's units, rising.
-fn places_of(units: &[Address], target: u8) -> ArrayVec<usize, MOST_UNITS>
+/// Returns the indexes of a target's units, rising.
+fn indexes_of(units: &[Address], target: u8) -> ArrayVec<usize, MOST_UNITS>
     requires { length units.now ≤ MOST_UNITS }
-    ensures { result.items ≡ places_of units.now target }
+    ensures { result.items ≡ indexes_of units.now target }
 {
-    let mut places = ArrayVec::new();
-    for place in 0..units.len() {
-        if units[place].target == target {
-            places.push(place);
+    let mut indexes = ArrayVec::new();
+    for unit_index in 0..units.len() {
+        if units[unit_index].target == target {
+            indexes.push(unit_index);
         }
     }
-    places
+    indexes
 }
 
 /// Begins a function on units of the inventory. Called by [`decide_control`](crate::decide_control) for a request that
@@ -58,12 +58,12 @@ pub fn begin(tmf: &TaskManagement, inventory: &Inventory) -> Result<Function, Fu
         return Err(FunctionResponse::BadTarget);
     }
     if tmf.subtype == I_T_NEXUS_RESET {
-        return Ok(Function::opened(kind, places_of(inventory.as_slice(), address.target)));
+        return Ok(Function::opened(kind, indexes_of(inventory.as_slice(), address.target)));
     }
-    let Some(place) = inventory.find(&address) else {
+    let Some(unit_index) = inventory.find(&address) else {
         return Err(FunctionResponse::IncorrectLun);
     };
     let mut one = ArrayVec::new();
-    one.push(place);
+    one.push(unit_index);
     Ok(Function::opened(kind, one))
 }

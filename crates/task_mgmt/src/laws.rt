@@ -9,7 +9,7 @@ ghost use Rattle.unit_model.specs.declared.rule.Rule.TheVariants.{Id, All};
 ghost use Rattle.scsi_codec.specs.declared.lun.Address.{Address};
 ghost use Rattle.scsi_codec.specs.declared.control_queue.FunctionResponse.TheVariants.{Complete, BadTarget, Failure, Succeeded, Rejected, IncorrectLun};
 ghost use Rattle.scsi_codec.specs.declared.control_queue.Control.TheVariants.{TaskManagement, AsynchronousNotification, MalformedFunction, MalformedNotification};
-ghost use Rattle.request_intake.specs.Inventory.{has_target, place_of};
+ghost use Rattle.request_intake.specs.Inventory.{has_target, index_of};
 ghost use Rattle.task_mgmt.specs.declared.kind.Kind.{Kind};
 ghost use Rattle.task_mgmt.specs.declared.kind.Kind.TheVariants.{Marking, Querying};
 ghost use Rattle.task_mgmt.specs.declared.kind.MarkBy.{MarkBy};
@@ -17,7 +17,7 @@ ghost use Rattle.task_mgmt.specs.declared.kind.MarkBy.TheVariants.{Abort, Reset}
 ghost use Rattle.task_mgmt.specs.declared.function.Mark.{Mark};
 ghost use Rattle.task_mgmt.specs.declared.control.ControlDecision.TheVariants.{Direct};
 ghost use Rattle.task_mgmt.specs.Functions.{PlainFunction, kind_of, opened, next_look, failing, is_over, response_of};
-ghost use Rattle.task_mgmt.specs.Demands.{is_of_target, places_of, demanded};
+ghost use Rattle.task_mgmt.specs.Demands.{is_of_target, indexes_of, demanded};
 ghost use Rattle.task_mgmt.specs.Control.{decided_of};
 ghost use Rattle.task_mgmt.specs.Visits.{all_marked, all_asked, all_checked, AreRising};
 
@@ -48,23 +48,23 @@ pub fn refusals_in_order()
         → demanded units subtype (Some a) id ≡ Err BadTarget }
     ensures lun { (units : List Address) (subtype : ℕ) (a : Address) (id : ℕ) (kind : Kind)
         → kind_of subtype id ≡ Some kind → has_target units a.target ≡ true → subtype ≢ 4
-        → place_of units a ≡ None → demanded units subtype (Some a) id ≡ Err IncorrectLun }
+        → index_of units a ≡ None → demanded units subtype (Some a) id ≡ Err IncorrectLun }
 {}
 
 /// A function that isn't refused is for one unit, or for all units of its target, whatever the LUN.
 pub fn units_of_functions()
-    ensures one { (units : List Address) (subtype : ℕ) (a : Address) (id place : ℕ) (kind : Kind)
+    ensures one { (units : List Address) (subtype : ℕ) (a : Address) (id unit_index : ℕ) (kind : Kind)
         → kind_of subtype id ≡ Some kind → has_target units a.target ≡ true → subtype ≢ 4
-        → place_of units a ≡ Some place → demanded units subtype (Some a) id ≡ Ok (kind, place ∷ []) }
+        → index_of units a ≡ Some unit_index → demanded units subtype (Some a) id ≡ Ok (kind, unit_index ∷ []) }
     ensures all { (units : List Address) (a : Address) (id : ℕ) → has_target units a.target ≡ true
-        → demanded units 4 (Some a) id ≡ Ok (Marking (Reset Code.I_T_NEXUS_LOSS), places_of units a.target) }
+        → demanded units 4 (Some a) id ≡ Ok (Marking (Reset Code.I_T_NEXUS_LOSS), indexes_of units a.target) }
 {}
 
-/// The places of a target's units are all that there are, each once, rising.
+/// The indexes of a target's units are all that there are, each once, rising.
 pub fn places_are_those_of_the_target()
-    ensures all { (units : List Address) (target place : ℕ)
-        → list_any (λ it. it == place) (places_of units target) ≡ is_of_target target (slice_get units place) }
-    ensures rising { (units : List Address) (target : ℕ) → AreRising (places_of units target) }
+    ensures all { (units : List Address) (target unit_index : ℕ)
+        → list_any (λ it. it == unit_index) (indexes_of units target) ≡ is_of_target target (slice_get units unit_index) }
+    ensures rising { (units : List Address) (target : ℕ) → AreRising (indexes_of units target) }
 {}
 
 /// A function that marks visits each of its units once, in their order, and waits for each mark.

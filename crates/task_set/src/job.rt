@@ -330,7 +330,7 @@ impl JobList {
         self.limit
     }
 
-    /// Puts a job behind the others. There is a place free, which the caller sees to.
+    /// Puts a job behind the others. There is room for it, which the caller sees to.
     pub fn push(&mut self, job: Job)
         requires { length self.old.jobs < self.old.limit }
         ensures { self.new ≡ record self.old { jobs = self.old.jobs ++ job ∷ [] } }

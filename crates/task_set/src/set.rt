@@ -11,7 +11,7 @@ use crate::blocking::block_next;
 use crate::job::{Arrival, Job, JobList};
 use crate::shared::SharedRequest;
 use crate::task::Task;
-use crate::walks::{finish_all, free_all, has_met, has_met_before, mark_all, place_of};
+use crate::walks::{finish_all, free_all, has_met, has_met_before, index_of, mark_all};
 use arrayvec::ArrayVec;
 use ring_core::Ticket;
 use std::alloc::Global;
@@ -64,7 +64,7 @@ impl TaskSet {
         self.tasks.len()
     }
 
-    /// Returns the ticket of a task by its place in the order of entry; `None` where fewer are alive.
+    /// Returns the ticket of a task by its index in the order of entry; `None` where fewer are alive.
     pub fn ticket_at(&self, index: usize) -> Option<Ticket>
         ensures { result ≡ option_map (λ e. e.ticket) (slice_get (entries_of self.now) index) }
     {
@@ -79,8 +79,8 @@ impl TaskSet {
         ensures { option_copied result ≡ task_at ticket self.now }
     {
         let tasks = self.tasks.as_slice();
-        let place = place_of(tasks, ticket)?;
-        Some(&tasks[place])
+        let index = index_of(tasks, ticket)?;
+        Some(&tasks[index])
     }
 
     /// Shares the request of the task of a ticket. Called in the hold of the unit's lock, by a thread that is to
@@ -90,8 +90,8 @@ impl TaskSet {
         ensures shared { IfSome result (λ r. IfSome (task_at ticket self.old) (λ t. t.seen.entry ≡ entry_of t.seen.entry.ticket r)) }
     {
         let tasks = self.tasks.as_mut_slice();
-        let place = place_of(tasks, ticket)?;
-        tasks[place].share(alloc)
+        let index = index_of(tasks, ticket)?;
+        tasks[index].share(alloc)
     }
 
     /// Returns true if the task of a ticket may run (SAM-5 §8.6); `false` where it isn't alive. For callers
@@ -151,8 +151,8 @@ impl TaskSet {
     fn remove(&mut self, ticket: Ticket)
         ensures { self.new ≡ without ticket self.old }
     {
-        if let Some(place) = place_of(self.tasks.as_slice(), ticket) {
-            drop(self.tasks.remove(place));
+        if let Some(index) = index_of(self.tasks.as_slice(), ticket) {
+            drop(self.tasks.remove(index));
         }
     }
 

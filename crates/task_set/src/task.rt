@@ -53,7 +53,7 @@ impl Model for Task {
 }
 
 impl Default for Task {
-    // Fills the free places of a task set.
+    // Fills the free slots of a task set.
     fn default() -> Task {
         Task {
             ticket: Ticket {
@@ -79,7 +79,7 @@ impl Task {
         self.ticket
     }
 
-    /// Returns its request; `None` in a free place of a task set.
+    /// Returns its request; `None` in a free slot of a task set.
     #[inline(always)]
     fn request(&self) -> Option<&UnitRequest>
         ensures { self.now.seen.entry ≡ entry_of_request self.now.seen.entry.ticket (option_copied result) }

@@ -25,8 +25,8 @@ fn has_head_of_queue(tasks: &[Task]) -> bool
     false
 }
 
-/// Returns the place of the task of a ticket.
-pub(crate) fn place_of(tasks: &[Task], ticket: Ticket) -> Option<usize>
+/// Returns the index of the task of a ticket.
+pub(crate) fn index_of(tasks: &[Task], ticket: Ticket) -> Option<usize>
     ensures none { IfNone result ((task_at ticket tasks.now ≡ None) × (without ticket tasks.now ≡ tasks.now)) }
     ensures within { IfSome result (λ i. i < length tasks.now) }
     ensures task { IfSome result

@@ -48,7 +48,7 @@ pub const READ: Asked = Asked {
 /// A request that the driver puts into a queue.
 #[derive(Clone, Copy)]
 pub struct Sent {
-    /// The place of its unit on the bench.
+    /// The index of its unit on the bench.
     pub unit: usize,
     /// True if it goes into the other queue, whose tickets are those of the first.
     pub to_other: bool,

@@ -104,7 +104,7 @@ pub(crate) fn commit(unit: &mut UnitState, job: &Job) -> Option<Outcome> {
     }
 }
 
-/// The places of a list of jobs that these calls want free.
+/// The room in a list of jobs that these calls want free.
 const PLACES: usize = 64;
 
 /// Has the task of a completed chain leave, and returns true if it does. `None` where the history doesn't say the same.
@@ -153,7 +153,7 @@ fn place_told(
     }
 }
 
-/// Aborts tasks of a unit; `None` where the list has too few places.
+/// Aborts tasks of a unit; `None` where the list has too little room.
 pub(crate) fn abort(
     unit: &mut UnitState,
     rule: Rule,
@@ -167,7 +167,7 @@ pub(crate) fn abort(
     place_told(unit, before, answer, StepKind::Abort(rule))
 }
 
-/// Resets a unit; `None` where the list has too few places.
+/// Resets a unit; `None` where the list has too little room.
 pub(crate) fn reset(unit: &mut UnitState, out: &mut JobList) -> Result<Option<Place>, NoMemory> {
     if out.limit().saturating_sub(out.len()) < PLACES {
         return Ok(None);

@@ -78,9 +78,9 @@ impl Hand {
 
     /// Takes the job of this name out.
     pub(crate) fn take(&mut self, name: u64) -> Option<Job> {
-        let place = place_of(self.jobs.as_slice(), name)?;
-        if place < self.jobs.len() {
-            Some(self.jobs.remove(place))
+        let index = place_of(self.jobs.as_slice(), name)?;
+        if index < self.jobs.len() {
+            Some(self.jobs.remove(index))
         } else {
             None
         }
@@ -117,10 +117,10 @@ impl Hand {
 
     /// Commits a job at a unit.
     pub(crate) fn commit(&mut self, unit: &mut UnitState, name: u64) -> Result<Ends, NoMemory> {
-        let Some(place) = place_of(self.jobs.as_slice(), name) else {
+        let Some(index) = place_of(self.jobs.as_slice(), name) else {
             return Ok(Ends::Otherwise);
         };
-        let Some(job) = self.jobs.get(place) else {
+        let Some(job) = self.jobs.get(index) else {
             return Ok(Ends::Otherwise);
         };
         match calls::commit(unit, job) {

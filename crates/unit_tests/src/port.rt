@@ -17,7 +17,7 @@ pub(crate) const PAGES: u32 = 8;
 
 const OTHER_PAGES: u32 = 9;
 
-/// The place of the queue: 256 descriptors, of which each request takes two.
+/// Where the queue lies: 256 descriptors, of which each request takes two.
 const PLACE: Layout = Layout {
     size: 256,
     desc: 0,
@@ -160,9 +160,9 @@ fn arrival_of(inventory: &Inventory, sent: &Sent, fetched: Fetched) -> Option<Ar
         return None;
     }
     match decide(inventory, &mut bytes, &lengths) {
-        Decision::Enter(place, request) => {
-            if place == sent.unit % 2 {
-                let number = inventory.number_at(place);
+        Decision::Enter(unit_index, request) => {
+            if unit_index == sent.unit % 2 {
+                let number = inventory.number_at(unit_index);
                 Some(Arrival::new(sent.unit, number, chain, request))
             } else {
                 None

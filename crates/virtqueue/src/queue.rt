@@ -140,7 +140,7 @@ impl Queue {
     ghost use Rattle.virtqueue.specs.Looking.{IsIdle, Looks};
     ghost use Rattle.virtqueue.specs.Completing.{SeenBehind};
 
-    /// Opens a queue with this number at a place that its ring takes, for a driver that agreed to these features. It
+    /// Opens a queue with this number of a layout that its ring takes, for a driver that agreed to these features. It
     /// looks only at those that concern rings. `NoMemory` where its ring was refused memory.
     pub fn new<M: Memory>(
         alloc: Global,

@@ -331,7 +331,7 @@ pub extern "C" fn vscsi_raw_create_with(
     handing::create_with(device, alloc, pages, features, queues, units, disks, fault).code()
 }
 
-/// Ends a device, and puts its disks into places where there is none.
+/// Ends a device, and puts its disks into slots where there is none.
 #[unsafe(no_mangle)]
 pub extern "C" fn vscsi_raw_close(device: &mut Device, alloc: Global, disks: &mut [Disk]) -> u32
     ensures { Tells result (λ a. Closes (kept_in device.old) (disks_at disks.old) a (kept_in device.new)

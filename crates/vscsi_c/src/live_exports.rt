@@ -58,7 +58,7 @@ pub extern "C" fn vscsi_raw_live_create_with(
     live_handing::create_with(device, alloc, map, features, rings, units, disks, fault).code()
 }
 
-/// Ends a device, and puts its disks into places where there is none.
+/// Ends a device, and puts its disks into slots where there is none.
 #[unsafe(no_mangle)]
 pub extern "C" fn vscsi_raw_live_close(
     device: &mut LiveDevice,

@@ -31,7 +31,7 @@ HasNone h = (x : PlainJob) (o : Option answers.Outcome) → h ≡ hand_with x o 
 
 none_due : (h : declared.Hand) → HasNone (hand_of h) → receipts_due h ≡ 0
 none_due hand.Empty none = refl
-none_due (hand.Answered place t) none = refl
+none_due (hand.Answered unit_index t) none = refl
 none_due (hand.Job held) none = by_outcome held.outcome (none held.job held.outcome refl)
   where
     by_outcome : (o : Option answers.Outcome) → o ≡ None → receipts_due (hand.Job (record held { outcome = o })) ≡ 0
@@ -42,9 +42,9 @@ empty_none : (h : Hand) → h ≡ Hand.Empty → HasNone h
 empty_none h e x None is = refl
 empty_none h e x (Some o) is = cc
 
-answered_none : (h : Hand) (place : ℕ) (t : Ticket) → h ≡ Hand.Answered place t → HasNone h
-answered_none h place t e x None is = refl
-answered_none h place t e x (Some o) is = cc
+answered_none : (h : Hand) (unit_index : ℕ) (t : Ticket) → h ≡ Hand.Answered unit_index t → HasNone h
+answered_none h unit_index t e x None is = refl
+answered_none h unit_index t e x (Some o) is = cc
 
 taken_none : (h : Hand) (y : PlainJob) → h ≡ Hand.Taken y → HasNone h
 taken_none h y e x None is = refl
@@ -62,13 +62,13 @@ is_taken : (h : Hand) (at : ℕ) → committing_unit h ≡ Some at → (x : Plai
 is_taken Hand.Empty at e = cc
 is_taken (Hand.Taken x) at e = (x, refl)
 is_taken (Hand.Done x o) at e = cc
-is_taken (Hand.Answered place t) at e = cc
+is_taken (Hand.Answered unit_index t) at e = cc
 
-is_answered : (h : Hand) (at : ℕ) → leaving_unit h ≡ Some at → (place : ℕ) × (t : Ticket) × (h ≡ Hand.Answered place t)
+is_answered : (h : Hand) (at : ℕ) → leaving_unit h ≡ Some at → (unit_index : ℕ) × (t : Ticket) × (h ≡ Hand.Answered unit_index t)
 is_answered Hand.Empty at e = cc
 is_answered (Hand.Taken x) at e = cc
 is_answered (Hand.Done x o) at e = cc
-is_answered (Hand.Answered place t) at e = (place, t, refl)
+is_answered (Hand.Answered unit_index t) at e = (unit_index, t, refl)
 
 -- one that is to be committed at a unit
 pub committing_due : (h : declared.Hand) (at : ℕ) → committing_unit (hand_of h) ≡ Some at → receipts_due h ≡ 0
@@ -76,13 +76,13 @@ committing_due h at e = let (x, is) = is_taken (hand_of h) at e in taken_due h x
 
 -- one whose task is to leave
 pub leaving_due : (h : declared.Hand) (at : ℕ) → leaving_unit (hand_of h) ≡ Some at → receipts_due h ≡ 0
-leaving_due h at e = let (place, t, is) = is_answered (hand_of h) at e in none_due h (answered_none (hand_of h) place t is)
+leaving_due h at e = let (unit_index, t, is) = is_answered (hand_of h) at e in none_due h (answered_none (hand_of h) unit_index t is)
 
 left_none : (h : Hand) (at : ℕ) (u : PlainUnit) (out : Jobs) (b : Bool) (v : PlainUnit) (h' : Hand) (out' : Jobs)
     → leaving_unit h ≡ Some at → Leaves h u out b v h' out' → HasNone h'
-left_none (Hand.Answered place t) at u out true v h' out' e did = empty_none h' (did 0).1
-left_none (Hand.Answered place t) at u out false v h' out' e (same, jobs, inl stays) = answered_none h' place t stays.1
-left_none (Hand.Answered place t) at u out false v h' out' e (same, jobs, inr gone) = empty_none h' gone.1
+left_none (Hand.Answered unit_index t) at u out true v h' out' e did = empty_none h' (did 0).1
+left_none (Hand.Answered unit_index t) at u out false v h' out' e (same, jobs, inl stays) = answered_none h' unit_index t stays.1
+left_none (Hand.Answered unit_index t) at u out false v h' out' e (same, jobs, inr gone) = empty_none h' gone.1
 left_none Hand.Empty at u out b v h' out' e did = cc
 left_none (Hand.Taken x) at u out b v h' out' e did = cc
 left_none (Hand.Done x o) at u out b v h' out' e did = cc
@@ -98,7 +98,7 @@ made_due (Hand.Taken x) at u true v h' e did = refl
 made_due (Hand.Taken x) at u false v h' e did = taken_due h' x did.hand
 made_due Hand.Empty at u b v h' e did = cc
 made_due (Hand.Done x o) at u b v h' e did = cc
-made_due (Hand.Answered place t) at u b v h' e did = cc
+made_due (Hand.Answered unit_index t) at u b v h' e did = cc
 
 -- a commit counts the receipt that it leaves in the hand
 pub commit_tallies : (lost : Option Ticket) (n n' : ℕ) (kept : Kept) (h h' : declared.Hand) (at : ℕ) (u : PlainUnit) (b : Bool)
@@ -121,7 +121,7 @@ kept_more outcome.Unknown t kept kept' keeps = omega (arith, ap length keeps.0)
 given_more : (h : declared.Hand) (g : ReceiptOrNote) (kept kept' : Kept) → given_in h ≡ Some g → KeepsGiven kept g kept'
     → kept_by kept' ≡ kept_by kept + receipts_due h
 given_more hand.Empty g kept kept' e keeps = cc
-given_more (hand.Answered place t) g kept kept' e keeps = cc
+given_more (hand.Answered unit_index t) g kept kept' e keeps = cc
 given_more (hand.Job held) g kept kept' e keeps = by_outcome held.outcome e
   where
     by_outcome : (o : Option answers.Outcome) → option_map (given_for held.job.chain.ticket) o ≡ Some g
@@ -132,7 +132,7 @@ given_more (hand.Job held) g kept kept' e keeps = by_outcome held.outcome e
 -- what the job in a hand gives is no note Direct
 pub given_undirected : (h : declared.Hand) (g : ReceiptOrNote) → given_in h ≡ Some g → IsUndirected g
 given_undirected hand.Empty g e = cc
-given_undirected (hand.Answered place t) g e = cc
+given_undirected (hand.Answered unit_index t) g e = cc
 given_undirected (hand.Job held) g e = by_outcome held.outcome e
   where
     of_outcome : (o : answers.Outcome) → IsUndirected (given_for held.job.chain.ticket o)
@@ -149,7 +149,7 @@ answers_none : (h : Hand) (q : BareQueue) (m : List ℕ) (r : BareQueue) (n : Li
 answers_none (Hand.Done x o) q m r n h' (did, is) = answered_none h' x.unit x.chain.ticket is
 answers_none Hand.Empty q m r n h' did = absurd did
 answers_none (Hand.Taken x) q m r n h' did = absurd did
-answers_none (Hand.Answered place t) q m r n h' did = absurd did
+answers_none (Hand.Answered unit_index t) q m r n h' did = absurd did
 
 -- an answer gives the receipt that the hand had
 pub answer_tallies : (lost : Option Ticket) (counted : ℕ) (kept kept' : Kept) (h h' : declared.Hand) (g : ReceiptOrNote)
@@ -168,15 +168,15 @@ tallies_on (Some t) n n' kept kept' h h' counted same due even = refl
 no_job_due : (h : declared.Hand) → HasNoJob h → receipts_due h ≡ 0
 no_job_due hand.Empty none = refl
 no_job_due (hand.Job held) none = absurd none
-no_job_due (hand.Answered place t) none = refl
+no_job_due (hand.Answered unit_index t) none = refl
 
 left_without : (h : declared.Hand) (u : PlainUnit) (out : Jobs) (b : Bool) (v : PlainUnit) (h' : declared.Hand) (out' : Jobs)
     → HasNoJob h → Leaves (hand_of h) u out b v (hand_of h') out' → receipts_due h' ≡ 0
 left_without hand.Empty u out true v h' out' none did = absurd did
 left_without hand.Empty u out false v h' out' none did = empty_due h' did.1
 left_without (hand.Job held) u out b v h' out' none did = absurd none
-left_without (hand.Answered place t) u out b v h' out' none did =
-    none_due h' (left_none (Hand.Answered place t) place u out b v (hand_of h') out' refl did)
+left_without (hand.Answered unit_index t) u out b v h' out' none did =
+    none_due h' (left_none (Hand.Answered unit_index t) unit_index u out b v (hand_of h') out' refl did)
 
 -- a hand with no job has none to give where its task left and a request entered
 pub turn_tallies : (lost : Option Ticket) (n n' : ℕ) (kept : Kept) (h : declared.Hand) (s : Slot) (u : PlainUnit) (out : Jobs)

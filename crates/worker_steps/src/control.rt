@@ -16,10 +16,10 @@ use scsi_codec::{CONTROL_QUEUE, EVENT_QUEUE};
 use std::sync::Wait;
 use std::sync::ledger::Ledger;
 
-/// The place of the control queue among the queues.
+/// The index of the control queue among the queues.
 const CONTROL: usize = CONTROL_QUEUE as usize;
 
-/// The place of the event queue among the queues.
+/// The index of the event queue among the queues.
 const EVENTS: usize = EVENT_QUEUE as usize;
 
 /// Takes the next step of the open function; `None` where nothing is left for it to do but to be answered.

@@ -102,11 +102,11 @@ pub(crate) fn turn<R: Wait, G: Gate + Drop, C: Ledger + Weighing, W: Ledger>(
     ensures kept { post.new.kept ≡ post.old.kept }
     ensures tally { Tallies post.new.lost post.new.part.share.amount post.new.kept post.new.hand }
 {
-    let place = slot.unit();
-    if post.hand.leaving_unit() != place {
+    let unit_index = slot.unit();
+    if post.hand.leaving_unit() != unit_index {
         leave(rt, shared, post);
     }
-    let Some(at) = place else {
+    let Some(at) = unit_index else {
         return;
     };
     if at >= shared.units.len() {

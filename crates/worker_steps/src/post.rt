@@ -26,7 +26,7 @@ use unit_history::{Job, JobList};
 /// chain.
 const LONG: u64 = 16_384;
 
-/// All that a seat has: its place at the hand-off, the jobs that may run, and the job in its hand. It also has what it
+/// All that a seat has: its ends of the hand-off's queues, the jobs that may run, and the job in its hand. It also has what it
 /// kept of those that it answered, and the part of the ledger that counts its receipts.
 #[derive(Drop)]
 pub struct Post<W: Ledger> {

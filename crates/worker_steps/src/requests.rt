@@ -117,7 +117,7 @@ pub fn serve_queue<R: Wait, G: Gate + Drop, C: Ledger + Weighing, W: Ledger>(
     ensures seat { IsSameSeat post.old.seat post.new.seat }
     ensures tally { Tallies post.new.lost post.new.part.share.amount post.new.kept post.new.hand }
 {
-    // Then its list has the places that an Enter asks for.
+    // Then its list has the room that an Enter asks for.
     if !post.is_idle() {
         return Progress::Made;
     }

@@ -27,7 +27,7 @@ use Rattle.close_audit.specs.declared.closing.ClosedQueues.{ClosedQueues}
 use Rattle.workers.specs.Fetches.{left_in, left_at, AreDecided}
 use Rattle.workers.specs.Inner.Fetches.{IsOfOne, AreGathered}
 
--- Places in lists with more at their end.
+-- Indexes in lists with more at their end.
 push_here : {X : Type 0} (xs : List X) (y : X) → slice_get (xs ++ y ∷ []) (length xs) ≡ Some y
 push_here [] y = refl
 push_here (x ∷ xs) y = push_here xs y
@@ -185,14 +185,14 @@ module _ (qs : List BareQueue) (fs : List (Record Slot)) (ns : List PlainNote) (
   left_there : (n : PlainNote) → IsOfOne qs fs n → (s : Slot) × (left_at fs n.ticket ≡ Some s) × (note_in (slot_of s) ≡ Some n)
   left_there n o = by_slot (slice_get o.fetches.items n.ticket.number) refl o.decided.decided
     where
-      place : n.ticket.queue ≡ o.place
-      place = o.of_queue ∙ in_place o.place o.queue o.there
+      queue_index : n.ticket.queue ≡ o.place
+      queue_index = o.of_queue ∙ in_place o.place o.queue o.there
 
       by_slot : (l : Option Slot) → slice_get o.fetches.items n.ticket.number ≡ l → note_left l ≡ Some n
           → (s : Slot) × (left_at fs n.ticket ≡ Some s) × (note_in (slot_of s) ≡ Some n)
       by_slot None is e = cc
       by_slot (Some s) is e =
-          (s, ap (λ (z : Option (Record Slot)). left_in z n.ticket.number) (ap (slice_get fs) place ∙ o.left) ∙ is, e)
+          (s, ap (λ (z : Option (Record Slot)). left_in z n.ticket.number) (ap (slice_get fs) queue_index ∙ o.left) ∙ is, e)
 
   decided_there : (j : ℕ) (n : PlainNote) → slice_get (ns ++ notes_of_all all) j ≡ Some n → n.cause ≡ cause.Direct
       → (s : Slot) × (left_at fs n.ticket ≡ Some s) × (note_in (slot_of s) ≡ Some n)

@@ -8,9 +8,9 @@ use Rattle.unit_model.specs.Unit.{PlainUnit, IsUnit}
 use Rattle.phases.specs.Resetting.{Resets}
 use Rattle.workers.specs.Resetting.{WasReset}
 
-pub was_reset : (inventory : PlainInventory) (place : ℕ) (b : Bool) (u v : PlainUnit) (out out' : Jobs) (w w' : List EventRecord)
-    → IsUnit u → Resets inventory place u out w (Ok b) v out' w' → IsUnit v → OnTrue b (WasReset inventory place)
-was_reset inventory place true u v out out' w w' before did behind =
+pub was_reset : (inventory : PlainInventory) (unit_index : ℕ) (b : Bool) (u v : PlainUnit) (out out' : Jobs) (w w' : List EventRecord)
+    → IsUnit u → Resets inventory unit_index u out w (Ok b) v out' w' → IsUnit v → OnTrue b (WasReset inventory unit_index)
+was_reset inventory unit_index true u v out out' w w' before did behind =
     record {
       unit = u;
       jobs = out;
@@ -22,4 +22,4 @@ was_reset inventory place true u v out out' w w' before did behind =
       reset = did;
       stands_after = behind;
     }
-was_reset inventory place false u v out out' w w' before did behind = tt
+was_reset inventory unit_index false u v out out' w w' before did behind = tt

@@ -30,9 +30,9 @@ extent_of c =
       acts = [];
     }
 
--- own: the address of the unit at a place, if there is one
+-- own: the address of the unit at an index, if there is one
 abbrev pub address_at : ℕ → Extent → Option Address
-address_at place h = slice_get (map address_of h.units) place
+address_at unit_index h = slice_get (map address_of h.units) unit_index
 
 -- own: the host after one more act of its operator, if it was made
 abbrev pub with_act : Option Act → Extent → Extent

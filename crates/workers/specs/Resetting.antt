@@ -6,9 +6,9 @@ use Rattle.unit_model.specs.Jobs.{Jobs}
 use Rattle.unit_model.specs.Unit.{PlainUnit, IsUnit}
 use Rattle.phases.specs.Resetting.{Resets}
 
--- own: a unit with the address that stands at this place of the inventory was reset: the jobs that this released, and the
+-- own: a unit with the address that stands at this index of the inventory was reset: the jobs that this released, and the
 -- event that tells the guest, stand behind those that were there
-pub record WasReset (inventory : PlainInventory) (place : ℕ) : Type 0 where
+pub record WasReset (inventory : PlainInventory) (unit_index : ℕ) : Type 0 where
   pub unit : PlainUnit
   pub jobs : Jobs
   pub waiting : List EventRecord
@@ -16,5 +16,5 @@ pub record WasReset (inventory : PlainInventory) (place : ℕ) : Type 0 where
   pub jobs_after : Jobs
   pub waiting_after : List EventRecord
   pub stands : IsUnit unit
-  pub reset : Resets inventory place unit jobs waiting (Ok true) unit_after jobs_after waiting_after
+  pub reset : Resets inventory unit_index unit jobs waiting (Ok true) unit_after jobs_after waiting_after
   pub stands_after : IsUnit unit_after

@@ -14,13 +14,13 @@ ResizeFails blocks fault.WrongUnit = is_capacity blocks ≡ true
 ResizeFails blocks fault.BadCapacity = is_capacity blocks ≡ false
 ResizeFails blocks fault.NoMemory = is_capacity blocks ≡ true
 
--- own: a unit with the address that stands at this place of the inventory has so many blocks, and the event that tells the
+-- own: a unit with the address that stands at this index of the inventory has so many blocks, and the event that tells the
 -- guest, where it is told, stands behind those that were there
-pub record WasResized (inventory : PlainInventory) (place blocks : ℕ) (told : Bool) : Type 0 where
+pub record WasResized (inventory : PlainInventory) (unit_index blocks : ℕ) (told : Bool) : Type 0 where
   pub unit : PlainUnit
   pub waiting : List EventRecord
   pub unit_after : PlainUnit
   pub waiting_after : List EventRecord
   pub stands : IsUnit unit
-  pub resized : ResizesUnit inventory place unit blocks told waiting (Ok true) unit_after waiting_after
+  pub resized : ResizesUnit inventory unit_index unit blocks told waiting (Ok true) unit_after waiting_after
   pub stands_after : IsUnit unit_after

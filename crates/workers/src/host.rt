@@ -276,17 +276,17 @@ impl<G: Gate + Drop, C: Ledger + Weighing, W: Ledger> Host<G, C, W> {
     ///
     /// A reset is one more act, of the unit of that index, and no other call than this and `resize` adds one. At the close
     /// the histories of units with that address have as many hard resets as there are such acts.
-    pub fn operator<R: Wait>(&mut self, rt: &R, place: u16) -> Result<(), ResetFault>
-        ensures acts { OnOk result (self.new ≡ with_act (reset_of (address_at place self.old)) self.old) }
+    pub fn operator<R: Wait>(&mut self, rt: &R, unit_index: u16) -> Result<(), ResetFault>
+        ensures acts { OnOk result (self.new ≡ with_act (reset_of (address_at unit_index self.old)) self.old) }
         ensures same { OnErr result (self.new ≡ self.old) }
-        ensures reset { OnOk result (place < length self.old.units →
-            WasReset (inventory_of self.old.units) place) }
-        ensures there { OnErr result (place < length self.old.units) }
+        ensures reset { OnOk result (unit_index < length self.old.units →
+            WasReset (inventory_of self.old.units) unit_index) }
+        ensures there { OnErr result (unit_index < length self.old.units) }
     {
         let done = reset(
             rt,
             &*self.shared,
-            place as usize,
+            unit_index as usize,
             &mut self.acts,
             &mut self.post,
             &mut self.waiting,
@@ -302,20 +302,25 @@ impl<G: Gate + Drop, C: Ledger + Weighing, W: Ledger> Host<G, C, W> {
     ///
     /// A resize is one more act, of the unit of that index and to that capacity. At the close the histories of units with
     /// that address have as many resizes to it as there are such acts.
-    pub fn resize<R: Wait>(&mut self, rt: &R, place: u16, blocks: u64) -> Result<(), ResizeFault>
+    pub fn resize<R: Wait>(
+        &mut self,
+        rt: &R,
+        unit_index: u16,
+        blocks: u64,
+    ) -> Result<(), ResizeFault>
         ensures acts { OnOk result (self.new
-            ≡ with_act (resize_of blocks self.old.told (address_at place self.old)) self.old) }
+            ≡ with_act (resize_of blocks self.old.told (address_at unit_index self.old)) self.old) }
         ensures same { OnErr result (self.new ≡ self.old) }
         ensures good { OnOk result (is_capacity blocks ≡ true) }
-        ensures resized { OnOk result (place < length self.old.units →
-            WasResized (inventory_of self.old.units) place blocks self.old.told) }
+        ensures resized { OnOk result (unit_index < length self.old.units →
+            WasResized (inventory_of self.old.units) unit_index blocks self.old.told) }
         ensures cause { IfErr result (λ fault. ResizeFails blocks fault) }
     {
         let told = self.told;
         let done = resize(
             rt,
             &*self.shared,
-            place as usize,
+            unit_index as usize,
             blocks,
             told,
             &mut self.acts,
@@ -369,7 +374,7 @@ impl<G: Gate + Drop, C: Ledger + Weighing, W: Ledger> Host<G, C, W> {
     /// - `Unconfirmed`: the least ticket of a receipt whose Commit doesn't stand in its unit's history;
     /// - `Outstanding`: the least ticket of a chain of the control queue, or of a request, that wasn't answered once
     ///   and as its unit's history says. If there is none: 0/0 for a unit that isn't as it was opened, or the first
-    ///   ticket of a place where another queue stands.
+    ///   ticket of an index where another queue stands.
     ///
     /// `NoMemory` where a growth was refused.
     ///

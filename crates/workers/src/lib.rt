@@ -7,7 +7,7 @@
 //! units and queues as its configuration. Each seat but the last begins a thread, which brings it back.
 //! `docs/THREADS.md` has what is promised of a host.
 //!
-//! `operator` and `resize` add one act of their kind, at the address of that place, exactly where they answer `Ok`
+//! `operator` and `resize` add one act of their kind, at the address of that index, exactly where they answer `Ok`
 //! at a unit. An act is weighed in the hold in which that unit's history goes on by it; by visibility, only
 //! `hard_on` and `resize_on` of `lock_scopes` add one. The hard resets and resizes in a report weigh what the acts
 //! weigh, by any weighing. So each unit has as many hard resets, and as many resizes to each capacity, as were made

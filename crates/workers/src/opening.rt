@@ -136,7 +136,7 @@ pub(crate) fn open_parts<C: Ledger + Weighing, W: Ledger>(
     )?;
     let inventory = Inventory::new(config.units.as_slice());
     let units = open_units(alloc, config.units.as_slice(), &inventory, ledgers)?;
-    // One place more than a queue may have chains outstanding, so that a full port keeps no fault from being found.
+    // Room for one more than a queue may have chains outstanding, so that a full port keeps no fault from being found.
     let Ok(port) = EventPort::new(alloc, MOST_DESCRIPTORS as usize + 1) else {
         return Err(NoMemory);
     };

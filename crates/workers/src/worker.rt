@@ -17,7 +17,7 @@ use worker_steps::{
     Post, Progress, Shared, drain, fetch_event, manage, serve_handed_off, serve_queue,
 };
 
-/// The place of the first request queue among the queues.
+/// The index of the first request queue among the queues.
 const FIRST_REQUEST: usize = FIRST_REQUEST_QUEUE as usize;
 
 /// A worker sleeps after this many rounds in a row that found nothing.

@@ -108,7 +108,7 @@ taken size c is =
 pub taken_own : (c : Config) → is_config c ≡ true → is_config_for (size_of c) c ≡ true
 taken_own c is = (and_parts (has_pages c) (is_config_for (size_of c) c) is).1
 
--- each unit has what stands in the inventory at its place
+-- each unit has what stands in the inventory at its index
 addressed_open : (wanted : List UnitSpec) (inventory : PlainInventory) (units : List PlainUnit) → AreFresh wanted units
     → inventory ≡ inventory_of wanted
     → Everywhere (IsAddressed inventory) units

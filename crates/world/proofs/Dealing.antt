@@ -53,12 +53,12 @@ lost_or P N S f g true is not_so = f (is refl)
 lost_or P N S f g false is not_so = g (not_so refl)
 
 -- A deal
-module _ (old : PlainDevice) (place : ℕ) (x : Dealing) (new : PlainDevice) (h : IsDealt old place x new) where
+module _ (old : PlainDevice) (unit_index : ℕ) (x : Dealing) (new : PlainDevice) (h : IsDealt old unit_index x new) where
   -- it is a turn of the device, whatever stands in memory
   pub deal_turns : (shared : Bool) (m : List ℕ)
-      → Turns (standing shared m old) (Event.Deal place x) true (standing shared m new)
+      → Turns (standing shared m old) (Event.Deal unit_index x) true (standing shared m new)
   deal_turns shared m = (
-    Transition.Deal place x,
+    Transition.Deal unit_index x,
     refl,
     record { unit = h.unit; there = h.there; may = h.may },
     ap (λ (d : PlainDevice). standing shared m d) h.is,
@@ -66,17 +66,17 @@ module _ (old : PlainDevice) (place : ℕ) (x : Dealing) (new : PlainDevice) (h 
 
   pub deal_steady : (shared : Bool) (m : List ℕ) → IsSteady (standing shared m old) → IsSteady (standing shared m new)
   deal_steady shared m s =
-      steady_by (standing shared m old) (Event.Deal place x) true (standing shared m new) refl s (deal_turns shared m)
+      steady_by (standing shared m old) (Event.Deal unit_index x) true (standing shared m new) refl s (deal_turns shared m)
 
   pub deal_promised : AllArePromised → AllGoOn → (m : List ℕ)
-      → DealsAsPromised (standing false m old) place x (standing false m new)
+      → DealsAsPromised (standing false m old) unit_index x (standing false m new)
   deal_promised p g m =
       let w = standing false m old in
       let w' = standing false m new in
       record {
         turns = deal_turns false m;
-        promise = steps_promised p g w (Event.Deal place x) (Ok true) w'
-            (steps_by w (Event.Deal place x) true w' (deal_turns false m));
+        promise = steps_promised p g w (Event.Deal unit_index x) (Ok true) w'
+            (steps_by w (Event.Deal unit_index x) true w' (deal_turns false m));
       }
 
   -- and it stores nothing
@@ -89,16 +89,16 @@ module _ (old : PlainDevice) (place : ℕ) (x : Dealing) (new : PlainDevice) (h 
   one_more : 0 + bit true ≡ 1
   one_more = omega arith
 
-  pub deal_live : AllArePromised → AllGoOn → AllLiveRuns → (shared : Bool) (size : ℕ) → DealsPromised shared size old place x new
+  pub deal_live : AllArePromised → AllGoOn → AllLiveRuns → (shared : Bool) (size : ℕ) → DealsPromised shared size old unit_index x new
   unfolding deal_turns
   deal_live p g live shared size =
       record {
         dealt = h;
         promise =
-            subst (λ n. GoesOnLive shared size old (Event.Deal place x ∷ []) n new) one_more
-            (goes_on_live p g live none shared size old (Event.Deal place x ∷ []) (0 + bit true) new
+            subst (λ n. GoesOnLive shared size old (Event.Deal unit_index x ∷ []) n new) one_more
+            (goes_on_live p g live none shared size old (Event.Deal unit_index x ∷ []) (0 + bit true) new
             (λ a b la lb.
             let t = deal_turns shared a in
-            ran_next none none none none_both shared size old [] 0 old a a a (Event.Deal place x) true new
+            ran_next none none none none_both shared size old [] 0 old a a a (Event.Deal unit_index x) true new
             (ran_none none shared size old refl) la la (t.0, t.1, t.2, t.3, refl, refl) a b la lb));
       }

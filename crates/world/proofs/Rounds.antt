@@ -406,7 +406,7 @@ looks_none shared begins may_be stored asked false x y off h = h
 
 -- A round
 
--- nothing applies before a place, of the device by another name
+-- nothing applies before a point, of the device by another name
 pub before_same : {X : Type 0} (shared : Bool) (m : List ℕ) (c : Cursor) (x y : PlainLive X) → x ≡ y
     → NoneBefore c (standing shared m y.device) → NoneBefore c (standing shared m x.device)
 before_same {X} shared m c x y same h =

@@ -22,7 +22,7 @@ use guest_mem::{Memory, WritableMemory};
 /// The most rounds in a row that ask one queue alone.
 const MOST_ALONE: u32 = 15;
 
-/// Returns the queue of which two rounds in a row served a request at once. They left off at these places. `None`
+/// Returns the queue of which two rounds in a row served a request at once. They left off at these points. `None`
 /// where there is none, or it isn't asked.
 #[inline(always)]
 fn row_of(queues: u32, before: Cursor, next: Cursor) -> Option<u16>
@@ -147,7 +147,7 @@ impl<M: WritableMemory> LiveWorld<M> {
         let _bytes = self.memory.size();
     }
 
-    /// Takes the first event of the order that applies, from a place on, or a request as a whole where that may be
+    /// Takes the first event of the order that applies, from a point on, or a request as a whole where that may be
     /// counted, in a phase of its own.
     #[inline(always)]
     fn turn(&mut self, cursor: Cursor, queues: u32, most: u64) -> Result<Option<Progress>, NoMemory>
@@ -252,7 +252,7 @@ impl<M: WritableMemory> LiveWorld<M> {
         }
     }
 
-    /// Goes on behind a round of all queues, which left off at these places before and behind it: by a row of rounds
+    /// Goes on behind a round of all queues, which left off at these points before and behind it: by a row of rounds
     /// of one queue, where there is one to serve so.
     #[inline(always)]
     fn with_row(&mut self, queues: u32, before: Cursor, served: Progress, most: u64) -> Progress

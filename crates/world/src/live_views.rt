@@ -12,7 +12,7 @@ ghost use Rattle.device_model.specs.Lawful.{IsNumbered};
 ghost use Rattle.device_steps.specs.Apart.{FitsIn};
 ghost use Rattle.device_steps.specs.Inner.Apart.{HasFew};
 ghost use Rattle.world.specs.LiveWorld.{IsReachedIn};
-ghost use Rattle.device_steps.specs.Views.{unit_of, IsPlaceAmong, fault_of, status_of, GivesBlocks, GivesChanges};
+ghost use Rattle.device_steps.specs.Views.{unit_of, IsIndexAmong, fault_of, status_of, GivesBlocks, GivesChanges};
 
 use crate::live_world::LiveWorld;
 use device_model::waiting_laws::a_device_in_memory_defers_nothing;
@@ -121,11 +121,11 @@ impl<M: WritableMemory> LiveWorld<M> {
 
     /// Returns the index in the inventory of the unit of an address, by which an event names it; `None` where there is
     /// no such unit.
-    pub fn place(&self, target: u8, lun: u16) -> Option<u16>
-        ensures { IsPlaceAmong self.now.device.units target lun result }
+    pub fn unit_index(&self, target: u8, lun: u16) -> Option<u16>
+        ensures { IsIndexAmong self.now.device.units target lun result }
     {
         self.has_parts();
-        self.device.place(target, lun)
+        self.device.unit_index(target, lun)
     }
 
     /// Returns the unit of an address, with its history and its counts; `None` where there is none.

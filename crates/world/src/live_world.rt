@@ -210,8 +210,8 @@ impl<M: WritableMemory> LiveWorld<M> {
         every_run_goes_on();
         the_promise_is_kept();
         let mut count = 0;
-        for place in 0..events.len() {
-            if self.step_by(&events[place])? {
+        for index in 0..events.len() {
+            if self.step_by(&events[index])? {
                 count += 1;
             }
         }

@@ -20,80 +20,80 @@ impl World {
         self.device.waiting()
     }
 
-    /// Returns the next page of the disk of the unit at a place that the host is to read, 8 blocks each, and counts it as
+    /// Returns the next page of the disk of the unit at an index that the host is to read, 8 blocks each, and counts it as
     /// asked for. The host hands it in by [`World::load`], or says that it doesn't by [`World::load_failed`], or that it can't
     /// by [`World::lost`]. `None` where no command waits for a page that the host wasn't asked for, where the disk isn't
     /// backed, or where there is no such unit.
-    pub fn next_wanted(&mut self, place: u16) -> Option<u64>
+    pub fn next_wanted(&mut self, unit_index: u16) -> Option<u64>
         ensures same { self.new ≡ self.old }
-        ensures page { IfSome result (λ page. HasPage self.old.units place page) }
+        ensures page { IfSome result (λ page. HasPage self.old.units unit_index page) }
     {
-        self.device.next_wanted(place)
+        self.device.next_wanted(unit_index)
     }
 
     /// Takes the bytes of a page that the host was asked for, as its storage has them. Returns true if they now stand in
     /// memory; then the page isn't lost any longer, and a Wake has the commands that wait tried again. A host that is given
     /// the page meanwhile says [`World::load_failed`] in place of this. `NoMemory` where memory was refused; the page may be
     /// handed in again.
-    pub fn load(&mut self, place: u16, page: u64, bytes: &[u8]) -> Result<bool, NoMemory>
+    pub fn load(&mut self, unit_index: u16, page: u64, bytes: &[u8]) -> Result<bool, NoMemory>
         requires len { length bytes.now ≡ PAGE_BYTES }
         // The premise: the storage gives back what it kept, or had at the opening.
-        requires kept { IsKeptPage self.old.units place page bytes.now }
-        ensures loaded { IfOk result (λ done. IsTrue done → DealsAsPromised self.old place (Dealing.Load page) self.new) }
+        requires kept { IsKeptPage self.old.units unit_index page bytes.now }
+        ensures loaded { IfOk result (λ done. IsTrue done → DealsAsPromised self.old unit_index (Dealing.Load page) self.new) }
         ensures otherwise { IfOk result (λ done. IsFalse done → self.new ≡ self.old) }
         ensures err { OnErr result (self.new ≡ self.old) }
     {
         every_run_goes_on();
         the_promise_is_kept();
-        self.device.load(place, page, bytes)
+        self.device.load(unit_index, page, bytes)
     }
 
     /// Notes that the host won't hand in a page that it was asked for. Returns true if a command may wait for it.
-    pub fn load_failed(&mut self, place: u16, page: u64) -> bool
+    pub fn load_failed(&mut self, unit_index: u16, page: u64) -> bool
         ensures same { self.new ≡ self.old }
     {
-        self.device.load_failed(place, page)
+        self.device.load_failed(unit_index, page)
     }
 
     /// Notes that the host's storage can't read a page that the host was asked for. Returns true if a command may wait for it:
     /// then a Wake has those that wait tried again, and one that needs the page ends with MEDIUM ERROR.
-    pub fn lost(&mut self, place: u16, page: u64) -> bool
-        ensures lost { IsTrue result → DealsAsPromised self.old place (Dealing.Lose page) self.new }
+    pub fn lost(&mut self, unit_index: u16, page: u64) -> bool
+        ensures lost { IsTrue result → DealsAsPromised self.old unit_index (Dealing.Lose page) self.new }
         ensures otherwise { IsFalse result → self.new ≡ self.old }
     {
         every_run_goes_on();
         the_promise_is_kept();
-        self.device.lost(place, page)
+        self.device.lost(unit_index, page)
     }
 
-    /// Gives the host the next page that it is to write to the storage of the unit at a place, as the unit's blocks are now.
+    /// Gives the host the next page that it is to write to the storage of the unit at an index, as the unit's blocks are now.
     /// The host says by [`World::written`] what became of it. `None` where it has each such page already. Then a Wake has
     /// the commands that wait tried again, since room that was made for a change and isn't used is free. `NoMemory` where
     /// memory was refused.
-    pub fn give(&mut self, place: u16) -> Result<Option<GivenPage>, NoMemory>
+    pub fn give(&mut self, unit_index: u16) -> Result<Option<GivenPage>, NoMemory>
         ensures given { IfOk result (λ given. IfSome given (λ g.
-            DealsAsPromised self.old place (Dealing.Give g.page g.bytes.items) self.new)) }
+            DealsAsPromised self.old unit_index (Dealing.Give g.page g.bytes.items) self.new)) }
         ensures len { IfOk result (λ given. IfSome given (λ g. length g.bytes.items ≡ PAGE_BYTES)) }
         ensures none { IfOk result (λ given. IfNone given (self.new ≡ self.old)) }
         ensures err { OnErr result (self.new ≡ self.old) }
     {
         every_run_goes_on();
         the_promise_is_kept();
-        self.device.give(place)
+        self.device.give(unit_index)
     }
 
     /// Notes that the host's write of a page is over: its storage gives the page back as it was given, after a crash too, or
     /// the write failed, and the page is given again. Returns true if its storage has the page so now: not where no write of
     /// it was under way. Then a Wake has the commands that wait tried again. `NoMemory` where memory was refused: the host
     /// says it again later.
-    pub fn written(&mut self, place: u16, page: u64, kept: bool) -> Result<bool, NoMemory>
+    pub fn written(&mut self, unit_index: u16, page: u64, kept: bool) -> Result<bool, NoMemory>
         ensures told { IfOk result (λ done. IsTrue done → IsTrue kept) }
-        ensures kept { IfOk result (λ done. IsTrue done → DealsAsPromised self.old place (Dealing.Keep page) self.new) }
+        ensures kept { IfOk result (λ done. IsTrue done → DealsAsPromised self.old unit_index (Dealing.Keep page) self.new) }
         ensures otherwise { IfOk result (λ done. IsFalse done → self.new ≡ self.old) }
         ensures err { OnErr result (self.new ≡ self.old) }
     {
         every_run_goes_on();
         the_promise_is_kept();
-        self.device.written(place, page, kept)
+        self.device.written(unit_index, page, kept)
     }
 }

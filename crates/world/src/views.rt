@@ -15,7 +15,7 @@ use unit_attention::Code;
 use unit_history::{Changes, UnitState};
 
 impl World {
-    ghost use Rattle.device_steps.specs.Views.{unit_at, IsPlaceOf, fault_of, device_status, GivesBlocks, GivesChanges};
+    ghost use Rattle.device_steps.specs.Views.{unit_at, IsIndexOf, fault_of, device_status, GivesBlocks, GivesChanges};
 
     /// Returns guest memory.
     pub fn memory(&self) -> &GuestMem
@@ -89,11 +89,11 @@ impl World {
 
     /// Returns the index in the inventory of the unit of an address, by which an event names it; `None` where there is
     /// no such unit.
-    pub fn place(&self, target: u8, lun: u16) -> Option<u16>
-        ensures { IsPlaceOf self.now target lun result }
+    pub fn unit_index(&self, target: u8, lun: u16) -> Option<u16>
+        ensures { IsIndexOf self.now target lun result }
     {
         self.is_sound();
-        self.device.place(target, lun)
+        self.device.unit_index(target, lun)
     }
 
     /// Returns the unit of an address; `None` where there is none.

@@ -194,8 +194,8 @@ impl World {
             Event::Mark => Ok(self.device.mark()),
             Event::Check => Ok(self.device.check()),
             Event::AnswerTmf => Ok(self.device.answer_tmf(&mut self.memory)),
-            Event::Hard(place) => self.device.hard(*place),
-            Event::Resize(place, blocks) => self.device.resize(*place, *blocks),
+            Event::Hard(unit_index) => self.device.hard(*unit_index),
+            Event::Resize(unit_index, blocks) => self.device.resize(*unit_index, *blocks),
             Event::Raise => Ok(self.device.raise(&mut self.memory)),
             Event::Wake => Ok(self.device.wake()),
             Event::Resume(seat) => Ok(self.device.resume(*seat)),
@@ -229,8 +229,8 @@ impl World {
         every_run_goes_on();
         the_promise_is_kept();
         let mut count = 0;
-        for place in 0..events.len() {
-            if self.step_by(&events[place])? {
+        for index in 0..events.len() {
+            if self.step_by(&events[index])? {
                 count += 1;
             }
         }
@@ -314,7 +314,7 @@ impl World {
         }
     }
 
-    /// Takes the first event of the order that applies, from a place on, or a request as a whole where that may be
+    /// Takes the first event of the order that applies, from a point on, or a request as a whole where that may be
     /// counted.
     #[inline(always)]
     fn turn(&mut self, cursor: Cursor, queues: u32, most: u64) -> Result<Option<Progress>, NoMemory>

@@ -14,7 +14,7 @@ row_blocks row b = paged (row_kept row) b
 abbrev pub is_made_in : List Page → ℕ → Bool
 is_made_in row p = nat_lt 0 (length (row_kept row p))
 
--- whether row n has a place
+-- whether row n has a slot
 abbrev pub tree_has : Tree → ℕ → Bool
 tree_has tree n = in_tree (λ _ _. true) false tree n
 
@@ -22,6 +22,6 @@ tree_has tree n = in_tree (λ _ _. true) false tree n
 abbrev pub is_made : Pages → ℕ → Bool
 is_made pages p = nat_lt 0 (length (kept pages p))
 
--- whether there is a place for page p
-abbrev pub has_place : Pages → ℕ → Bool
-has_place pages p = tree_has pages.held (p / 64) && nat_lt (p % 64) (length (tree_row pages.held (p / 64)))
+-- whether there is a slot for page p
+abbrev pub has_slot : Pages → ℕ → Bool
+has_slot pages p = tree_has pages.held (p / 64) && nat_lt (p % 64) (length (tree_row pages.held (p / 64)))

@@ -6,7 +6,7 @@ use Rattle.unit_model.specs.Unit.{PlainUnit}
 use Rattle.virtqueue.specs.Queue.{BareQueue}
 use Rattle.close_audit.specs.Opened.{IsOpenedAs, AreOpenedAs, AreInPlace, IsFirstMisplaced, IsForeign}
 
--- those before a place are as they were wanted
+-- those before an index are as they were wanted
 abbrev pub AreOpenedTo : List UnitSpec → List PlainUnit → ℕ → Type 0
 AreOpenedTo specs units n = (k : ℕ) (s : UnitSpec) (u : PlainUnit) → k < n → slice_get specs k ≡ Some s
     → slice_get units k ≡ Some u → IsOpenedAs s u

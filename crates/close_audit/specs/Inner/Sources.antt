@@ -8,21 +8,21 @@ use Rattle.virtqueue.specs.Queue.{BareQueue}
 use Rattle.close_audit.specs.Inner.Tallies.{tally_at, ends_amiss}
 use Rattle.close_audit.specs.declared.tally.Tally.{Tally}
 
--- a chain that the queue at a place accepted and did not use
+-- a chain that the queue at an index accepted and did not use
 abbrev pub unused_in : ℕ → BareQueue → Ticket → Bool
-unused_in place q t =
-    (t.queue == place)
+unused_in queue_index q t =
+    (t.queue == queue_index)
     && (nat_lt t.number (length q.ring.log.accepted)
     && not (list_any (λ (u : Ticket). same_ticket u t) q.ring.log.used))
 
--- a request of the queue at a place, of which these are the tallies, that is not settled; and whether steps are folded
+-- a request of the queue at an index, of which these are the tallies, that is not settled; and whether steps are folded
 abbrev pub unsettled_in : ℕ → ℕ → Bool → List (Vec Tally Global) → Ticket → Bool
-unsettled_in place count folded tables t =
-    (t.queue == place) && (nat_lt t.number count && ends_amiss folded (tally_at tables t))
+unsettled_in queue_index count folded tables t =
+    (t.queue == queue_index) && (nat_lt t.number count && ends_amiss folded (tally_at tables t))
 
 abbrev pub amiss_in : ℕ → BareQueue → Bool → List (Vec Tally Global) → Ticket → Bool
-amiss_in place q folded tables t =
-    (not (place == 1) && unused_in place q t) || unsettled_in place (length q.ring.log.accepted) folded tables t
+amiss_in queue_index q folded tables t =
+    (not (queue_index == 1) && unused_in queue_index q t) || unsettled_in queue_index (length q.ring.log.accepted) folded tables t
 
 -- the same of the queue that a ticket names, if there is one
 abbrev pub amiss_at : Option BareQueue → Bool → List (Vec Tally Global) → Ticket → Bool

@@ -132,7 +132,7 @@ with_note t s n = marking n.ticket (fact.Answered (answer.Note n.cause)) t s
 abbrev pub with_unit : Ticket → ℕ → PlainUnit → Tally → Tally
 with_unit t k u s = read_alive t (alive u.steps) (read t k (kept_steps u.steps) (read_folded t k u s))
 
--- units, of which the first stands at a place
+-- units, of which the first stands at an index
 abbrev pub with_units : Ticket → ℕ → List PlainUnit → Tally → Tally
 with_units t k [] s = s
 with_units t k (u ∷ units) s = with_units t (k + 1) units (with_unit t k u s)

@@ -5,11 +5,11 @@ use Rattle.unit_model.specs.Unit.{PlainUnit, MayDeal, dealing}
 use Rattle.device_model.specs.World.{PlainWorld, change}
 use Rattle.device_model.specs.Found.{UnitIs}
 
-pub record Deals (w : PlainWorld) (place : ℕ) (d : Dealing) : Type 0 where
+pub record Deals (w : PlainWorld) (unit_index : ℕ) (d : Dealing) : Type 0 where
   pub unit : PlainUnit
-  pub there : UnitIs w place unit
+  pub there : UnitIs w unit_index unit
   pub may : MayDeal unit d
 
--- of the unit at a place
+-- of the unit of an index
 abbrev pub after_deal : ℕ → Dealing → PlainWorld → PlainWorld
-after_deal place d w = record w { units = change (dealing d) place w.units }
+after_deal unit_index d w = record w { units = change (dealing d) unit_index w.units }

@@ -22,7 +22,7 @@ hard_code = code 0x29 0x00
 abbrev pub hard_report : PlainUnit → EventRecord
 hard_report u = record { event = transport_reset; address = Some (unit_address u.opening); reason = 0 }
 
--- of the unit at a place, if there is one
+-- of the unit of an index, if there is one
 abbrev pub reports_of : Option PlainUnit → List EventRecord
 reports_of None = []
 reports_of (Some u) = hard_report u ∷ []

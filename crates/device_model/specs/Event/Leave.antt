@@ -9,8 +9,8 @@ use Rattle.device_model.specs.World.{PlainWorld, change}
 use Rattle.device_model.specs.Found.{HandAtUnit, MayStep, handed_out}
 use Rattle.device_model.specs.Changing.{leaving}
 
-pub record Leaves (w : PlainWorld) (k place : ℕ) (t : Ticket) (jobs : List PlainJob) : Type 0 where
-  pub holds : HandAtUnit w k (Hand.Answered place t) place
+pub record Leaves (w : PlainWorld) (k unit_index : ℕ) (t : Ticket) (jobs : List PlainJob) : Type 0 where
+  pub holds : HandAtUnit w k (Hand.Answered unit_index t) unit_index
   pub may : MayStep holds.unit (Step.Leave t)
   pub enables : jobs ≡ handed_out holds.unit (Step.Leave t)
 

@@ -17,15 +17,15 @@ use Rattle.device_model.specs.Changing.{with_jobs, on_function}
 use Rattle.device_model.specs.Event.Wake.{waking}
 
 -- a function with a unit left to mark, or to look at
-pub record IsMarking (w : PlainWorld) (t : Ticket) (place : ℕ) (kind : Kind) : Type 0 where
+pub record IsMarking (w : PlainWorld) (t : Ticket) (unit_index : ℕ) (kind : Kind) : Type 0 where
   pub opened : Opened
   pub there : w.function ≡ Some opened
   pub of : opened.chain.ticket ≡ t
   pub does : opened.function.kind ≡ kind
   pub later : List ℕ
-  pub left : opened.function.left ≡ place ∷ later
+  pub left : opened.function.left ≡ unit_index ∷ later
   pub unit : PlainUnit
-  pub unit_there : UnitIs w place unit
+  pub unit_there : UnitIs w unit_index unit
 
 pub record Marks (w : PlainWorld) (t : Ticket) (p : Place) (m : MarkBy) (jobs : List PlainJob) : Type 0 where
   pub marking : IsMarking w t p.unit (Marking m)
@@ -46,8 +46,8 @@ after_mark t p m jobs w =
       woken = waking w;
     }
 
-pub record Asks (w : PlainWorld) (t : Ticket) (place : ℕ) (rule : Rule) (b : Bool) : Type 0 where
-  pub marking : IsMarking w t place (Querying rule)
+pub record Asks (w : PlainWorld) (t : Ticket) (unit_index : ℕ) (rule : Rule) (b : Bool) : Type 0 where
+  pub marking : IsMarking w t unit_index (Querying rule)
   pub is : b ≡ any_met rule (alive marking.unit.steps)
 
 -- the function knows what it found
@@ -56,8 +56,8 @@ after_ask t u rule b w = record w { function = on_function (asking b) w.function
 
 pub record MarksRefused (w : PlainWorld) (t : Ticket) : Type 0 where
   pub how : MarkBy
-  pub place : ℕ
-  pub marking : IsMarking w t place (Marking how)
+  pub unit_index : ℕ
+  pub marking : IsMarking w t unit_index (Marking how)
 
 -- the function is to fail
 abbrev pub after_mark_refused : Ticket → PlainWorld → PlainWorld
@@ -67,6 +67,6 @@ after_mark_refused t w = record w { function = on_function failing w.function }
 pub record MayMark (w : PlainWorld) : Type 0 where
   pub opened : Opened
   pub there : w.function ≡ Some opened
-  pub place : ℕ
+  pub unit_index : ℕ
   pub later : List ℕ
-  pub left : opened.function.left ≡ place ∷ later
+  pub left : opened.function.left ≡ unit_index ∷ later

@@ -13,20 +13,20 @@ use Rattle.device_model.specs.Found.{UnitIs, MayStep}
 abbrev pub change_report : PlainUnit → EventRecord
 change_report u = record { event = param_change; address = Some (unit_address u.opening); reason = 0x092a }
 
--- of the unit at a place, if there is one, where the driver is told
+-- of the unit of an index, if there is one, where the driver is told
 abbrev pub change_reports : Bool → Option PlainUnit → List EventRecord
 change_reports told None = []
 change_reports told (Some u) = if told then (change_report u ∷ []) else []
 
-pub record Resizes (w : PlainWorld) (place blocks : ℕ) : Type 0 where
+pub record Resizes (w : PlainWorld) (unit_index blocks : ℕ) : Type 0 where
   pub unit : PlainUnit
-  pub there : UnitIs w place unit
+  pub there : UnitIs w unit_index unit
   pub may : MayStep unit (Step.Resize blocks)
 
 -- the driver is to be told, if it wants that
 abbrev pub after_resize : ℕ → ℕ → PlainWorld → PlainWorld
-after_resize place blocks w =
+after_resize unit_index blocks w =
     record w {
-      units = change (stepped (Step.Resize blocks)) place w.units;
-      waiting = w.waiting ++ change_reports w.tells_changes (slice_get w.units place);
+      units = change (stepped (Step.Resize blocks)) unit_index w.units;
+      waiting = w.waiting ++ change_reports w.tells_changes (slice_get w.units unit_index);
     }

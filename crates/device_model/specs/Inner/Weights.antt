@@ -50,7 +50,7 @@ gives f (Transition.CommitUnknown k x) = f.taken x.chain.ticket
 gives f (Transition.Defer k x) = f.taken x.chain.ticket
 gives f (Transition.Resume k x) = f.aside x.chain.ticket
 gives f (Transition.Answer k x o xs) = f.done x.chain.ticket
-gives f (Transition.Leave k place t jobs) = f.answered t
+gives f (Transition.Leave k unit_index t jobs) = f.answered t
 gives f (Transition.Respond c r xs) = f.opened c.ticket
 gives f (Transition.Give e c xs) = f.port c.ticket
 gives f d = 0
@@ -73,7 +73,7 @@ ends p d = 0
 
 -- its task leaves its unit
 abbrev pub leaves : (Ticket → ℕ) → Transition → ℕ
-leaves p (Transition.Leave k place t jobs) = p t
+leaves p (Transition.Leave k unit_index t jobs) = p t
 leaves p d = 0
 
 -- Histories counted

@@ -72,7 +72,7 @@ pub record AsksOnly (asked : ℕ → Bool) (n : ℕ) : Type 0 where
   pub on : asked n ≡ true
   pub only : (q : ℕ) → asked q ≡ true → q ≡ n
 
--- no event before the place in the order applies
+-- no event before the point in the order applies
 abbrev pub NoneBefore : Cursor → PlainWorld → Type 0
 NoneBefore cursor.Start w = ⊤
 NoneBefore (cursor.Direct n) w = NoStart w × NoDirectBelow n w
@@ -80,7 +80,7 @@ NoneBefore cursor.Seats w = NoStart w × NoDirect w
 NoneBefore (cursor.Enter n) w = NoStart w × NoDirect w × NoSeat w × NoEnterBelow n w
 NoneBefore (cursor.Fetch n) w = NoStart w × NoDirect w × NoSeat w × NoEnter w
 
--- the place is the first queue's next chain
+-- the point is the first queue's next chain
 abbrev pub IsFetchPlace : Cursor → Type 0
 IsFetchPlace c = (n : ℕ) × (c ≡ cursor.Fetch n)
 
@@ -124,12 +124,12 @@ FetchesNext n w c =
     (c ≡ cursor.Start)
     ⊎ ((c ≡ cursor.Enter n) × (w.function ≡ None) × ((x : PlainJob) × SlotIs w n (Slot.Arrived x)))
 
--- what is first was done, by a transition of which this holds, and before a place none applies then
+-- what is first was done, by a transition of which this holds, and before a point none applies then
 abbrev pub StepsNext : (ℕ → Bool) → (Transition → Type 0) → PlainWorld → Cursor → PlainWorld → Type 0
 StepsNext asked Q w c w' =
     (d : Transition) × Happens d w × IsNextOf asked w (event_of d) × (w' ≡ after d w) × NoneBefore c w' × Q d
 
--- so many transitions were done, each of the first event that applied, and before a place none applies then
+-- so many transitions were done, each of the first event that applied, and before a point none applies then
 pub record ServesNext (asked : ℕ → Bool) (most : ℕ) (w : PlainWorld) (s : Progress) (w' : PlainWorld) : Type 0 where
   pub some : 1 ≤ s.steps
   pub few : s.steps ≤ most
@@ -212,7 +212,7 @@ TurnsFirstAlone xs d false d' =
     (shared : Bool) (m : List ℕ) → IsSound (standing shared m d)
     → (standing shared m d' ≡ standing shared m d) × NoneApplies (standing shared m d) xs
 
--- so many events were done in one phase, each the first that applied, and before a place none applies then, whatever stands
+-- so many events were done in one phase, each the first that applied, and before a point none applies then, whatever stands
 -- in memory
 pub record ServesNextIn {X : Type 0} (shared : Bool) (may_be : X → List ℕ → Type 0) (stored : X → X → List Write → Type 0)
     (asked : ℕ → Bool) (most : ℕ) (x : X) (d : PlainDevice) (s : Progress) (y : X) (d' : PlainDevice) : Type 0 where

@@ -7,4 +7,4 @@ abbrev pub stage_of : Hand → Stage
 stage_of Hand.Empty = stage.Empty
 stage_of (Hand.Taken x) = stage.Taken
 stage_of (Hand.Done x o) = stage.Done
-stage_of (Hand.Answered place t) = stage.Answered
+stage_of (Hand.Answered unit_index t) = stage.Answered

@@ -3,7 +3,7 @@
 use super::none_is;
 use cdb::{CDB_BYTES, Command, Profile, decode};
 
-/// Each opcode of the profile and the place of its control byte.
+/// Each opcode of the profile and the index of its control byte.
 static PROFILE: [(u8, usize); 20] = [
     (0x00, 5),
     (0x03, 5),
@@ -27,7 +27,7 @@ static PROFILE: [(u8, usize); 20] = [
     (0xaa, 11),
 ];
 
-/// Returns the place of an opcode's control byte, where it is of the profile.
+/// Returns the index of an opcode's control byte, where it is of the profile.
 fn control_of(opcode: u8) -> Option<usize> {
     for (known, control) in &PROFILE {
         if *known == opcode {

@@ -93,9 +93,9 @@ fn are_made_of(bytes: &[u8], each: [u8; 5]) -> bool {
     if bytes.len() != 5 * BLOCK_BYTES {
         return false;
     }
-    for place in 0..5usize {
-        let start = place * BLOCK_BYTES;
-        if bytes[start..start + BLOCK_BYTES] != [each[place]; BLOCK_BYTES] {
+    for index in 0..5usize {
+        let start = index * BLOCK_BYTES;
+        if bytes[start..start + BLOCK_BYTES] != [each[index]; BLOCK_BYTES] {
             return false;
         }
     }

@@ -9,7 +9,7 @@ use Rattle.handoff.specs.declared.rule.Account.{Account}
 use Rattle.handoff.specs.declared.rule.View.{View}
 use Rattle.handoff.specs.Moves.{Move, move}
 use Rattle.handoff.specs.Inner.Moves.{jobs_of, jobs_by, IsBelow, account, Balances}
-use Rattle.handoff.specs.Places.{PlainPlace}
+use Rattle.handoff.specs.Ends.{PlainEnd}
 use Rattle.handoff.specs.Seats.{Hub, PlainSeat, IsSeatOf}
 
 -- own: the seat once it put a job, and once it took one from the queue of a seat
@@ -106,9 +106,9 @@ pub record AreGathered (seats : List PlainSeat) (left : ℕ → List PlainJob) :
   pub even : IsEven seats (all_left left seats)
   pub by_ticket : IsEvenByTicket seats (all_left left seats)
 
--- What a seat has, whose places stand in the order of the queues
+-- What a seat has, whose ends stand in the order of the queues
 
--- own: what the place of a seat at a queue knows: the account there, and of the first seat how many there are
+-- own: what the end that a seat has of a queue knows: the account there, and of the first seat how many there are
 abbrev pub view_at : ℕ → PlainSeat → View
 view_at q s =
     record {
@@ -117,7 +117,7 @@ view_at q s =
       made = if s.number == 0 then s.seats else 0;
     }
 
-pub record IsSeated (s : PlainSeat) (places : List PlainPlace) : Type 0 where
+pub record IsSeated (s : PlainSeat) (ends : List PlainEnd) : Type 0 where
   pub number : s.number < s.seats
   pub below : IsBelow s.seats s.taken
-  pub each : (q : ℕ) (p : PlainPlace) → slice_get places q ≡ Some p → p.knows ≡ view_at q s
+  pub each : (q : ℕ) (p : PlainEnd) → slice_get ends q ≡ Some p → p.knows ≡ view_at q s

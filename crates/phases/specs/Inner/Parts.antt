@@ -8,4 +8,4 @@ abbrev pub job_held : Hand → Option PlainJob
 job_held Hand.Empty = None
 job_held (Hand.Taken x) = Some x
 job_held (Hand.Done x o) = Some x
-job_held (Hand.Answered place t) = None
+job_held (Hand.Answered unit_index t) = None

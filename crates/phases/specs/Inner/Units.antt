@@ -37,17 +37,17 @@ CommitsOrDefers h u aside b u' h' aside' = Commits h u b u' h' × (aside' ≡ as
 
 -- what the open function does at its next unit, as `Marks` says it, where it is told whether tasks were marked
 abbrev pub VisitsUnit : PlainInventory → Opened → ℕ → Kind → PlainUnit → Jobs → Visited → PlainUnit → Opened → Jobs → Type 0
-VisitsUnit inventory f place (Marking m) u out visited.Marked u' f' out' = MarksTasks inventory f place m u out u' f' out'
-VisitsUnit inventory f place (Marking m) u out visited.Other u' f' out' = FailsMark u u' f f' out out'
-VisitsUnit inventory f place (Querying rule) u out visited.Other u' f' out' =
-    MarksUnit inventory f place (Querying rule) u out u' f' out'
-VisitsUnit inventory f place kind u out visited u' f' out' = ⊥
+VisitsUnit inventory f unit_index (Marking m) u out visited.Marked u' f' out' = MarksTasks inventory f unit_index m u out u' f' out'
+VisitsUnit inventory f unit_index (Marking m) u out visited.Other u' f' out' = FailsMark u u' f f' out out'
+VisitsUnit inventory f unit_index (Querying rule) u out visited.Other u' f' out' =
+    MarksUnit inventory f unit_index (Querying rule) u out u' f' out'
+VisitsUnit inventory f unit_index kind u out visited u' f' out' = ⊥
 
 abbrev pub VisitsNext : PlainInventory → Opened → List ℕ → PlainUnit → Jobs → Visited → PlainUnit → Opened → Jobs → Type 0
-VisitsNext inventory f (place ∷ later) u out visited.Nothing u' f' out' =
+VisitsNext inventory f (unit_index ∷ later) u out visited.Nothing u' f' out' =
     (HasPlaces out → ⊥) × StaysMark u u' f f' out out'
-VisitsNext inventory f (place ∷ later) u out visited u' f' out' =
-    VisitsUnit inventory f place f.function.kind u out visited u' f' out'
+VisitsNext inventory f (unit_index ∷ later) u out visited u' f' out' =
+    VisitsUnit inventory f unit_index f.function.kind u out visited u' f' out'
 VisitsNext inventory f [] u out visited.Nothing u' f' out' = StaysMark u u' f f' out out'
 VisitsNext inventory f [] u out visited u' f' out' = ⊥
 

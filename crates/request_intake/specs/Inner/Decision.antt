@@ -9,10 +9,10 @@ use Rattle.request_intake.specs.declared.decision.Decision.TheVariants.{Direct, 
 -- that it gives
 abbrev pub Suits : ℕ → ChainLengths → Decision → Type 0
 Suits units n (Direct answer) = length answer ≤ n.writable
-Suits units n (Enter place r) =
-    (place < units) × (51 + (need_of r.command).out ≤ n.readable) × (108 + (need_of r.command).into ≤ n.writable)
+Suits units n (Enter unit_index r) =
+    (unit_index < units) × (51 + (need_of r.command).out ≤ n.readable) × (108 + (need_of r.command).into ≤ n.writable)
 
 -- of an answer that needs no unit
 abbrev pub IfDirect : (List ℕ → Type 0) → Decision → Type 0
 IfDirect p (Direct answer) = p answer
-IfDirect p (Enter place r) = Unit {0}
+IfDirect p (Enter unit_index r) = Unit {0}

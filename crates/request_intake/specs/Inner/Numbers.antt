@@ -8,6 +8,6 @@ use Rattle.request_intake.specs.declared.inventory.Known.{Known}
 abbrev pub numbers_of : List Known → List ℕ
 numbers_of known = map (λ (k : Known). k.number) known
 
--- own: each number is that of the address at its place
+-- own: each number is that of the address at its index
 abbrev pub AreNumbersOf : List Known → List Address → Type 0
 AreNumbersOf known addresses = numbers_of known ≡ map number_of addresses

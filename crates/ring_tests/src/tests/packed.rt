@@ -14,7 +14,7 @@ const AVAILABLE: u16 = 0x80;
 /// The same while its wrap counter is 0.
 const AVAILABLE_AT_0: u16 = 0x8000;
 
-/// The place of a queue.
+/// Where a queue lies.
 const PLACE: Layout = Layout {
     size: 7,
     desc: 0,

@@ -9,7 +9,7 @@ mod wrapping;
 
 use ring_core::{FIRST_INDEX, Layout};
 
-/// The place of a queue.
+/// Where a queue lies.
 pub(super) const PLACE: Layout = Layout {
     size: 8,
     desc: 0,

@@ -1,4 +1,4 @@
--- What stands in the places of a line.
+-- What stands in the positions of a line.
 use Rattle.std.specs.Prelude.{ℕ, ◌≡◌, ◌≤◌, ◌<◌, ◌+◌, ◌*◌, ◌-◌, ◌^◌, ◌==◌, min, Bool, true, false, ◌⊎◌, Some, None, codes, List, [], ◌∷◌, length}
 use Rattle.std.specs.List.{after_first, before_first, list_all, position_or_len}
 use Rattle.std.specs.Char.{is_ascii_alphanumeric}
@@ -39,29 +39,29 @@ pub record IsUnitPair (word : List ℕ) (unit : Address) : Type 0 where
   pub colon : position_or_len is_colon word < length word
   pub sides : IsUnit (before_first is_colon word) (after_first is_colon word) unit
 
--- a place in a ring without a wrap counter, which has no colon
-pub record HasNoWrap (word : List ℕ) (place : RingPlace) : Type 0 where
+-- a position in a ring without a wrap counter, which has no colon
+pub record HasNoWrap (word : List ℕ) (position : RingPlace) : Type 0 where
   pub no_colon : length word ≤ position_or_len is_colon word
-  pub index : IsNumber 65536 word place.index
-  pub wrap : place.wrap ≡ None
+  pub index : IsNumber 65536 word position.index
+  pub wrap : position.wrap ≡ None
 
 -- a wrap counter: 0 or 1
 abbrev pub IsWrapCounter : List ℕ → Bool → Type 0
 IsWrapCounter word wrap = ((wrap ≡ false) × (word ≡ codes "0")) ⊎ ((wrap ≡ true) × (word ≡ codes "1"))
 
 -- a slot and the wrap counter there, as two words
-pub record IsSlot (slot counter : List ℕ) (place : RingPlace) : Type 0 where
-  pub index : IsNumber 65536 slot place.index
-  pub wrap : (wrap : Bool) × (place.wrap ≡ Some wrap) × IsWrapCounter counter wrap
+pub record IsSlot (slot counter : List ℕ) (position : RingPlace) : Type 0 where
+  pub index : IsNumber 65536 slot position.index
+  pub wrap : (wrap : Bool) × (position.wrap ≡ Some wrap) × IsWrapCounter counter wrap
 
 -- a slot as one word, in which the wrap counter stands behind the first colon
-pub record HasWrap (word : List ℕ) (place : RingPlace) : Type 0 where
+pub record HasWrap (word : List ℕ) (position : RingPlace) : Type 0 where
   pub colon : position_or_len is_colon word < length word
-  pub sides : IsSlot (before_first is_colon word) (after_first is_colon word) place
+  pub sides : IsSlot (before_first is_colon word) (after_first is_colon word) position
 
--- a place in a ring, as one word
+-- a position in a ring, as one word
 abbrev pub IsRingPlace : List ℕ → RingPlace → Type 0
-IsRingPlace word place = HasNoWrap word place ⊎ HasWrap word place
+IsRingPlace word position = HasNoWrap word position ⊎ HasWrap word position
 
 -- a name: 1 to 16 letters or digits
 pub record IsName (word : List ℕ) : Type 0 where

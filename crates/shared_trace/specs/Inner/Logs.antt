@@ -19,7 +19,7 @@ Steps {E} part_of may old e new =
     × (new ≡ record { number = old.number; own = e ∷ past; known = e ∷ past })
     × IsLawful may (e ∷ past)
 
--- the mark at its place has as many events of its part as some log between the two
+-- the mark at its index has as many events of its part as some log between the two
 abbrev pub IsCounted : {E : Type 0} → (E → ℕ) → List E → List E → ℕ → PlainMark E → Type 0
 IsCounted {E} part_of old new k m =
     (m.number ≡ k) × IsPast m.own m.known

@@ -17,7 +17,7 @@ pub record IsHosted (u : PlainUnit) (h : HostedDisk) : Type 0 where
   pub storage : (l : Ledger) → u.storage ≡ Some l → IsStorageBy l h.storage
   pub capacity : h.capacity ≡ capacity_of u.opening u.steps
 
--- own: so is each that is there, of the unit at its place
+-- own: so is each that is there, of the unit at its index
 abbrev pub AreHosted : List PlainUnit → List (Option HostedDisk) → Type 0
 AreHosted units disks =
     (k : ℕ) (u : PlainUnit) (h : HostedDisk) → slice_get units k ≡ Some u → slice_get disks k ≡ Some (Some h) → IsHosted u h

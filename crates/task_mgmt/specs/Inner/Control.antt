@@ -15,4 +15,4 @@ Decides units bytes writable d = (c : Control) → IsControl bytes c → d ≡ d
 -- an answer fits into the chain; a function has room for its response, and its units are there
 abbrev pub Suits : ℕ → ℕ → ControlDecision → Type 0
 Suits units writable (Direct answer) = (length answer ≤ 5) × (length answer ≤ writable)
-Suits units writable (Opens f) = (1 ≤ writable) × AllByRecursion (λ place. place < units) f.left
+Suits units writable (Opens f) = (1 ≤ writable) × AllByRecursion (λ unit_index. unit_index < units) f.left

@@ -7,4 +7,4 @@ use Rattle.phases.specs.declared.hand.Hand.TheVariants as hand
 abbrev pub HasNoJob : Hand → Type 0
 HasNoJob hand.Empty = ⊤
 HasNoJob (hand.Job held) = ⊥
-HasNoJob (hand.Answered place t) = ⊤
+HasNoJob (hand.Answered unit_index t) = ⊤

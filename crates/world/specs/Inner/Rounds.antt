@@ -12,7 +12,7 @@ use Rattle.device_steps.specs.Inner.Cursors.{IsFetchPlace, NoneBefore}
 use Rattle.device_steps.specs.declared.cursor.Progress.{Progress}
 use Rattle.device_steps.specs.declared.cursor.Cursor.{Cursor}
 
--- so many events were done, and before a place none applies then, whatever stands in memory
+-- so many events were done, and before a point none applies then, whatever stands in memory
 pub record RoundsNext {X : Type 0} (shared : Bool) (begins : X → X → Type 0) (may_be : X → List ℕ → Type 0)
     (stored : X → X → List Write → Type 0) (asked : ℕ → Bool) (most : ℕ) (x : PlainLive X) (s : Progress) (y : PlainLive X) : Type 0 where
   pub some : 1 ≤ s.steps
@@ -103,7 +103,7 @@ TurnsRow {X} shared begins may_be stored asked most x (Ok (Some s)) y = RowNext 
 TurnsRow {X} shared begins may_be stored asked most x (Ok None) y = Looks shared begins may_be stored (HasNone asked) x y
 TurnsRow {X} shared begins may_be stored asked most x (Err fault) y = Looks shared begins may_be stored (WantsFirst asked) x y
 
--- the queue is of the call, and nothing before a chain applies at the place
+-- the queue is of the call, and nothing before a chain applies at the point
 pub record IsRowOf (asked : ℕ → Bool) (next : Cursor) (number : ℕ) : Type 0 where
   pub few : number < 32
   pub on : asked number ≡ true

@@ -4,8 +4,8 @@ use Rattle.block_commands.proofs.Zeros.{is_alike}
 use Rattle.block_commands.proofs.provisioning.count_alike.Given as goal
 
 -- the blocks so far have the status of the first
-abbrev pub invariant-loop-place : goal.invariant-loop-place
-invariant-loop-place g l = record {
+abbrev pub invariant-loop-index : goal.invariant-loop-index
+invariant-loop-index g l = record {
   room : 512 ≤ vec_capacity l.held;
-  alike : (j : ℕ) → j < l.place → is_alike (g.S.Store.block_at l.store) l.lba (l.lba + j) ≡ true;
+  alike : (j : ℕ) → j < l.index → is_alike (g.S.Store.block_at l.store) l.lba (l.lba + j) ≡ true;
 }

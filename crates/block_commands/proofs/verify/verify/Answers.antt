@@ -9,7 +9,7 @@ use Rattle.block_commands.proofs.verify.verify.Goals as goal
 
 pub returns-in-Some-clause-answer : goal.returns-in-Some-clause-answer
 returns-in-Some-clause-answer g c =
-    let i = c.loop-place.place in
+    let i = c.loop-index.index in
     let blocks = g.S.Store.block_at c.args.store.now in
     let expected = to_verify c.args.sent c.args.bytes.now in
     let inside : is_in_range (g.S.Store.size c.args.store.now) c.args.lba c.args.blocks ≡ true =
@@ -19,15 +19,15 @@ returns-in-Some-clause-answer g c =
     let right : length (blocks (c.args.lba + i)) ≡ 512 = g.met.S.Store.whole c.args.store.now (c.args.lba + i) (omega arith) in
     let some : first_unequal (expected i) (blocks (c.args.lba + i)) ≡ Some c.in-Some.offset = cc (c.in-Some.ensures.offset, c.expected_at-expected.ensures.bytes) in
     let found : first_unequal (run expected 0 c.args.blocks) (run blocks c.args.lba c.args.blocks) ≡ Some (512 * i + c.in-Some.offset) =
-    c.loop-place.invariant.equal
-    ∙ ap (shifted (512 * i)) (run_unequal-before expected blocks c.args.lba i c.args.blocks c.loop-place-test.true left right c.in-Some.offset some) in
+    c.loop-index.invariant.equal
+    ∙ ap (shifted (512 * i)) (run_unequal-before expected blocks c.args.lba i c.args.blocks c.loop-index-test.true left right c.in-Some.offset some) in
     let told : miscompare (512 * i + c.in-Some.offset) ≡ c.miscompare.result =
     ap (λ k. miscompare (512 * k + c.in-Some.offset)) (sym c.from-in-Some.ensures) ∙ sym c.miscompare.ensures in
     rw (inside, found) (ap (λ s. Err s) told)
 
-pub loop-place-preserved : goal.loop-place-preserved
-loop-place-preserved g c =
-    let i = c.loop-place.place in
+pub loop-index-preserved : goal.loop-index-preserved
+loop-index-preserved g c =
+    let i = c.loop-index.index in
     let blocks = g.S.Store.block_at c.args.store.now in
     let expected = to_verify c.args.sent c.args.bytes.now in
     let inside : is_in_range (g.S.Store.size c.args.store.now) c.args.lba c.args.blocks ≡ true =
@@ -40,8 +40,8 @@ loop-place-preserved g c =
     let more : 512 * i + 512 ≡ 512 * (i + 1) = omega arith in
     record {
       room = c.unequal_at.ensures.room;
-      equal = c.loop-place.invariant.equal
-          ∙ ap (shifted (512 * i)) (run_unequal-behind expected blocks c.args.lba i c.args.blocks c.loop-place-test.true left right none)
+      equal = c.loop-index.invariant.equal
+          ∙ ap (shifted (512 * i)) (run_unequal-behind expected blocks c.args.lba i c.args.blocks c.loop-index-test.true left right none)
           ∙ shifted-shifted (512 * i) 512 later
           ∙ ap (λ k. shifted k later) more;
     }

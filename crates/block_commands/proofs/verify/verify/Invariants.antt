@@ -6,11 +6,11 @@ use Rattle.block_commands.proofs.Comparisons.{shifted}
 use Rattle.block_commands.proofs.verify.verify.Given as goal
 
 -- the blocks so far are equal to their data, so what is left decides
-abbrev pub invariant-loop-place : goal.invariant-loop-place
-invariant-loop-place g l = record {
+abbrev pub invariant-loop-index : goal.invariant-loop-index
+invariant-loop-index g l = record {
   room : 512 ≤ vec_capacity l.held;
   equal : first_unequal (run (to_verify l.sent l.bytes) 0 l.blocks) (run (g.S.Store.block_at l.store) l.lba l.blocks)
-      ≡ shifted (512 * l.place)
-      (first_unequal (run (to_verify l.sent l.bytes) l.place (l.blocks - l.place))
-      (run (g.S.Store.block_at l.store) (l.lba + l.place) (l.blocks - l.place)));
+      ≡ shifted (512 * l.index)
+      (first_unequal (run (to_verify l.sent l.bytes) l.index (l.blocks - l.index))
+      (run (g.S.Store.block_at l.store) (l.lba + l.index) (l.blocks - l.index)));
 }

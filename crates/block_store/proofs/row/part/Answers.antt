@@ -19,5 +19,5 @@ returns c =
     let page = c.index-row-page.result in
     let here : row_kept row (c.args.first / 8) ≡ page.bytes.items =
     ap (λ p. row_kept row p) (sym c.page_of-page.ensures) ∙ kept-at row c.page_of-page.result page (omega arith) c.index-row-page.is in
-    c.part.ensures ∙ ap (λ r. run (blocks_in page.bytes.items) r c.args.count) c.place_of.ensures
+    c.part.ensures ∙ ap (λ r. run (blocks_in page.bytes.items) r c.args.count) c.position_of.ensures
     ∙ ap (λ l. run (blocks_in l) (c.args.first % 8) c.args.count) (sym here) ∙ run-part (row_kept row) c.args.first c.args.count c.requires

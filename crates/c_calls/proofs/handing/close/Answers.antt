@@ -31,8 +31,8 @@ returns-in_default-new_room c =
 pub put_back-requires-clause-none : goal.put_back-requires-clause-none
 put_back-requires-clause-none c = any_image is_some disk_at c.args.disks.now ∙ sym c.is_any_there.ensures ∙ c.if-is_any_there.false
 
-pub put_back-requires-clause-places : goal.put_back-requires-clause-places
-put_back-requires-clause-places c =
+pub put_back-requires-clause-slots : goal.put_back-requires-clause-slots
+put_back-requires-clause-slots c =
     omega (
       arith,
       c.if-disks-units.false,
@@ -43,7 +43,7 @@ put_back-requires-clause-places c =
     )
 
 pub put_back-requires-clause-boxes : goal.put_back-requires-clause-boxes
-put_back-requires-clause-boxes c = omega (arith, put_back-requires-clause-places c, c.in-Ok.ensures.2)
+put_back-requires-clause-boxes c = omega (arith, put_back-requires-clause-slots c, c.in-Ok.ensures.2)
 
 pub returns : goal.returns
 returns c =

@@ -6,11 +6,11 @@ use Rattle.c_calls.specs.Disks.{Fits}
 use Rattle.c_calls.specs.Kept.{disks_at}
 use Rattle.c_calls.proofs.handing.lacking.Given as goal
 
-abbrev pub invariant-loop-place : goal.invariant-loop-place
-invariant-loop-place l =
+abbrev pub invariant-loop-unit_index : goal.invariant-loop-unit_index
+invariant-loop-unit_index l =
     record {
       same : disks_at l.disks ≡ disks_at l.fn.disks;
-      fit : (k : ℕ) (u : UnitSpec) (disk : Option UnitDisk) → k < l.place → slice_get l.units k ≡ Some u
+      fit : (k : ℕ) (u : UnitSpec) (disk : Option UnitDisk) → k < l.unit_index → slice_get l.units k ≡ Some u
           → slice_get (disks_at l.fn.disks) k ≡ Some disk → Fits u disk;
-      all : l.place-end ≡ length l.disks;
+      all : l.unit_index-end ≡ length l.disks;
     }

@@ -13,7 +13,7 @@ loop-store-init c =
       split = sym (end c.args.stores.items);
       are =
           none_there (disks_at c.args.disks.now) c.args.stores.items c.requires.none
-          (length-map c.args.disks.now disk_at ∙ c.requires.places)
+          (length-map c.args.disks.now disk_at ∙ c.requires.slots)
           ∙ sym (end (map (λ s. None) c.args.stores.items));
       boxes = c.requires.boxes;
     }

@@ -37,7 +37,7 @@ returns-in-Some-lacking c =
         taken = sym c.in_default-fault_for.ensures.none;
         lacks =
             subst (λ k. Lacks c.in-Ok.config.units.items (disks_at c.args.disks.now) k) (sym (ap (λ (x : Cause). x.place) c.no_disk_at.ensures))
-            (subst (λ us. Lacks us (disks_at c.args.disks.now) c.in-Some-lacking.place) c.as_slice.ensures.value c.in-Some-lacking.ensures.found);
+            (subst (λ us. Lacks us (disks_at c.args.disks.now) c.in-Some-lacking.unit_index) c.as_slice.ensures.value c.in-Some-lacking.ensures.found);
         named =
             c.no_disk_at.ensures
             ∙ ap (λ k. record { cause = 13; place = k; detail = 0 }) (sym (ap (λ (x : Cause). x.place) c.no_disk_at.ensures));

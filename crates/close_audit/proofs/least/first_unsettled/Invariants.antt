@@ -4,4 +4,4 @@ use Rattle.close_audit.proofs.least.first_unsettled.Given as goal
 
 abbrev pub invariant-loop-number : goal.invariant-loop-number
 invariant-loop-number l =
-    (n : ℕ) → n < l.number → ends_amiss l.folded (tally_at l.tables.tables.items (record { queue = l.place; number = n })) ≡ false
+    (n : ℕ) → n < l.number → ends_amiss l.folded (tally_at l.tables.tables.items (record { queue = l.queue_index; number = n })) ≡ false

@@ -4,11 +4,11 @@ use Rattle.config.proofs.Faults.{fails, within, all, of_unit, not_all}
 use Rattle.config.proofs.config_fault.fault_of_units.Goals as goal
 
 pub fault_of_unit-requires : goal.fault_of_unit-requires
-fault_of_unit-requires c = fails is_unit c.args.units.now c.in-Some.place _ (sym c.in-Some.ensures)
+fault_of_unit-requires c = fails is_unit c.args.units.now c.in-Some.unit_index _ (sym c.in-Some.ensures)
 
 pub returns-in-Some-clause-cause : goal.returns-in-Some-clause-cause
 returns-in-Some-clause-cause c =
-    let e = sym c.in-Some.ensures in of_unit c.args.units.now c.in-Some.place _ c.fault_of_unit.result (search rules) e (within is_unit c.args.units.now c.in-Some.place _ e) c.fault_of_unit.ensures
+    let e = sym c.in-Some.ensures in of_unit c.args.units.now c.in-Some.unit_index _ c.fault_of_unit.result (search rules) e (within is_unit c.args.units.now c.in-Some.unit_index _ e) c.fault_of_unit.ensures
 
 pub returns-in-Some-first_lacking-clause-none : goal.returns-in-Some-first_lacking-clause-none
 returns-in-Some-first_lacking-clause-none c =

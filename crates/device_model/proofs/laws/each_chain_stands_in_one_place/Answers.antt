@@ -6,8 +6,8 @@ use Rattle.device_model.proofs.Staying.{run_keeps}
 use Rattle.device_model.proofs.Numbering.{new_numbered, transition_numbers}
 use Rattle.device_model.proofs.laws.each_chain_stands_in_one_place.Goals as goal
 
-pub returns-clause-place : goal.returns-clause-place
-returns-clause-place c = λ p old trace w r. balanced p old trace w r.opens r.runs
+pub returns-clause-stands : goal.returns-clause-stands
+returns-clause-stands c = λ p old trace w r. balanced p old trace w r.opens r.runs
 
 pub returns-clause-once : goal.returns-clause-once
 returns-clause-once c =

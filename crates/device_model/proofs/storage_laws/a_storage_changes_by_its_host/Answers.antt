@@ -2,19 +2,19 @@ use Rattle.device_model.proofs.Storing.{given_stays, kept_stays, unkept_stays, l
 use Rattle.device_model.proofs.storage_laws.a_storage_changes_by_its_host.Goals as goal
 
 pub returns-clause-given : goal.returns-clause-given
-returns-clause-given c = λ w d place u v. given_stays d w place u v
+returns-clause-given c = λ w d unit_index u v. given_stays d w unit_index u v
 
 pub returns-clause-kept : goal.returns-clause-kept
-returns-clause-kept c = λ w d place u v. kept_stays d w place u v
+returns-clause-kept c = λ w d unit_index u v. kept_stays d w unit_index u v
 
 pub returns-clause-unkept : goal.returns-clause-unkept
-returns-clause-unkept c = λ w d place u v. unkept_stays d w place u v
+returns-clause-unkept c = λ w d unit_index u v. unkept_stays d w unit_index u v
 
 pub returns-clause-deals : goal.returns-clause-deals
 returns-clause-deals c = deals_alone
 
 pub returns-clause-lost : goal.returns-clause-lost
-returns-clause-lost c = λ w d place p u v. lost_stays d w place p u v
+returns-clause-lost c = λ w d unit_index p u v. lost_stays d w unit_index p u v
 
 pub returns-clause-unread : goal.returns-clause-unread
 returns-clause-unread c = lost_then

@@ -6,6 +6,6 @@ pub returns : goal.returns
 returns c = λ old trace w r.
     are_logs old trace w r (c.logs_are_numbered.ensures old trace w r)
     (record {
-      place = λ t. c.each_chain_stands_in_one_place.ensures.place (only t) old trace w r;
+      stands = λ t. c.each_chain_stands_in_one_place.ensures.stands (only t) old trace w r;
       once = λ t. c.each_chain_stands_in_one_place.ensures.once t old trace w r;
     })

@@ -19,7 +19,7 @@ returns c = λ old trace w r.
       answers = c.answers_are_true.ensures old trace w r;
       logs = c.logs_are_lawful.ensures old trace w r;
       chains = record {
-        place = λ t. c.each_chain_stands_in_one_place.ensures.place (only t) old trace w r;
+        stands = λ t. c.each_chain_stands_in_one_place.ensures.stands (only t) old trace w r;
         once = λ t. c.each_chain_stands_in_one_place.ensures.once t old trace w r;
       };
       order = c.commands_keep_their_order.ensures old trace w r;

@@ -8,7 +8,7 @@ use Rattle.device_steps.proofs.opening.are_disks_for.Goals as goal
 below_or_at : (i n : ℕ) → i < n + 1 → (i < n) ⊎ (i ≡ n)
 below_or_at i n le = grind arith
 
--- a disk that the unit at one place of both lists may have
+-- a disk that the unit at one index of both lists may have
 found : (specs : List UnitSpec) (disks : List Disk) (k : ℕ) (s d : UnitSpec) (disk x : Disk) → slice_get specs k ≡ Some s
     → slice_get disks k ≡ Some disk → x ≡ slice_index_or disks k x → IsDiskFor (slice_index_or specs k d) x → IsDiskFor s disk
 found specs disks k s d disk x wanted there is met =

@@ -13,11 +13,11 @@ returns-clause-chiefs c =
     let lt = slice_get_within lanes q x at in
     made.done q x (omega (arith, lt, c.loop-at-test.false)) at)
 
-pub returns-clause-places : goal.returns-clause-places
-returns-clause-places c =
+pub returns-clause-ends : goal.returns-clause-ends
+returns-clause-ends c =
     let lanes = c.args.lanes.now in
     let made = c.loop-at.invariant in
-    all_made (newcomer (lead c.args.number)) lanes c.loop-at.places.items
+    all_made (newcomer (lead c.args.number)) lanes c.loop-at.ends.items
     (omega (arith, made.count, c.loop-at.auto.at-end, c.loop-at-test.false)) (λ q x at.
     let lt = slice_get_within lanes q x at in
     made.made q x (omega (arith, lt, c.loop-at-test.false)) at)

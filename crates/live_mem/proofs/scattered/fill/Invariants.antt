@@ -2,10 +2,10 @@ use Rattle.std.proofs.Common.{◌≡◌, ℕ, ◌+◌, ◌-◌, ◌*◌, ◌<◌
 use Rattle.live_mem.specs.Access.{spans}
 use Rattle.live_mem.proofs.scattered.fill.Given as goal
 
-abbrev pub invariant-loop-place : goal.invariant-loop-place
-invariant-loop-place l =
+abbrev pub invariant-loop-index : goal.invariant-loop-index
+invariant-loop-index l =
     record {
-      done : (j : ℕ) → j < l.place → get_or l.granule j None
+      done : (j : ℕ) → j < l.index → get_or l.granule j None
           ≡ cond (spans l.addr (length l.out) (16 * l.key + j)) (Some (get_or l.out (16 * l.key + j - l.addr) 0)) (get_or l.fn.granule j None);
-      ahead : (j : ℕ) → l.place ≤ j → get_or l.granule j None ≡ get_or l.fn.granule j None;
+      ahead : (j : ℕ) → l.index ≤ j → get_or l.granule j None ≡ get_or l.fn.granule j None;
     }

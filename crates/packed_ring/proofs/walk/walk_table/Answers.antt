@@ -21,13 +21,13 @@ along-init g c =
 pub returns-in-Err-clause-walked : goal.returns-in-Err-clause-walked
 returns-in-Err-clause-walked g c = λ m s.
     let sized = g.met.M.Memory.sized c.along.memory m s in
-    walked_wrong (packed_table m c.args.named) (c.args.named.len / 16) (entries_walk m c.args.named) c.args.first c.args.draft c.along.place c.along.before c.along.draft c.along.d
+    walked_wrong (packed_table m c.args.named) (c.args.named.len / 16) (entries_walk m c.args.named) c.args.first c.args.draft c.along.position c.along.before c.along.draft c.along.d
     (c.along.invariant.on m s) (c.along.invariant.is m s) c.in-Err.fault (rw (c.size-bytes.ensures.size, ← sized) at c.in-Err.ensures)
 
 pub returns-then-is_err-clause-walked : goal.returns-then-is_err-clause-walked
 returns-then-is_err-clause-walked g c = λ m s.
     let sized = g.met.M.Memory.sized c.along.memory m s in
-    walked_first (packed_table m c.args.named) (c.args.named.len / 16) (entries_walk m c.args.named) c.args.first c.args.draft c.along.place c.along.before c.along.draft c.along.d
+    walked_first (packed_table m c.args.named) (c.args.named.len / 16) (entries_walk m c.args.named) c.args.first c.args.draft c.along.position c.along.before c.along.draft c.along.d
     (c.along.invariant.on m s) (c.along.invariant.is m s) (rw (c.size-bytes.ensures.size, ← sized) at c.in_default.ensures)
 
 pub returns-then-before-entries-clause-walked : goal.returns-then-before-entries-clause-walked
@@ -36,7 +36,7 @@ returns-then-before-entries-clause-walked g c = λ m s.
     let pushed : c.push.new.self ≡ c.along.draft ++ part_of c.along.d ∷ [] = search rules in
     let run : Run = record { last = c.along.d; before = c.along.before; draft = c.along.draft } in (
       run,
-      walked_end (packed_table m c.args.named) (c.args.named.len / 16) (entries_walk m c.args.named) c.args.first c.args.draft c.along.place c.along.before c.along.draft c.along.d
+      walked_end (packed_table m c.args.named) (c.args.named.len / 16) (entries_walk m c.args.named) c.args.first c.args.draft c.along.position c.along.before c.along.draft c.along.d
           (c.along.invariant.on m s) (c.along.invariant.is m s) run refl refl refl (rw (c.size-bytes.ensures.size, ← sized) at c.in_default.ensures) (grind (arith, nat_tests)),
       pushed,
     )
@@ -50,7 +50,7 @@ pub returns-in_default-try_entry_at-clause-walked : goal.returns-in_default-try_
 returns-in_default-try_entry_at-clause-walked g c = λ m s.
     let s₀ = c.try_entry_at.ensures.stays m s in
     let sized = g.met.M.Memory.sized c.along.memory m s₀ in
-    walked_first (packed_table m c.args.named) (c.args.named.len / 16) (entries_walk m c.args.named) c.args.first c.args.draft c.along.place c.along.before c.along.draft c.along.d
+    walked_first (packed_table m c.args.named) (c.args.named.len / 16) (entries_walk m c.args.named) c.args.first c.args.draft c.along.position c.along.before c.along.draft c.along.d
     (c.along.invariant.on m s₀) (c.along.invariant.is m s₀) (rw (c.size-bytes.ensures.size, ← sized) at c.in_default.ensures)
 
 pub along-preserved : goal.along-preserved
@@ -65,7 +65,7 @@ along-preserved g c =
           let s₀ = c.try_entry_at.ensures.stays m s in
           let sized = g.met.M.Memory.sized c.along.memory m s₀ in
           rw (pushed, c.with-before.ensures)
-          (walked_more (packed_table m c.args.named) (c.args.named.len / 16) (entries_walk m c.args.named) c.args.first c.args.draft c.along.place c.along.before c.along.draft c.along.d
+          (walked_more (packed_table m c.args.named) (c.args.named.len / 16) (entries_walk m c.args.named) c.args.first c.args.draft c.along.position c.along.before c.along.draft c.along.d
           (c.along.invariant.on m s₀) (c.along.invariant.is m s₀) (rw (c.size-bytes.ensures.size, ← sized) at c.in_default.ensures) (grind (arith, nat_tests)));
       is = λ m s. c.in-Ok.ensures.descriptor m s;
     }

@@ -10,6 +10,6 @@ invariant-along g l =
       stays : (m : List ℕ) → g.M.Memory.may_be l.memory m → g.M.Memory.may_be l.fn.memory m;
       stores : g.M.Memory.stored l.memory ≡ g.M.Memory.stored l.fn.memory;
       reading : g.M.Memory.is_open l.memory;
-      on : (m : List ℕ) → g.M.Memory.may_be l.memory m → Walked (packed_table m l.named) (l.named.len / 16) l.fn.first l.fn.draft l.place l.before l.draft;
-      is : (m : List ℕ) → g.M.Memory.may_be l.memory m → l.d ≡ entry_of m l.named l.place;
+      on : (m : List ℕ) → g.M.Memory.may_be l.memory m → Walked (packed_table m l.named) (l.named.len / 16) l.fn.first l.fn.draft l.position l.before l.draft;
+      is : (m : List ℕ) → g.M.Memory.may_be l.memory m → l.d ≡ entry_of m l.named l.position;
     }

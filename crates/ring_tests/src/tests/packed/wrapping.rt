@@ -1,4 +1,4 @@
-//! Places run round at the end of the slots, and the wrap counters flip.
+//! Positions run round at the end of the slots, and the wrap counters flip.
 
 use super::super::{Made, bench, none_is};
 use super::{AVAILABLE, AVAILABLE_AT_0, PLACE};
@@ -68,7 +68,7 @@ static USED: [Used; 3] = [
             Move::Has(32, &[32, 78, 0, 0, 0, 0, 0, 0, 108, 0, 0, 0, 1, 0, 2, 0]),
         ],
     },
-    // Behind 120 slots, the place is slot 1 and the wrap counter 0.
+    // Behind 120 slots, the position is slot 1 and the wrap counter 0.
     Used {
         pair: 20,
         moves: &[
@@ -131,13 +131,13 @@ fn serving_one(number: u64, slot: u16, turn: u16) -> [Move; 4] {
 /// as it should.
 fn first_unserved<R: Made>(alloc: Global, size: u16) -> Result<Option<usize>, Fail> {
     let mut bench = bench::<R>(alloc, 16, Layout { size, ..PLACE }, 0)?;
-    let mut place = (0, AVAILABLE);
+    let mut position = (0, AVAILABLE);
     for number in 0..65_537 {
-        let moves = serving_one(number, place.0, place.1);
+        let moves = serving_one(number, position.0, position.1);
         if bench.first_wrong(moves.as_slice()).is_some() {
             return Ok(Some(number as usize));
         }
-        place = next(place.0, place.1, size);
+        position = next(position.0, position.1, size);
     }
     Ok(None)
 }

@@ -13,7 +13,7 @@ const MANY: Layout = Layout {
     ..PLACE
 };
 
-/// The row from which others are made: each says the memory's pages and the queue's place where they aren't these.
+/// The row from which others are made: each says the memory's pages and where the queue lies if they aren't these.
 pub const ROW: Row = Row {
     shows: "",
     pages: 16,

@@ -8,5 +8,5 @@ pub returns-in-Some-clause-bytes : goal.returns-in-Some-clause-bytes
 returns-in-Some-clause-bytes c =
     let s = c.args.self.now in
     c.blocks_at.ensures.bytes
-    ∙ part-run (state_at s.cache) (bytes_at s.cache) (backing_of s) c.in-Some.bytes.now c.page_of.result c.place_of.result c.args.first c.args.count
-    c.page_of.ensures c.place_of.ensures c.requires.fits c.in-Some.ensures.some c.in-Some.ensures.held
+    ∙ part-run (state_at s.cache) (bytes_at s.cache) (backing_of s) c.in-Some.bytes.now c.page_of.result c.position_of.result c.args.first c.args.count
+    c.page_of.ensures c.position_of.ensures c.requires.fits c.in-Some.ensures.some c.in-Some.ensures.held

@@ -12,7 +12,7 @@ returns-clause-blocks c =
     let bytes = c.args.bytes.now in
     let first = c.args.first in
     let count = block_count bytes in
-    let put = rw (c.page_of.ensures, c.place_of.ensures) at c.put.ensures in
+    let put = rw (c.page_of.ensures, c.position_of.ensures) at c.put.ensures in
     part-stored (state_at old.cache) (state_at c.put.new.self) (bytes_at old.cache) (bytes_at c.put.new.self) (backing_of old) (λ b. nth_block bytes (b - first))
     first count c.requires.range c.requires.some put.states put.others
     (λ k.

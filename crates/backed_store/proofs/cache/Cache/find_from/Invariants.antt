@@ -4,10 +4,10 @@ use Rattle.backed_store.specs.Caches.{mark_at}
 use Rattle.backed_store.specs.Spared.{is_spared}
 use Rattle.backed_store.proofs.cache.Cache.find_from.Given as goal
 
--- each page before the place must stay
+-- each page before the number must stay
 abbrev pub invariant-loop-page : goal.invariant-loop-page
 invariant-loop-page l = record {
-  stay : (p : ℕ) → l.place ≤ p → p < l.at → IsTrue (may_go (mark_at l.self p)) → IsTrue (is_spared l.spared p);
+  stay : (p : ℕ) → l.number ≤ p → p < l.at → IsTrue (may_go (mark_at l.self p)) → IsTrue (is_spared l.spared p);
 }
 
 abbrev pub decreases-loop-page : goal.decreases-loop-page

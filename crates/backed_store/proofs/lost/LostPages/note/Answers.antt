@@ -19,10 +19,10 @@ pub returns-in-Ok-clause-kept : goal.returns-in-Ok-clause-kept
 returns-in-Ok-clause-kept c = λ few p apart.
     let page = c.args.page in
     let len = c.forget.ensures.len in
-    let same = c.make_place.ensures.kept (omega (arith, few, len)) in
+    let same = c.make_room.ensures.kept (omega (arith, few, len)) in
     let other : (p == page) ≡ false = grind (arith, nat_tests, apart) in
     ap (λ l. list_any (nat_eq p) l) c.in-Ok.ensures.items
-    ∙ added p page (noted c.make_place.new.self) apart
+    ∙ added p page (noted c.make_room.new.self) apart
     ∙ ap (λ l. list_any (nat_eq p) l) same
     ∙ c.forget.ensures.each p
     ∙ rw other refl

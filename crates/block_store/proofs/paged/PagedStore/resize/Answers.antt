@@ -7,7 +7,7 @@ use Rattle.block_store.proofs.paged.PagedStore.resize.Goals as goal
 pub returns-clause-blocks : goal.returns-clause-blocks
 returns-clause-blocks c =
     let left = c.min-left.result in
-    let tail : (8 - c.place_of.result) % 8 ≡ (8 - left % 8) % 8 = ap (λ i. (8 - i) % 8) c.place_of.ensures in
-    λ b. cut-blocks c.args.self.now.pages c.cut.new.self c.clear_part.new.self left c.page_from.result ((8 - c.place_of.result) % 8)
+    let tail : (8 - c.position_of.result) % 8 ≡ (8 - left % 8) % 8 = ap (λ i. (8 - i) % 8) c.position_of.ensures in
+    λ b. cut-blocks c.args.self.now.pages c.cut.new.self c.clear_part.new.self left c.page_from.result ((8 - c.position_of.result) % 8)
     c.page_from.ensures tail c.cut.ensures c.clear_part.ensures b
     ∙ ap (λ i. if nat_lt b i then blocks_of c.args.self.now.pages b else zero_block) c.min-left.ensures

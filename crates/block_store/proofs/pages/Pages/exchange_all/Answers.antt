@@ -17,6 +17,6 @@ loop-done-preserved c =
           so_far.here so_far.there c.exchange_part.ensures.here;
       there = exchanged-further given held (kept_from start c.loop-done.row.items) (kept c.loop-done.self) (kept_from start c.exchange_part.new.row.items) start done some
           so_far.there so_far.here c.exchange_part.ensures.there;
-      places = λ p. c.exchange_part.ensures.places p ∙ so_far.places p;
+      slots = λ p. c.exchange_part.ensures.slots p ∙ so_far.slots p;
       len = c.exchange_part.ensures.len ∙ so_far.len;
     }

@@ -28,8 +28,8 @@ returns-clause-there c =
     c.args.start c.args.done (c.args.start + c.args.done) ((c.args.start + c.args.done) % 64) c.args.count c.take-held.ensures.taken refl refl refl c.requires.part
     c.exchange.ensures.others
 
-pub returns-clause-places : goal.returns-clause-places
-returns-clause-places c =
+pub returns-clause-slots : goal.returns-clause-slots
+returns-clause-slots c =
     placed-same (tree_has c.put_row.new.self.held) (tree_has c.args.self.now.held)
     (tree_row c.args.self.now.held) (tree_row c.take-held.new.self) (tree_row c.put_row.new.self.held) ((c.args.start + c.args.done) / 64)
     c.take-held.result.items c.exchange.new.row.items
@@ -39,4 +39,4 @@ returns-clause-places c =
       now = c.put_row.ensures.here;
       others_now = c.put_row.ensures.others;
     })
-    (λ m. c.put_row.ensures.places m ∙ c.take-held.ensures.places m) (search rules)
+    (λ m. c.put_row.ensures.slots m ∙ c.take-held.ensures.slots m) (search rules)

@@ -15,4 +15,4 @@ returns-clause-others c =
       now = c.put_row.ensures.here;
       others_now = c.put_row.ensures.others;
     })
-    (λ m had. c.put_row.ensures.places m ∙ c.take-row.ensures.places m ∙ c.in_ok-place.ensures.places m had) (search rules)
+    (λ m had. c.put_row.ensures.slots m ∙ c.take-row.ensures.slots m ∙ c.in_ok-place.ensures.slots m had) (search rules)

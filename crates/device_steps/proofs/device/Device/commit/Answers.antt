@@ -25,9 +25,9 @@ invariant_of-self c =
     let at = found d.seats.items c.len.result k s c.index_mut-2.result.now size c.if-at-len.false
     c.index_mut-2.ensures.value c.behind-self-2.view_is in
     let t : KeptSeat = seat.the_view (record { hand = c.commit_or_defer.new.hand; out = c.behind-self-2.inside.out }) in
-    subst (λ (places : ℕ). HasLists (slice_set d.units.items c.in-Some.place c.commit_or_defer.new.unit)
+    subst (λ (places : ℕ). HasLists (slice_set d.units.items c.in-Some.unit_index c.commit_or_defer.new.unit)
     (slice_set d.seats.items k t) places d.port.limit) (sym c.commit_or_defer.ensures.limit)
-    (keeps_unit d.units.items d.seats.items k c.in-Some.place c.commit_or_defer.new.unit s t at refl c.self.invariant)
+    (keeps_unit d.units.items d.seats.items k c.in-Some.unit_index c.commit_or_defer.new.unit s t at refl c.self.invariant)
 
 pub returns : goal.returns
 returns c shared m sound =
@@ -41,19 +41,19 @@ returns c shared m sound =
     c.index.ensures c.behind-self.view_is in
     let at = found d.seats.items c.len.result k s c.index_mut-2.result.now size c.if-at-len.false
     c.index_mut-2.ensures.value c.behind-self-2.view_is in
-    let there = found d.units.items c.len-2.result c.in-Some.place c.index_mut.result.now c.index_mut.result.now
-    many c.if-place-len.false c.index_mut.ensures.value refl in
+    let there = found d.units.items c.len-2.result c.in-Some.unit_index c.index_mut.result.now c.index_mut.result.now
+    many c.if-unit_index-len.false c.index_mut.ensures.value refl in
     let one = one_there d.seats.items k s seen at at_seen in
-    let unit : committing_unit s.hand ≡ Some c.in-Some.place =
+    let unit : committing_unit s.hand ≡ Some c.in-Some.unit_index =
     ap (λ (z : KeptSeat). committing_unit z.hand) one ∙ sym c.in-Some.ensures in
     let after = c.commit_or_defer.new.self in
     let t : KeptSeat = seat.the_view (record { hand = c.commit_or_defer.new.hand; out = c.behind-self-2.inside.out }) in
     let w = standing shared m (the_view d) in
-    let next = with_aside after.aside (with_unit_and_seat w c.in-Some.place c.commit_or_defer.new.unit d.seats.items k t) in
+    let next = with_aside after.aside (with_unit_and_seat w c.in-Some.unit_index c.commit_or_defer.new.unit d.seats.items k t) in
     turns_seen shared m _ _ (Event.Commit k) c.commit_or_defer.result (record next { woken = after.woken }) c.self.view_is
     (subst (λ (l : List PlainJob). Turns w (Event.Commit k) c.commit_or_defer.result (record next { woken = l }))
     (sym c.commit_or_defer.ensures.woken)
-    (commits_or_defers w d.seats.items k c.in-Some.place s.hand s.jobs s.limit c.index_mut.result.now
+    (commits_or_defers w d.seats.items k c.in-Some.unit_index s.hand s.jobs s.limit c.index_mut.result.now
     c.commit_or_defer.new.unit _ d.jobs_aside.limit (waiting_of after) c.commit_or_defer.result
     (sound_seen shared m _ _ c.self.view_is sound) refl at unit there c.commit_or_defer.ensures.commits))
 

@@ -20,12 +20,12 @@ invariant_of-self c =
     let q = bay.the_view c.behind-self-2.inside in
     let s = seat.the_view c.behind-self-3.inside in
     let s_at : slice_get d.seats.items c.owner-seat.result ≡ Some s =
-    slice_get_read d.seats.items c.len-else-place-len.result c.owner-seat.result c.index_mut-3.result.now
-    (c.len-else-place-len.ensures ∙ d.seats.ok.0) c.if-seat-len.false c.index_mut-3.ensures.value
+    slice_get_read d.seats.items c.len-else-unit_index-len.result c.owner-seat.result c.index_mut-3.result.now
+    (c.len-else-unit_index-len.ensures ∙ d.seats.ok.0) c.if-seat-len.false c.index_mut-3.ensures.value
     ∙ ap (λ (z : KeptSeat). Some z) (sym c.behind-self-3.view_is) in
     let out = c.phase_enter.new.out in
     let slot = slot_of c.phase_enter.new.slot in
-    unit_kept d.units.items d.seats.items c.in-Some.place c.phase_enter.new.unit
+    unit_kept d.units.items d.seats.items c.in-Some.unit_index c.phase_enter.new.unit
     c.owner-seat.result s (listing out s) c.self.invariant s_at
     (limit_stays q.slot c.index_mut.result.now (list_of s) c.phase_enter.result c.phase_enter.new.unit slot out
     c.phase_enter.ensures)
@@ -45,17 +45,17 @@ returns c shared m sound =
     c.if-at-len.false c.index.ensures in
     let one : q ≡ bay.the_view c.behind-self.inside =
     c.behind-self-2.view_is ∙ same (sym q_was ∙ before) ∙ sym c.behind-self.view_is in
-    let place : arrived_unit q.slot ≡ Some c.in-Some.place =
+    let unit_index : arrived_unit q.slot ≡ Some c.in-Some.unit_index =
     ap (λ (z : PlainQueue). arrived_unit z.slot) one ∙ sym c.unit.ensures ∙ c.in-Some.is in
-    let u_at : slice_get d.units.items c.in-Some.place ≡ Some c.index_mut.result.now =
-    slice_get_read d.units.items c.len-2.result c.in-Some.place c.index_mut.result.now
-    (c.len-2.ensures ∙ d.units.ok.0) c.if-place-len.false c.index_mut.ensures.value in
+    let u_at : slice_get d.units.items c.in-Some.unit_index ≡ Some c.index_mut.result.now =
+    slice_get_read d.units.items c.len-2.result c.in-Some.unit_index c.index_mut.result.now
+    (c.len-2.ensures ∙ d.units.ok.0) c.if-unit_index-len.false c.index_mut.ensures.value in
     let s_at : slice_get d.seats.items c.owner-seat.result ≡ Some s =
-    slice_get_read d.seats.items c.len-else-place-len.result c.owner-seat.result c.index_mut-3.result.now
-    (c.len-else-place-len.ensures ∙ d.seats.ok.0) c.if-seat-len.false c.index_mut-3.ensures.value
+    slice_get_read d.seats.items c.len-else-unit_index-len.result c.owner-seat.result c.index_mut-3.result.now
+    (c.len-else-unit_index-len.ensures ∙ d.seats.ok.0) c.if-seat-len.false c.index_mut-3.ensures.value
     ∙ ap (λ (z : KeptSeat). Some z) (sym c.behind-self-3.view_is) in
     turns_seen shared m _ _ (PlainEvent.Enter c.args.number) c.phase_enter.result _ c.self.view_is
     (enters (standing shared m (seen.the_view d)) d.seats.items refl (sound_seen shared m _ _ c.self.view_is sound)
-    c.self.invariant.limits c.args.number c.in-Some.place c.owner-seat.result q c.index_mut.result.now s
+    c.self.invariant.limits c.args.number c.in-Some.unit_index c.owner-seat.result q c.index_mut.result.now s
     c.owner-seat.ensures q_at u_at s_at (slot_of c.phase_enter.new.slot) c.phase_enter.new.unit c.phase_enter.new.out
-    q.slot refl place c.phase_enter.result c.phase_enter.ensures)
+    q.slot refl unit_index c.phase_enter.result c.phase_enter.ensures)

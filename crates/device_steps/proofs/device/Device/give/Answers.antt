@@ -9,26 +9,26 @@ pub returns-clause-given : goal.returns-clause-given
 returns-clause-given c =
     let d = c.self.inside in
     let u = c.index_mut.result.now in
-    let at : slice_get d.units.items c.args.place ≡ Some u =
-    slice_get_read d.units.items c.len.result c.args.place u (c.len.ensures ∙ d.units.ok.0) c.if-at-len.false
+    let at : slice_get d.units.items c.args.unit_index ≡ Some u =
+    slice_get_read d.units.items c.len.result c.args.unit_index u (c.len.ensures ∙ d.units.ok.0) c.if-at-len.false
     c.index_mut.ensures.value in
     rw (← c.self.view_is)
-    (given (seen.the_view d) c.args.place u c.give.new.self at c.give.result c.give.ensures.may c.give.ensures.given)
+    (given (seen.the_view d) c.args.unit_index u c.give.new.self at c.give.result c.give.ensures.may c.give.ensures.given)
 
 pub returns-clause-none : goal.returns-clause-none
 returns-clause-none c =
     let d = c.self.inside in
     let u = c.index_mut.result.now in
-    let at : slice_get d.units.items c.args.place ≡ Some u =
-    slice_get_read d.units.items c.len.result c.args.place u (c.len.ensures ∙ d.units.ok.0) c.if-at-len.false
+    let at : slice_get d.units.items c.args.unit_index ≡ Some u =
+    slice_get_read d.units.items c.len.result c.args.unit_index u (c.len.ensures ∙ d.units.ok.0) c.if-at-len.false
     c.index_mut.ensures.value in
-    rw (← c.self.view_is) (given_none (seen.the_view d) c.args.place u c.give.new.self at c.give.result c.give.ensures.none)
+    rw (← c.self.view_is) (given_none (seen.the_view d) c.args.unit_index u c.give.new.self at c.give.result c.give.ensures.none)
 
 pub returns-clause-err : goal.returns-clause-err
 returns-clause-err c =
     let d = c.self.inside in
     let u = c.index_mut.result.now in
-    let at : slice_get d.units.items c.args.place ≡ Some u =
-    slice_get_read d.units.items c.len.result c.args.place u (c.len.ensures ∙ d.units.ok.0) c.if-at-len.false
+    let at : slice_get d.units.items c.args.unit_index ≡ Some u =
+    slice_get_read d.units.items c.len.result c.args.unit_index u (c.len.ensures ∙ d.units.ok.0) c.if-at-len.false
     c.index_mut.ensures.value in
-    rw (← c.self.view_is) (refused (seen.the_view d) c.args.place u c.give.new.self at c.give.result c.give.ensures.err)
+    rw (← c.self.view_is) (refused (seen.the_view d) c.args.unit_index u c.give.new.self at c.give.result c.give.ensures.err)

@@ -27,9 +27,9 @@ invariant_of-self c =
     slice_get_read d.seats.items (length d.seats.items) d.workers c.index_mut-2.result.now refl within
     c.index_mut-2.ensures.value ∙ ap (λ (z : KeptSeat). Some z) (sym c.behind-self.view_is) in
     let out = c.phase_hard.new.out in
-    unit_kept d.units.items d.seats.items c.args.place c.phase_hard.new.unit d.workers s
+    unit_kept d.units.items d.seats.items c.args.unit_index c.phase_hard.new.unit d.workers s
     (listing out s) c.self.invariant s_at
-    (reset_limit d.inventory c.args.place c.index_mut.result.now c.phase_hard.new.unit (list_of s) out d.waiting c.phase_hard.new.waiting
+    (reset_limit d.inventory c.args.unit_index c.index_mut.result.now c.phase_hard.new.unit (list_of s) out d.waiting c.phase_hard.new.waiting
     c.phase_hard.result c.phase_hard.ensures)
 
 pub invariant_of-self-in-Err-WrongUnit : goal.invariant_of-self-in-Err-WrongUnit
@@ -43,9 +43,9 @@ invariant_of-self-in-Err-WrongUnit c =
     slice_get_read d.seats.items (length d.seats.items) d.workers c.index_mut-2.result.now refl within
     c.index_mut-2.ensures.value ∙ ap (λ (z : KeptSeat). Some z) (sym c.behind-self.view_is) in
     let out = c.phase_hard.new.out in
-    unit_kept d.units.items d.seats.items c.args.place c.phase_hard.new.unit d.workers s
+    unit_kept d.units.items d.seats.items c.args.unit_index c.phase_hard.new.unit d.workers s
     (listing out s) c.self.invariant s_at
-    (reset_limit d.inventory c.args.place c.index_mut.result.now c.phase_hard.new.unit (list_of s) out d.waiting c.phase_hard.new.waiting
+    (reset_limit d.inventory c.args.unit_index c.index_mut.result.now c.phase_hard.new.unit (list_of s) out d.waiting c.phase_hard.new.waiting
     c.phase_hard.result c.phase_hard.ensures)
 
 pub invariant_of-self-in-Err-NoMemory : goal.invariant_of-self-in-Err-NoMemory
@@ -59,9 +59,9 @@ invariant_of-self-in-Err-NoMemory c =
     slice_get_read d.seats.items (length d.seats.items) d.workers c.index_mut-2.result.now refl within
     c.index_mut-2.ensures.value ∙ ap (λ (z : KeptSeat). Some z) (sym c.behind-self.view_is) in
     let out = c.phase_hard.new.out in
-    unit_kept d.units.items d.seats.items c.args.place c.phase_hard.new.unit d.workers s
+    unit_kept d.units.items d.seats.items c.args.unit_index c.phase_hard.new.unit d.workers s
     (listing out s) c.self.invariant s_at
-    (reset_limit d.inventory c.args.place c.index_mut.result.now c.phase_hard.new.unit (list_of s) out d.waiting c.phase_hard.new.waiting
+    (reset_limit d.inventory c.args.unit_index c.index_mut.result.now c.phase_hard.new.unit (list_of s) out d.waiting c.phase_hard.new.waiting
     c.phase_hard.result c.phase_hard.ensures)
 
 pub invariant_of-self-2 : goal.invariant_of-self-2
@@ -75,12 +75,12 @@ invariant_of-self-2 c =
     slice_get_read d.seats.items (length d.seats.items) d.workers c.index_mut-2.result.now refl within
     c.index_mut-2.ensures.value ∙ ap (λ (z : KeptSeat). Some z) (sym c.behind-self.view_is) in
     let out = c.phase_hard.new.out in
-    subst (λ (places : ℕ). HasLists (slice_set d.units.items c.args.place c.phase_hard.new.unit)
+    subst (λ (places : ℕ). HasLists (slice_set d.units.items c.args.unit_index c.phase_hard.new.unit)
     (slice_set d.seats.items d.workers (listing out s)) places d.port.limit)
     (sym (ap (λ (k : KeptAside). k.limit) c.wake.ensures.all))
-    (unit_kept d.units.items d.seats.items c.args.place c.phase_hard.new.unit d.workers s
+    (unit_kept d.units.items d.seats.items c.args.unit_index c.phase_hard.new.unit d.workers s
     (listing out s) c.self.invariant s_at
-    (reset_limit d.inventory c.args.place c.index_mut.result.now c.phase_hard.new.unit (list_of s) out d.waiting c.phase_hard.new.waiting
+    (reset_limit d.inventory c.args.unit_index c.index_mut.result.now c.phase_hard.new.unit (list_of s) out d.waiting c.phase_hard.new.waiting
     c.phase_hard.result c.phase_hard.ensures))
 
 pub returns-in-Ok-false : goal.returns-in-Ok-false
@@ -93,12 +93,12 @@ returns-in-Ok-false c shared m sound few =
     let s_at : slice_get d.seats.items d.workers ≡ Some s =
     slice_get_read d.seats.items (length d.seats.items) d.workers c.index_mut-2.result.now refl within
     c.index_mut-2.ensures.value ∙ ap (λ (z : KeptSeat). Some z) (sym c.behind-self.view_is) in
-    let u_at : slice_get d.units.items c.args.place ≡ Some c.index_mut.result.now =
-    slice_get_read d.units.items c.len.result c.args.place c.index_mut.result.now
+    let u_at : slice_get d.units.items c.args.unit_index ≡ Some c.index_mut.result.now =
+    slice_get_read d.units.items c.len.result c.args.unit_index c.index_mut.result.now
     (c.len.ensures ∙ d.units.ok.0) c.if-at-len.false c.index_mut.ensures.value in
     let w = standing shared m (seen.the_view d) in
     rw (← c.self.view_is)
-    (resets w d.seats.items refl firm.room firm.addressed (rw (← c.self.view_is) at few) c.self.invariant.limits c.args.place
+    (resets w d.seats.items refl firm.room firm.addressed (rw (← c.self.view_is) at few) c.self.invariant.limits c.args.unit_index
     c.index_mut.result.now c.phase_hard.new.unit s c.phase_hard.new.out c.phase_hard.new.waiting u_at s_at
     (Ok false) (rw c.in-Ok-false.field-0-test at c.in-Ok-false.ensures))
 
@@ -112,12 +112,12 @@ returns-in-Err-WrongUnit c shared m sound few =
     let s_at : slice_get d.seats.items d.workers ≡ Some s =
     slice_get_read d.seats.items (length d.seats.items) d.workers c.index_mut-2.result.now refl within
     c.index_mut-2.ensures.value ∙ ap (λ (z : KeptSeat). Some z) (sym c.behind-self.view_is) in
-    let u_at : slice_get d.units.items c.args.place ≡ Some c.index_mut.result.now =
-    slice_get_read d.units.items c.len.result c.args.place c.index_mut.result.now
+    let u_at : slice_get d.units.items c.args.unit_index ≡ Some c.index_mut.result.now =
+    slice_get_read d.units.items c.len.result c.args.unit_index c.index_mut.result.now
     (c.len.ensures ∙ d.units.ok.0) c.if-at-len.false c.index_mut.ensures.value in
     let w = standing shared m (seen.the_view d) in
     rw (← c.self.view_is)
-    (resets w d.seats.items refl firm.room firm.addressed (rw (← c.self.view_is) at few) c.self.invariant.limits c.args.place
+    (resets w d.seats.items refl firm.room firm.addressed (rw (← c.self.view_is) at few) c.self.invariant.limits c.args.unit_index
     c.index_mut.result.now c.phase_hard.new.unit s c.phase_hard.new.out c.phase_hard.new.waiting u_at s_at
     (Err fault.WrongUnit) (rw c.in-Err-WrongUnit.field-0-is at c.in-Err-WrongUnit.ensures))
 
@@ -131,12 +131,12 @@ returns-in-Err-NoMemory c shared m sound few =
     let s_at : slice_get d.seats.items d.workers ≡ Some s =
     slice_get_read d.seats.items (length d.seats.items) d.workers c.index_mut-2.result.now refl within
     c.index_mut-2.ensures.value ∙ ap (λ (z : KeptSeat). Some z) (sym c.behind-self.view_is) in
-    let u_at : slice_get d.units.items c.args.place ≡ Some c.index_mut.result.now =
-    slice_get_read d.units.items c.len.result c.args.place c.index_mut.result.now
+    let u_at : slice_get d.units.items c.args.unit_index ≡ Some c.index_mut.result.now =
+    slice_get_read d.units.items c.len.result c.args.unit_index c.index_mut.result.now
     (c.len.ensures ∙ d.units.ok.0) c.if-at-len.false c.index_mut.ensures.value in
     let w = standing shared m (seen.the_view d) in
     rw (← c.self.view_is)
-    (resets w d.seats.items refl firm.room firm.addressed (rw (← c.self.view_is) at few) c.self.invariant.limits c.args.place
+    (resets w d.seats.items refl firm.room firm.addressed (rw (← c.self.view_is) at few) c.self.invariant.limits c.args.unit_index
     c.index_mut.result.now c.phase_hard.new.unit s c.phase_hard.new.out c.phase_hard.new.waiting u_at s_at
     (Err fault.NoMemory) (rw c.in-Err-NoMemory.field-0-is at c.in-Err-NoMemory.ensures))
 
@@ -150,15 +150,15 @@ returns c shared m sound few =
     let s_at : slice_get d.seats.items d.workers ≡ Some s =
     slice_get_read d.seats.items (length d.seats.items) d.workers c.index_mut-2.result.now refl within
     c.index_mut-2.ensures.value ∙ ap (λ (z : KeptSeat). Some z) (sym c.behind-self.view_is) in
-    let u_at : slice_get d.units.items c.args.place ≡ Some c.index_mut.result.now =
-    slice_get_read d.units.items c.len.result c.args.place c.index_mut.result.now
+    let u_at : slice_get d.units.items c.args.unit_index ≡ Some c.index_mut.result.now =
+    slice_get_read d.units.items c.len.result c.args.unit_index c.index_mut.result.now
     (c.len.ensures ∙ d.units.ok.0) c.if-at-len.false c.index_mut.ensures.value in
     let w = standing shared m (seen.the_view d) in
-    let next = reset_in w d.seats.items c.args.place c.phase_hard.new.unit d.workers (listing c.phase_hard.new.out s)
+    let next = reset_in w d.seats.items c.args.unit_index c.phase_hard.new.unit d.workers (listing c.phase_hard.new.out s)
     c.phase_hard.new.waiting in
     rw (← c.self.view_is)
-    (subst (λ (k : KeptAside). TurnsOrWants w (Event.Hard c.args.place) (Ok true) (with_waiting k next))
+    (subst (λ (k : KeptAside). TurnsOrWants w (Event.Hard c.args.unit_index) (Ok true) (with_waiting k next))
     (sym c.wake.ensures.all)
-    (resets w d.seats.items refl firm.room firm.addressed (rw (← c.self.view_is) at few) c.self.invariant.limits c.args.place
+    (resets w d.seats.items refl firm.room firm.addressed (rw (← c.self.view_is) at few) c.self.invariant.limits c.args.unit_index
     c.index_mut.result.now c.phase_hard.new.unit s c.phase_hard.new.out c.phase_hard.new.waiting u_at s_at
     (Ok true) (rw c.in-Ok-true.field-0-test at c.in-Ok-true.ensures)))

@@ -18,7 +18,7 @@ invariant_of-self c =
     let s : KeptSeat = seat.the_view c.seat.inside in
     let at = found d.seats.items c.len.result k s c.index_mut-seat.result.now size c.if-at-len.false
     c.index_mut-seat.ensures.value c.seat.view_is in
-    keeps_unit d.units.items d.seats.items k c.in-Some.place c.phase_leave.new.unit s _ at
+    keeps_unit d.units.items d.seats.items k c.in-Some.unit_index c.phase_leave.new.unit s _ at
     (keeps_limit s.hand c.index_mut.result.now c.phase_leave.new.unit c.seat.inside.out c.phase_leave.new.out
     c.phase_leave.result (hand_of c.phase_leave.new.hand) c.phase_leave.ensures)
     c.self.invariant
@@ -35,15 +35,15 @@ returns c shared m sound =
     c.index.ensures c.behind-self.view_is in
     let at = found d.seats.items c.len.result k s c.index_mut-seat.result.now size c.if-at-len.false
     c.index_mut-seat.ensures.value c.seat.view_is in
-    let there = found d.units.items c.len-2.result c.in-Some.place c.index_mut.result.now c.index_mut.result.now
-    many c.if-place-len.false c.index_mut.ensures.value refl in
+    let there = found d.units.items c.len-2.result c.in-Some.unit_index c.index_mut.result.now c.index_mut.result.now
+    many c.if-unit_index-len.false c.index_mut.ensures.value refl in
     let one = one_there d.seats.items k s seen at at_seen in
-    let unit : leaving_unit s.hand ≡ Some c.in-Some.place =
+    let unit : leaving_unit s.hand ≡ Some c.in-Some.unit_index =
     ap (λ (z : KeptSeat). leaving_unit z.hand) one ∙ sym c.in-Some.ensures in
     let t = seat_with (hand_of c.phase_leave.new.hand) c.phase_leave.new.out in
     let w = standing shared m (the_view d) in
-    let next = with_unit_and_seat w c.in-Some.place c.phase_leave.new.unit d.seats.items k t in
+    let next = with_unit_and_seat w c.in-Some.unit_index c.phase_leave.new.unit d.seats.items k t in
     turns_seen shared m _ _ (Event.Leave k) c.phase_leave.result next c.self.view_is
-    (leaves w d.seats.items k c.in-Some.place s.hand c.index_mut.result.now c.phase_leave.new.unit
+    (leaves w d.seats.items k c.in-Some.unit_index s.hand c.index_mut.result.now c.phase_leave.new.unit
     c.seat.inside.out c.phase_leave.new.out (hand_of c.phase_leave.new.hand) c.phase_leave.result
     (sound_seen shared m _ _ c.self.view_is sound) c.self.invariant.limits refl at unit there c.phase_leave.ensures)

@@ -12,36 +12,36 @@ pub load-requires-clause-kept : goal.load-requires-clause-kept
 load-requires-clause-kept c =
     let d = c.self.inside in
     let u = c.index_mut.result.now in
-    let at : slice_get d.units.items c.args.place ≡ Some u =
-    slice_get_read d.units.items c.len.result c.args.place u (c.len.ensures ∙ d.units.ok.0) c.if-at-len.false
+    let at : slice_get d.units.items c.args.unit_index ≡ Some u =
+    slice_get_read d.units.items c.len.result c.args.unit_index u (c.len.ensures ∙ d.units.ok.0) c.if-at-len.false
     c.index_mut.ensures.value in
-    subst (λ (z : PlainDevice). IsKeptPage z.units c.args.place c.args.page c.args.bytes.now) (sym c.self.view_is) c.requires.kept u at
+    subst (λ (z : PlainDevice). IsKeptPage z.units c.args.unit_index c.args.page c.args.bytes.now) (sym c.self.view_is) c.requires.kept u at
 
 pub returns-clause-loaded : goal.returns-clause-loaded
 returns-clause-loaded c =
     let d = c.self.inside in
     let u = c.index_mut.result.now in
-    let at : slice_get d.units.items c.args.place ≡ Some u =
-    slice_get_read d.units.items c.len.result c.args.place u (c.len.ensures ∙ d.units.ok.0) c.if-at-len.false
+    let at : slice_get d.units.items c.args.unit_index ≡ Some u =
+    slice_get_read d.units.items c.len.result c.args.unit_index u (c.len.ensures ∙ d.units.ok.0) c.if-at-len.false
     c.index_mut.ensures.value in
     rw (← c.self.view_is)
-    (kept (seen.the_view d) c.args.place u c.load.new.self at (Dealing.Load c.args.page) c.load.result c.load.ensures.may
+    (kept (seen.the_view d) c.args.unit_index u c.load.new.self at (Dealing.Load c.args.page) c.load.result c.load.ensures.may
     c.load.ensures.loaded)
 
 pub returns-clause-otherwise : goal.returns-clause-otherwise
 returns-clause-otherwise c =
     let d = c.self.inside in
     let u = c.index_mut.result.now in
-    let at : slice_get d.units.items c.args.place ≡ Some u =
-    slice_get_read d.units.items c.len.result c.args.place u (c.len.ensures ∙ d.units.ok.0) c.if-at-len.false
+    let at : slice_get d.units.items c.args.unit_index ≡ Some u =
+    slice_get_read d.units.items c.len.result c.args.unit_index u (c.len.ensures ∙ d.units.ok.0) c.if-at-len.false
     c.index_mut.ensures.value in
-    rw (← c.self.view_is) (kept_not (seen.the_view d) c.args.place u c.load.new.self at c.load.result c.load.ensures.otherwise)
+    rw (← c.self.view_is) (kept_not (seen.the_view d) c.args.unit_index u c.load.new.self at c.load.result c.load.ensures.otherwise)
 
 pub returns-clause-err : goal.returns-clause-err
 returns-clause-err c =
     let d = c.self.inside in
     let u = c.index_mut.result.now in
-    let at : slice_get d.units.items c.args.place ≡ Some u =
-    slice_get_read d.units.items c.len.result c.args.place u (c.len.ensures ∙ d.units.ok.0) c.if-at-len.false
+    let at : slice_get d.units.items c.args.unit_index ≡ Some u =
+    slice_get_read d.units.items c.len.result c.args.unit_index u (c.len.ensures ∙ d.units.ok.0) c.if-at-len.false
     c.index_mut.ensures.value in
-    rw (← c.self.view_is) (refused (seen.the_view d) c.args.place u c.load.new.self at c.load.result c.load.ensures.err)
+    rw (← c.self.view_is) (refused (seen.the_view d) c.args.unit_index u c.load.new.self at c.load.result c.load.ensures.err)

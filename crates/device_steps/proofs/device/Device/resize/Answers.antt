@@ -20,8 +20,8 @@ returns c shared m sound few =
     let d = c.self.inside in
     let w = standing shared m (seen.the_view d) in
     let firm = sound_seen shared m _ _ c.self.view_is sound in
-    let u_at : slice_get d.units.items c.args.place ≡ Some c.index_mut.result.now =
-    slice_get_read d.units.items c.len.result c.args.place c.index_mut.result.now
+    let u_at : slice_get d.units.items c.args.unit_index ≡ Some c.index_mut.result.now =
+    slice_get_read d.units.items c.len.result c.args.unit_index c.index_mut.result.now
     (c.len.ensures ∙ d.units.ok.0) c.if-at-len.false c.index_mut.ensures.value in
     let same : told_as c.phase_resize.result ≡ c.match-phase_resize.result =
     elim c.match-phase_resize.branch [
@@ -31,7 +31,7 @@ returns c shared m sound few =
       | in-Err-NoMemory z ↦ ap told_as (z.in-Err-NoMemory.is ∙ ap (λ x. refused x) z.in-Err-NoMemory.field-0-is) ∙ sym z.result-is
     ] in
     rw (← c.self.view_is)
-    (subst (λ (r : Result Bool NoMemory). TurnsOrWants w (Event.Resize c.args.place c.args.blocks) r
-    (resized_in w c.args.place c.phase_resize.new.unit c.phase_resize.new.waiting)) same
-    (resizes w firm.addressed (rw (← c.self.view_is) at few) c.args.place c.args.blocks c.index_mut.result.now c.phase_resize.new.unit c.phase_resize.new.waiting u_at
+    (subst (λ (r : Result Bool NoMemory). TurnsOrWants w (Event.Resize c.args.unit_index c.args.blocks) r
+    (resized_in w c.args.unit_index c.phase_resize.new.unit c.phase_resize.new.waiting)) same
+    (resizes w firm.addressed (rw (← c.self.view_is) at few) c.args.unit_index c.args.blocks c.index_mut.result.now c.phase_resize.new.unit c.phase_resize.new.waiting u_at
     c.phase_resize.result c.phase_resize.ensures))

@@ -149,8 +149,8 @@ returns-in-Ok-Other-clause-turns g c =
     fetches_only made nothing asked w k q q' (c.all_are_sound.ensures w whole.reached) serves at (fits k q at) before below c.requires.asked
     (takes m may))))
 
-pub returns-then-place-len-clause-turns : goal.returns-then-place-len-clause-turns
-returns-then-place-len-clause-turns g c =
+pub returns-then-unit_index-len-clause-turns : goal.returns-then-unit_index-len-clause-turns
+returns-then-unit_index-len-clause-turns g c =
     let d = c.self.inside in
     let k = c.args.number in
     let shared = g.M.Memory.shared in
@@ -173,8 +173,8 @@ returns-then-place-len-clause-turns g c =
     let nothing : made [] = none_known g.M.Memory.stored g.M.Memory.storing g.met.M.Memory.none c.args.memory.now take.new.memory
     take.ensures.stores in
     rw (← c.self.view_is)
-    (one_fetch shared g.M.Memory.may_be stored asked c.args.most c.args.memory.now v cursor.Start c.one-then-place-len.result
-    take.new.memory v' (omega (arith, c.requires.most)) c.one-then-place-len.ensures c.size-read.ensures.some
+    (one_fetch shared g.M.Memory.may_be stored asked c.args.most c.args.memory.now v cursor.Start c.one-then-unit_index-len.result
+    take.new.memory v' (omega (arith, c.requires.most)) c.one-then-unit_index-len.ensures c.size-read.ensures.some
     (read_once shared g.M.Memory.may_be c.args.memory.now take.new.memory
     (λ found left seen. StepsNext asked (Sees made left seen) (standing shared found v) cursor.Start (standing shared left v'))
     take.ensures.stays
@@ -237,10 +237,10 @@ invariant_of-self-in-Ok-Arrived g c =
     c.take_request_in-taken.new.queue done.new.queue each.0 left.0 behind.0 (slot_of c.take_request_in-taken.new.slot)
     (slot_of done.new.slot) c.behind-self.inside.out done.new.out done.result left.2 in
     let t : KeptSeat = seat.the_view (record { hand = c.behind-self.inside.hand; out = done.new.out }) in
-    keeps_unit d.units.items d.seats.items 0 c.unit-place.result done.new.unit s t seat_at keeps c.self.invariant
+    keeps_unit d.units.items d.seats.items 0 c.unit-unit_index.result done.new.unit s t seat_at keeps c.self.invariant
 
-pub returns-else-place-len-clause-turns : goal.returns-else-place-len-clause-turns
-returns-else-place-len-clause-turns g c =
+pub returns-else-unit_index-len-clause-turns : goal.returns-else-unit_index-len-clause-turns
+returns-else-unit_index-len-clause-turns g c =
     let d = c.self.inside in
     let k = c.args.number in
     let shared = g.M.Memory.shared in
@@ -275,11 +275,11 @@ returns-else-place-len-clause-turns g c =
     let u = c.index_mut.result.now in
     let u' = done.new.unit in
     let q' = with_slot s' done.new.queue in
-    let unit_at : slice_get d.units.items c.unit-place.result ≡ Some u =
-    found d.units.items c.len.result c.unit-place.result u u (omega (arith, d.units.ok.0, c.len.ensures)) c.if-place-len.false
+    let unit_at : slice_get d.units.items c.unit-unit_index.result ≡ Some u =
+    found d.units.items c.len.result c.unit-unit_index.result u u (omega (arith, d.units.ok.0, c.len.ensures)) c.if-unit_index-len.false
     c.index_mut.ensures.value refl in
     let u_at : slice_get d.units.items x.unit ≡ Some u =
-    ap (λ (n : ℕ). slice_get d.units.items n) (sym c.unit-place.ensures) ∙ unit_at in
+    ap (λ (n : ℕ). slice_get d.units.items n) (sym c.unit-unit_index.ensures) ∙ unit_at in
     let t : KeptSeat = seat_with s.hand out' in
     let there : slice_get (slice_set d.seats.items 0 t) 0 ≡ Some t =
     get_set d.seats.items 0 t (omega (arith, some, d.seats.ok.0)) in
@@ -303,7 +303,7 @@ returns-else-place-len-clause-turns g c =
     let v' : PlainDevice =
     record v {
       queues = slice_set v.queues k q';
-      units = slice_set v.units c.unit-place.result u';
+      units = slice_set v.units c.unit-unit_index.result u';
       seats = map seat_of (slice_set d.seats.items 0 t);
     } in
     let served_at : (m : List ℕ) → may_be mid m → MayServe k (standing shared m v) =
@@ -349,7 +349,7 @@ returns-else-place-len-clause-turns g c =
     ServedKept asked later seen w1 (set_all w left k q' x.unit u' d.seats.items (seat_with e out')) done.result n)
     (sym (ap (λ (z : KeptSeat). z.hand) bare_is)) base in
     subst (λ (p : ℕ). ServedKept asked later seen w1 (set_all w left k q' p u' d.seats.items (seat_with s.hand out')) done.result n)
-    (sym c.unit-place.ensures) with_hand in
+    (sym c.unit-unit_index.ensures) with_hand in
     let behind = c.size-bytes.ensures.some in
     let each = done.ensures.serves behind.0 behind.1 in
     let left = each.2 in
@@ -387,8 +387,8 @@ returns-in-Err-clause-room g c = λ n is h. absurd (cc is)
 pub returns-in-Ok-Other-clause-room : goal.returns-in-Ok-Other-clause-room
 returns-in-Ok-Other-clause-room g c = λ n is h. absurd (cc is)
 
-pub returns-then-place-len-clause-room : goal.returns-then-place-len-clause-room
-returns-then-place-len-clause-room g c = λ n is h. absurd (cc is)
+pub returns-then-unit_index-len-clause-room : goal.returns-then-unit_index-len-clause-room
+returns-then-unit_index-len-clause-room g c = λ n is h. absurd (cc is)
 
-pub returns-else-place-len-clause-room : goal.returns-else-place-len-clause-room
-returns-else-place-len-clause-room g c = λ n is h. absurd (cc is)
+pub returns-else-unit_index-len-clause-room : goal.returns-else-unit_index-len-clause-room
+returns-else-unit_index-len-clause-room g c = λ n is h. absurd (cc is)

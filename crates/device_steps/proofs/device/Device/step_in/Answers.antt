@@ -72,7 +72,7 @@ pub returns-in-Hard-clause-turns : goal.returns-in-Hard-clause-turns
 returns-in-Hard-clause-turns g c =
     rw (c.in-Hard.is)
     (alone_in_or g.M.Memory.shared (g.M.Memory.may_be c.args.memory.now)
-    (Stored g.M.Memory.stored g.M.Memory.storing c.args.memory.now c.args.memory.now) c.args.self.now (Event.Hard c.in-Hard.place) c.hard.result c.hard.new.self
+    (Stored g.M.Memory.stored g.M.Memory.storing c.args.memory.now c.args.memory.now) c.args.self.now (Event.Hard c.in-Hard.unit_index) c.hard.result c.hard.new.self
     (none_known g.M.Memory.stored g.M.Memory.storing g.met.M.Memory.none c.args.memory.now c.args.memory.now refl) tt
     c.requires.sound c.requires.few c.hard.ensures)
 
@@ -80,7 +80,7 @@ pub returns-in-Resize-clause-turns : goal.returns-in-Resize-clause-turns
 returns-in-Resize-clause-turns g c =
     rw (c.in-Resize.is)
     (alone_in_or g.M.Memory.shared (g.M.Memory.may_be c.args.memory.now)
-    (Stored g.M.Memory.stored g.M.Memory.storing c.args.memory.now c.args.memory.now) c.args.self.now (Event.Resize c.in-Resize.place c.in-Resize.blocks) c.resize.result c.resize.new.self
+    (Stored g.M.Memory.stored g.M.Memory.storing c.args.memory.now c.args.memory.now) c.args.self.now (Event.Resize c.in-Resize.unit_index c.in-Resize.blocks) c.resize.result c.resize.new.self
     (none_known g.M.Memory.stored g.M.Memory.storing g.met.M.Memory.none c.args.memory.now c.args.memory.now refl) tt
     c.requires.sound c.requires.few c.resize.ensures)
 

@@ -10,27 +10,27 @@ pub returns-clause-kept : goal.returns-clause-kept
 returns-clause-kept c =
     let d = c.self.inside in
     let u = c.index_mut.result.now in
-    let at : slice_get d.units.items c.args.place ≡ Some u =
-    slice_get_read d.units.items c.len.result c.args.place u (c.len.ensures ∙ d.units.ok.0) c.if-at-len.false
+    let at : slice_get d.units.items c.args.unit_index ≡ Some u =
+    slice_get_read d.units.items c.len.result c.args.unit_index u (c.len.ensures ∙ d.units.ok.0) c.if-at-len.false
     c.index_mut.ensures.value in
     rw (← c.self.view_is)
-    (kept (seen.the_view d) c.args.place u c.written.new.self at (Dealing.Keep c.args.page) c.written.result c.written.ensures.may
+    (kept (seen.the_view d) c.args.unit_index u c.written.new.self at (Dealing.Keep c.args.page) c.written.result c.written.ensures.may
     c.written.ensures.kept)
 
 pub returns-clause-otherwise : goal.returns-clause-otherwise
 returns-clause-otherwise c =
     let d = c.self.inside in
     let u = c.index_mut.result.now in
-    let at : slice_get d.units.items c.args.place ≡ Some u =
-    slice_get_read d.units.items c.len.result c.args.place u (c.len.ensures ∙ d.units.ok.0) c.if-at-len.false
+    let at : slice_get d.units.items c.args.unit_index ≡ Some u =
+    slice_get_read d.units.items c.len.result c.args.unit_index u (c.len.ensures ∙ d.units.ok.0) c.if-at-len.false
     c.index_mut.ensures.value in
-    rw (← c.self.view_is) (kept_not (seen.the_view d) c.args.place u c.written.new.self at c.written.result c.written.ensures.otherwise)
+    rw (← c.self.view_is) (kept_not (seen.the_view d) c.args.unit_index u c.written.new.self at c.written.result c.written.ensures.otherwise)
 
 pub returns-clause-err : goal.returns-clause-err
 returns-clause-err c =
     let d = c.self.inside in
     let u = c.index_mut.result.now in
-    let at : slice_get d.units.items c.args.place ≡ Some u =
-    slice_get_read d.units.items c.len.result c.args.place u (c.len.ensures ∙ d.units.ok.0) c.if-at-len.false
+    let at : slice_get d.units.items c.args.unit_index ≡ Some u =
+    slice_get_read d.units.items c.len.result c.args.unit_index u (c.len.ensures ∙ d.units.ok.0) c.if-at-len.false
     c.index_mut.ensures.value in
-    rw (← c.self.view_is) (refused (seen.the_view d) c.args.place u c.written.new.self at c.written.result c.written.ensures.err)
+    rw (← c.self.view_is) (refused (seen.the_view d) c.args.unit_index u c.written.new.self at c.written.result c.written.ensures.err)

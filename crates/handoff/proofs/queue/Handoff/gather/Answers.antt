@@ -1,7 +1,7 @@
 use Rattle.std.proofs.Common.{◌≡◌, ◌<◌, ℕ, [], ◌∷◌, length, ap, sym, ◌∙◌, subst, arith}
 use Rattle.std.proofs.lemmas.List.{nil_from_length, length-map}
 use Rattle.handoff.specs.Inner.Moves.{AreSettled}
-use Rattle.handoff.specs.Places.{PlainPlace}
+use Rattle.handoff.specs.Ends.{PlainEnd}
 use Rattle.handoff.specs.Seats.{PlainSeat}
 use Rattle.handoff.specs.Inner.Seats.{AreSeatsFrom, IsSeated, HandedOver}
 use Rattle.handoff.proofs.Lists.{stands_at}
@@ -16,17 +16,17 @@ returns-in_default c =
 
 pub loop-seat-init : goal.loop-seat-init
 loop-seat-init c =
-    let places = c.first.inside.places.items in
+    let ends = c.first.inside.ends.items in
     let items : c.args.seats.items ≡ c.in-Some.first ∷ c.into_iter-seat-iterator.result.rest.items = cc (c.in-Some.ensures.items, c.into_iter-seats.ensures.rest, c.into_iter-seat-iterator.ensures.into_iter_gives) in
-    gather_start c.args.self.now c.in-Some.first _ c.args.seats.items places
-    (subst (λ (z : PlainSeat). IsSeated z places) c.first.view_is c.first.invariant)
+    gather_start c.args.self.now c.in-Some.first _ c.args.seats.items ends
+    (subst (λ (z : PlainSeat). IsSeated z ends) c.first.view_is c.first.invariant)
     (ap (λ (z : PlainSeat). z.queues) c.first.view_is) c.requires.in_order items
 
 pub loop-seat-preserved : goal.loop-seat-preserved
 loop-seat-preserved c =
-    let places = c.seat.inside.places.items in
-    gather_more c.args.self.now c.in-Some-seat.seat _ c.args.seats.items places
-    (subst (λ (z : PlainSeat). IsSeated z places) c.seat.view_is c.seat.invariant)
+    let ends = c.seat.inside.ends.items in
+    gather_more c.args.self.now c.in-Some-seat.seat _ c.args.seats.items ends
+    (subst (λ (z : PlainSeat). IsSeated z ends) c.seat.view_is c.seat.invariant)
     (ap (λ (z : PlainSeat). z.queues) c.seat.view_is) _ c.loop-seat.chiefs.items c.absorb.new.chiefs.items
     c.loop-seat.invariant c.in-Some-seat.ensures.steps.0 c.absorb.ensures.at c.absorb.ensures.joined
 
@@ -46,9 +46,9 @@ returns c =
     let order : AreSeatsFrom hub 0 (c.in-Some.first ∷ c.into_iter-seat-iterator.result.rest.items) = subst (AreSeatsFrom hub 0) items c.requires.in_order in
     let a = ap length (ap (λ (z : PlainSeat). z.queues) c.first.view_is ∙ order.0.queues) in
     let b = ap (λ (z : PlainSeat). z.seats) c.first.view_is in
-    let d = ap length g.places in
-    let x = length-map c.first.inside.places.items (λ (p : PlainPlace). p.queue) in
-    let y = length-map chiefs (λ (p : PlainPlace). p.queue) in
+    let d = ap length g.ends in
+    let x = length-map c.first.inside.ends.items (λ (p : PlainEnd). p.queue) in
+    let y = length-map chiefs (λ (p : PlainEnd). p.queue) in
     let many : length chiefs ≡ length all = omega (arith, a, b, d, x, y, order.0.seats, c.requires.count) in
     let left = c.learn.ensures.0 in
     let each : (q : ℕ) → q < length all → HandedOver all q (left q) = λ q lt.

@@ -12,8 +12,8 @@ invariant_of-push_reserved c =
     let n = c.loop-number.number in
     let some : 0 < n = omega (arith, c.loop-number.invariant.count) in
     let within : n < length lanes = omega (arith, c.loop-number-test.true, c.in_ok-lanes.ensures.count) in
-    made_seated (newcomer (lead n)) lanes c.as_slice.result.now c.in_ok-places.places.items c.new.result.items n
-    c.as_slice.ensures.value c.in_ok-places.ensures.places c.new.ensures within (λ q. newcomer_is lanes n some q)
+    made_seated (newcomer (lead n)) lanes c.as_slice.result.now c.in_ok-ends.ends.items c.new.result.items n
+    c.as_slice.ensures.value c.in_ok-ends.ensures.ends c.new.ensures within (λ q. newcomer_is lanes n some q)
 
 pub loop-number-preserved : goal.loop-number-preserved
 loop-number-preserved c =
@@ -23,10 +23,10 @@ loop-number-preserved c =
     let some : 0 < n = omega (arith, old.count) in
     let within : n < length lanes = omega (arith, c.loop-number-test.true, c.in_ok-lanes.ensures.count) in
     let is =
-    made_seat (newcomer (lead n)) lanes c.as_slice.result.now c.in_ok-places.places.items c.new.result.items n
-    c.as_slice.ensures.value c.in_ok-places.ensures.places c.new.ensures within (λ q. newcomer_is lanes n some q) in
+    made_seat (newcomer (lead n)) lanes c.as_slice.result.now c.in_ok-ends.ends.items c.new.result.items n
+    c.as_slice.ensures.value c.in_ok-ends.ensures.ends c.new.ensures within (λ q. newcomer_is lanes n some q) in
     record {
-      chiefs = c.in_ok-places.ensures.chiefs ∙ ap (λ ls. at_each (lead (n + 1)) ls) c.as_slice.ensures.value;
+      chiefs = c.in_ok-ends.ensures.chiefs ∙ ap (λ ls. at_each (lead (n + 1)) ls) c.as_slice.ensures.value;
       seats =
           rw c.push_reserved.ensures.items
           (seats_snoc (hub_of c.args.capacity lanes) 1 c.loop-number.all.items _ old.seats

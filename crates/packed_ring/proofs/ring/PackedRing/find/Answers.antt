@@ -26,4 +26,4 @@ pub returns-in-Err-clause-finds : goal.returns-in-Err-clause-finds
 returns-in-Err-clause-finds g c = λ m s.
     let asked = c.requires.some m (c.walk.ensures.stays m s) in
     let f = c.in-Err.ensures.walked m s in
-    fault_found c.args.self.now m c.in-Err.fault asked (rw (c.layout-layout.ensures, c.available_place-place.ensures, c.features.ensures, c.self.view_is) at f)
+    fault_found c.args.self.now m c.in-Err.fault asked (rw (c.layout-layout.ensures, c.available_place-next.ensures, c.features.ensures, c.self.view_is) at f)

@@ -12,12 +12,12 @@ pub returns-clause-address : goal.returns-clause-address
 returns-clause-address c =
     let none : Address = record { target = 0; lun = 0 } in
     let nothing : Known = record { profile = Narrow; write_cache = false; number = 0 } in
-    let within : c.args.place < length c.self.inside.addresses.items =
-    subst (λ (i : PlainInventory). c.args.place < length i.addresses) (sym c.self.view_is) c.requires.place in
-    let known = subst (λ n. c.args.place < n) (sym c.self.invariant.1) within in
-    let is = numbered c.self.inside.known.items c.self.inside.addresses.items c.args.place nothing none c.self.invariant.2 known within in
+    let within : c.args.unit_index < length c.self.inside.addresses.items =
+    subst (λ (i : PlainInventory). c.args.unit_index < length i.addresses) (sym c.self.view_is) c.requires.unit_index in
+    let known = subst (λ n. c.args.unit_index < n) (sym c.self.invariant.1) within in
+    let is = numbered c.self.inside.known.items c.self.inside.addresses.items c.args.unit_index nothing none c.self.invariant.2 known within in
     rw (← c.self.view_is, c.as_slice-2.ensures.value)
-    (slice_get-get_or c.self.inside.addresses.items c.args.place none within
+    (slice_get-get_or c.self.inside.addresses.items c.args.unit_index none within
     ∙ ap (λ (a : Address). Some a)
     (sym (rw c.as_slice.ensures.value at c.number-number.ensures.address)
     ∙ ap address_at (rw c.as_slice.ensures.value at c.number-number.ensures.number ∙ sym is)))

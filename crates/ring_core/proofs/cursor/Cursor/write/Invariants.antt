@@ -12,7 +12,7 @@ invariant-loop-parts g l =
       stores : g.M.Memory.storing (g.M.Memory.stored l.memory) (stores_of (scatter_writes (drop l.index l.parts) l.skip l.rest))
           ≡ g.M.Memory.storing (g.M.Memory.stored l.fn.memory) (stores_of (scatter_writes (drop l.initial.index l.parts) l.initial.skip l.fn.bytes));
       parts : l.parts ≡ l.fn.self.parts;
-      place : writable_total (take l.index l.parts) + l.skip + length l.rest ≡ l.fn.self.at + length l.fn.bytes;
+      position : writable_total (take l.index l.parts) + l.skip + length l.rest ≡ l.fn.self.at + length l.fn.bytes;
       size : g.M.Memory.extent l.memory ≡ g.M.Memory.extent l.fn.memory;
     }
 

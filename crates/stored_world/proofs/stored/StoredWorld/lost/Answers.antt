@@ -13,6 +13,6 @@ invariant_of-self c =
     let new = c.lost.new.self in
     record {
       hosted =
-          hosted_by_told c.lost.result old.world new c.args.place (Dealing.Lose c.args.page) old.disks.items c.lost.ensures.lost c.lost.ensures.otherwise
+          hosted_by_told c.lost.result old.world new c.args.unit_index (Dealing.Lose c.args.page) old.disks.items c.lost.ensures.lost c.lost.ensures.otherwise
           (λ s b. refl) (λ s b. refl) old.hosted;
     }

@@ -9,6 +9,6 @@ invariant_of-self c =
     let old = c.args.self.now in
     record {
       hosted =
-          hosted_set old.world.units old.disks.items c.args.place (Some c.args.disk)
+          hosted_set old.world.units old.disks.items c.args.unit_index (Some c.args.disk)
           (λ h is u at. subst (λ x. IsHosted u x) (same is) (c.requires.hosted u at)) old.hosted;
     }

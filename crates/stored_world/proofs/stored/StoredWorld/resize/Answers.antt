@@ -13,7 +13,7 @@ invariant_of-self c =
     let taken = c.take_disk-disk.new.self in
     record {
       hosted =
-          hosted_by_resize c.step-resized.result taken.world c.step-resized.new.self c.args.place c.args.blocks taken.disks.items c.step-resized.ensures.steps
+          hosted_by_resize c.step-resized.result taken.world c.step-resized.new.self c.args.unit_index c.args.blocks taken.disks.items c.step-resized.ensures.steps
           c.take_disk-disk.ensures.gone taken.hosted;
     }
 
@@ -25,9 +25,9 @@ put_disk-requires c =
     let units = ap (λ (w : PlainWorld). w.units) c.take_disk-disk.ensures.world in
     record {
       hosted =
-          hosted_of_resize taken.world c.step-resized.new.self c.args.place c.args.blocks disk h
-          (subst (λ t. IsStep taken.world (Event.Resize c.args.place c.args.blocks) t c.step-resized.new.self) c.in-Ok-true.field-0-test c.in-Ok-true.ensures.steps)
-          (hosted_still c.args.self.now.world.units taken.world.units c.args.place disk units c.in-Some.ensures.disk)
+          hosted_of_resize taken.world c.step-resized.new.self c.args.unit_index c.args.blocks disk h
+          (subst (λ t. IsStep taken.world (Event.Resize c.args.unit_index c.args.blocks) t c.step-resized.new.self) c.in-Ok-true.field-0-test c.in-Ok-true.ensures.steps)
+          (hosted_still c.args.self.now.world.units taken.world.units c.args.unit_index disk units c.in-Some.ensures.disk)
           (λ b. c.cut.ensures.given b ∙ ap (λ n. cut n (given_blocks disk.storage) b) c.min-end.ensures)
           (λ b. c.cut.ensures.kept b ∙ ap (λ n. cut n (kept_blocks disk.storage) b) c.min-end.ensures) refl;
     }
@@ -35,12 +35,12 @@ put_disk-requires c =
 pub put_disk-requires-in-Ok-false : goal.put_disk-requires-in-Ok-false
 put_disk-requires-in-Ok-false c =
     let taken = c.take_disk-disk.new.self in
-    let units = unresized_units taken.world c.step-resized.new.self c.args.place c.args.blocks
-    (subst (λ t. IsStep taken.world (Event.Resize c.args.place c.args.blocks) t c.step-resized.new.self) c.in-Ok-false.field-0-test c.in-Ok-false.ensures.steps)
+    let units = unresized_units taken.world c.step-resized.new.self c.args.unit_index c.args.blocks
+    (subst (λ t. IsStep taken.world (Event.Resize c.args.unit_index c.args.blocks) t c.step-resized.new.self) c.in-Ok-false.field-0-test c.in-Ok-false.ensures.steps)
     ∙ ap (λ (w : PlainWorld). w.units) c.take_disk-disk.ensures.world in
-    record { hosted = hosted_still c.args.self.now.world.units c.step-resized.new.self.units c.args.place c.in-Some.disk units c.in-Some.ensures.disk }
+    record { hosted = hosted_still c.args.self.now.world.units c.step-resized.new.self.units c.args.unit_index c.in-Some.disk units c.in-Some.ensures.disk }
 
 pub put_disk-requires-in-Err : goal.put_disk-requires-in-Err
 put_disk-requires-in-Err c =
     let units = ap (λ (w : PlainWorld). w.units) (c.in-Err.ensures.steps.1 ∙ c.take_disk-disk.ensures.world) in
-    record { hosted = hosted_still c.args.self.now.world.units c.step-resized.new.self.units c.args.place c.in-Some.disk units c.in-Some.ensures.disk }
+    record { hosted = hosted_still c.args.self.now.world.units c.step-resized.new.self.units c.args.unit_index c.in-Some.disk units c.in-Some.ensures.disk }

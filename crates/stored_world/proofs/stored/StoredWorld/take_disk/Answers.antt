@@ -13,7 +13,7 @@ invariant_of-self c =
     let old = c.args.self.now in
     record {
       hosted =
-          hosted_set old.world.units old.disks.items c.args.place c.replace.new.dest (λ h is u at. absurd (nothing (sym c.replace.ensures.after ∙ is)))
+          hosted_set old.world.units old.disks.items c.args.unit_index c.replace.new.dest (λ h is u at. absurd (nothing (sym c.replace.ensures.after ∙ is)))
           old.hosted;
     }
 
@@ -21,13 +21,13 @@ pub returns-clause-disk : goal.returns-clause-disk
 returns-clause-disk c =
     let old = c.args.self.now in
     let items = old.disks.items in
-    let within : c.args.place < length items = omega (arith, c.if-place-len.false, c.len.ensures) in
-    let there = slice_get_read items (length items) c.args.place c.index_mut.result.now refl within c.index_mut.ensures.value in
-    on_some c.replace.result (λ h. (u : PlainUnit) → slice_get old.world.units c.args.place ≡ Some u → IsHosted u h)
-    (λ h is u at. old.hosted c.args.place u h at (there ∙ ap Some (sym c.replace.ensures.value ∙ is)))
+    let within : c.args.unit_index < length items = omega (arith, c.if-unit_index-len.false, c.len.ensures) in
+    let there = slice_get_read items (length items) c.args.unit_index c.index_mut.result.now refl within c.index_mut.ensures.value in
+    on_some c.replace.result (λ h. (u : PlainUnit) → slice_get old.world.units c.args.unit_index ≡ Some u → IsHosted u h)
+    (λ h is u at. old.hosted c.args.unit_index u h at (there ∙ ap Some (sym c.replace.ensures.value ∙ is)))
 
 pub returns-clause-gone : goal.returns-clause-gone
 returns-clause-gone c = λ h at.
     let items = c.args.self.now.disks.items in
-    let within : c.args.place < length items = omega (arith, c.if-place-len.false, c.len.ensures) in
-    gone_at items c.args.place h within (ap (λ o. slice_get (set items c.args.place o) c.args.place) (sym c.replace.ensures.after) ∙ at)
+    let within : c.args.unit_index < length items = omega (arith, c.if-unit_index-len.false, c.len.ensures) in
+    gone_at items c.args.unit_index h within (ap (λ o. slice_get (set items c.args.unit_index o) c.args.unit_index) (sym c.replace.ensures.after) ∙ at)

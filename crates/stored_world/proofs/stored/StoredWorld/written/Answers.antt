@@ -11,7 +11,7 @@ invariant_of-self c =
     let e = c.written.ensures in
     record {
       hosted =
-          hosted_by_written c.written.result taken.world c.written.new.self c.args.place (Dealing.Keep c.args.page) taken.disks.items e.kept e.otherwise e.err
+          hosted_by_written c.written.result taken.world c.written.new.self c.args.unit_index (Dealing.Keep c.args.page) taken.disks.items e.kept e.otherwise e.err
           c.take_disk.ensures.gone taken.hosted;
     }
 
@@ -23,17 +23,17 @@ put_disk-requires c =
     let units = ap (λ (w : PlainWorld). w.units) c.take_disk.ensures.world in
     record {
       hosted =
-          hosted_of_deal taken.world c.written.new.self c.args.place (Dealing.Keep c.args.page) disk h (c.in-Ok-true.ensures.kept c.in-Ok-true.field-0-test)
-          (hosted_still c.args.self.now.world.units taken.world.units c.args.place disk units c.in-Some.ensures.disk) c.in_ok-keep-in-Ok-true.ensures.given
+          hosted_of_deal taken.world c.written.new.self c.args.unit_index (Dealing.Keep c.args.page) disk h (c.in-Ok-true.ensures.kept c.in-Ok-true.field-0-test)
+          (hosted_still c.args.self.now.world.units taken.world.units c.args.unit_index disk units c.in-Some.ensures.disk) c.in_ok-keep-in-Ok-true.ensures.given
           c.in_ok-keep-in-Ok-true.ensures.kept refl;
     }
 
 pub put_disk-requires-in-Ok-false : goal.put_disk-requires-in-Ok-false
 put_disk-requires-in-Ok-false c =
     let units = ap (λ (w : PlainWorld). w.units) (c.in-Ok-false.ensures.otherwise c.in-Ok-false.field-0-test ∙ c.take_disk.ensures.world) in
-    record { hosted = hosted_still c.args.self.now.world.units c.written.new.self.units c.args.place c.in-Some.disk units c.in-Some.ensures.disk }
+    record { hosted = hosted_still c.args.self.now.world.units c.written.new.self.units c.args.unit_index c.in-Some.disk units c.in-Some.ensures.disk }
 
 pub put_disk-requires-in-Err : goal.put_disk-requires-in-Err
 put_disk-requires-in-Err c =
     let units = ap (λ (w : PlainWorld). w.units) (c.in-Err.ensures.err ∙ c.take_disk.ensures.world) in
-    record { hosted = hosted_still c.args.self.now.world.units c.written.new.self.units c.args.place c.in-Some.disk units c.in-Some.ensures.disk }
+    record { hosted = hosted_still c.args.self.now.world.units c.written.new.self.units c.args.unit_index c.in-Some.disk units c.in-Some.ensures.disk }

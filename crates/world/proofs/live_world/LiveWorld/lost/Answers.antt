@@ -13,8 +13,8 @@ invariant_of-self g c =
     let d = c.self.inside.device in
     let d' = c.lost.new.self in
     let x = Dealing.Lose c.args.page in
-    lost_or (IsDealt d c.args.place x d') (d' ≡ d) (IsSteadyIn shared size d')
-    (λ h m long. deal_steady d c.args.place x d' h shared m (c.self.invariant m long))
+    lost_or (IsDealt d c.args.unit_index x d') (d' ≡ d) (IsSteadyIn shared size d')
+    (λ h m long. deal_steady d c.args.unit_index x d' h shared m (c.self.invariant m long))
     (λ same. subst (λ (z : PlainDevice). IsSteadyIn shared size z) (sym same) c.self.invariant) c.lost.result
     c.lost.ensures.lost c.lost.ensures.otherwise
 
@@ -24,6 +24,6 @@ returns-clause-lost g c =
     let d' = c.lost.new.self in
     let x = Dealing.Lose c.args.page in
     rw (← c.self.view_is)
-    (each_lost (IsDealt d c.args.place x d') _
-    (λ h. deal_live d c.args.place x d' h c.the_promise_is_kept.ensures c.every_run_goes_on.ensures.run
+    (each_lost (IsDealt d c.args.unit_index x d') _
+    (λ h. deal_live d c.args.unit_index x d' h c.the_promise_is_kept.ensures c.every_run_goes_on.ensures.run
     c.a_live_run_is_a_run.ensures g.M.Memory.shared (g.M.Memory.extent c.self.inside.memory)) c.lost.result c.lost.ensures.lost)

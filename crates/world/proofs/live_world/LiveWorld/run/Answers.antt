@@ -12,8 +12,8 @@ use Rattle.world.proofs.Lively.{each_next, each_none, ran_step, ran_none, ran_st
 use Rattle.world.proofs.live_world.LiveWorld.run.Goals.{then-branch, else-branch}
 use Rattle.world.proofs.live_world.LiveWorld.run.Goals as goal
 
-pub loop-place-init : goal.loop-place-init
-loop-place-init g c =
+pub loop-index-init : goal.loop-index-init
+loop-index-init g c =
     record {
       runs = each_none (StepsLive g.M.Memory.shared g.M.Memory.begins g.M.Memory.may_be
           (Stored g.M.Memory.stored g.M.Memory.storing)) c.args.self.now;
@@ -26,31 +26,31 @@ loop-place-init g c =
       few = omega (arith);
     }
 
-pub loop-place-preserved : goal.loop-place-preserved
-loop-place-preserved g c =
-    let e = c.index-events-place.result in
+pub loop-index-preserved : goal.loop-index-preserved
+loop-index-preserved g c =
+    let e = c.index-events-index.result in
     let b = c.in_ok-step_by.field-0 in
-    let n = c.loop-place.count in
-    let xs = take c.loop-place.place c.args.events.now in
-    let ys = take (c.loop-place.place + 1) c.args.events.now in
+    let n = c.loop-index.count in
+    let xs = take c.loop-index.index c.args.events.now in
+    let ys = take (c.loop-index.index + 1) c.args.events.now in
     let shared = g.M.Memory.shared in
     let stored = Stored g.M.Memory.stored g.M.Memory.storing in
     let size = g.M.Memory.extent c.args.self.now.memory in
     let old = c.args.self.now in
-    let mid = c.loop-place.self in
+    let mid = c.loop-index.self in
     let new = c.step_by.new.self in
-    let there = read_there c.args.events.now c.loop-place.place e
-    (omega (arith, c.loop-place-test.true, c.loop-place.invariant.all)) c.index-events-place.is in
-    let next = sym (take_next c.loop-place.place c.args.events.now e there) in
-    let long : g.M.Memory.extent new.memory ≡ size = c.in_ok-step_by.ensures.size ∙ c.loop-place.invariant.size in
+    let there = read_there c.args.events.now c.loop-index.index e
+    (omega (arith, c.loop-index-test.true, c.loop-index.invariant.all)) c.index-events-index.is in
+    let next = sym (take_next c.loop-index.index c.args.events.now e there) in
+    let long : g.M.Memory.extent new.memory ≡ size = c.in_ok-step_by.ensures.size ∙ c.loop-index.invariant.size in
     let did : StepsEach (StepsLive shared g.M.Memory.begins g.M.Memory.may_be stored) old (events_of ys) (n + bit b) new =
     subst (λ zs. StepsEach (StepsLive shared g.M.Memory.begins g.M.Memory.may_be stored) old (events_of zs) (n + bit b) new) next
-    (each_next (StepsLive shared g.M.Memory.begins g.M.Memory.may_be stored) old mid new xs n e b c.loop-place.invariant.runs c.in_ok-step_by.ensures.steps) in
-    let on = subst (λ k. StepRan stored shared k mid (plain_event e) (Ok b) new) c.loop-place.invariant.size
+    (each_next (StepsLive shared g.M.Memory.begins g.M.Memory.may_be stored) old mid new xs n e b c.loop-index.invariant.runs c.in_ok-step_by.ensures.steps) in
+    let on = subst (λ k. StepRan stored shared k mid (plain_event e) (Ok b) new) c.loop-index.invariant.size
     c.in_ok-step_by.ensures.ran in
     let ran : RanLive (stored old.memory new.memory) shared size old.device (events_of ys) (n + bit b) new.device =
     subst (λ zs. RanLive (stored old.memory new.memory) shared size old.device (events_of zs) (n + bit b) new.device) next
-    (ran_step stored shared size old mid xs n e b new c.loop-place.invariant.ran on) in
+    (ran_step stored shared size old mid xs n e b new c.loop-index.invariant.ran on) in
     elim c.if-branch.branch [
       | then-branch t ↦ record {
         runs = subst (λ k. StepsEach (StepsLive shared g.M.Memory.begins g.M.Memory.may_be stored) old (events_of ys) k new)
@@ -58,8 +58,8 @@ loop-place-preserved g c =
         ran = subst (λ k. RanLive (stored old.memory new.memory) shared size old.device (events_of ys) k new.device)
             (counts_one n c.if-branch.count b t.if-branch.true t.count-is) ran;
         size = long;
-        all = c.loop-place.invariant.all;
-        few = omega (arith, t.count-is, c.loop-place.invariant.few);
+        all = c.loop-index.invariant.all;
+        few = omega (arith, t.count-is, c.loop-index.invariant.few);
       }
       | else-branch t ↦ record {
         runs = subst (λ k. StepsEach (StepsLive shared g.M.Memory.begins g.M.Memory.may_be stored) old (events_of ys) k new)
@@ -67,87 +67,87 @@ loop-place-preserved g c =
         ran = subst (λ k. RanLive (stored old.memory new.memory) shared size old.device (events_of ys) k new.device)
             (counts_none n c.if-branch.count b t.if-branch.false t.count-is) ran;
         size = long;
-        all = c.loop-place.invariant.all;
-        few = omega (arith, t.count-is, c.loop-place.invariant.few);
+        all = c.loop-index.invariant.all;
+        few = omega (arith, t.count-is, c.loop-index.invariant.few);
       }
     ]
 
 pub returns-in_err-step_by-clause-runs : goal.returns-in_err-step_by-clause-runs
 returns-in_err-step_by-clause-runs g c =
-    let e = c.index-events-place.result in
-    let there = read_there c.args.events.now c.loop-place.place e
-    (omega (arith, c.loop-place-test.true, c.loop-place.invariant.all)) c.index-events-place.is in
+    let e = c.index-events-index.result in
+    let there = read_there c.args.events.now c.loop-index.index e
+    (omega (arith, c.loop-index-test.true, c.loop-index.invariant.all)) c.index-events-index.is in
     all_refused (StepsLive g.M.Memory.shared g.M.Memory.begins g.M.Memory.may_be
-    (Stored g.M.Memory.stored g.M.Memory.storing)) c.args.self.now c.loop-place.self
-    c.step_by.new.self c.args.events.now c.loop-place.place e c.loop-place.count c.from_residual.result
-    c.from_residual.ensures.0 there c.loop-place.invariant.runs (λ fault. c.in_err-step_by.ensures.steps)
+    (Stored g.M.Memory.stored g.M.Memory.storing)) c.args.self.now c.loop-index.self
+    c.step_by.new.self c.args.events.now c.loop-index.index e c.loop-index.count c.from_residual.result
+    c.from_residual.ensures.0 there c.loop-index.invariant.runs (λ fault. c.in_err-step_by.ensures.steps)
 
 pub returns-in_err-step_by-clause-promise : goal.returns-in_err-step_by-clause-promise
 returns-in_err-step_by-clause-promise g c =
-    let e = c.index-events-place.result in
+    let e = c.index-events-index.result in
     let shared = g.M.Memory.shared in
     let old = c.args.self.now in
     let new = c.step_by.new.self in
     let size = g.M.Memory.extent old.memory in
     let wrote = Stored g.M.Memory.stored g.M.Memory.storing old.memory new.memory in
-    let es = events_of (take c.loop-place.place c.args.events.now) in
-    let there = read_there c.args.events.now c.loop-place.place e
-    (omega (arith, c.loop-place-test.true, c.loop-place.invariant.all)) c.index-events-place.is in
-    let ran : RanLive wrote shared size old.device es c.loop-place.count new.device =
-    ran_still g.M.Memory.stored g.M.Memory.storing g.met.M.Memory.none shared size old.device c.loop-place.self.device es
-    c.loop-place.count new.device old.memory c.loop-place.self.memory new.memory c.in_err-step_by.ensures.ran.0
-    c.in_err-step_by.ensures.ran.1 c.loop-place.invariant.ran in
-    run_refused shared size old.device c.args.events.now c.loop-place.place e c.loop-place.count c.from_residual.result
+    let es = events_of (take c.loop-index.index c.args.events.now) in
+    let there = read_there c.args.events.now c.loop-index.index e
+    (omega (arith, c.loop-index-test.true, c.loop-index.invariant.all)) c.index-events-index.is in
+    let ran : RanLive wrote shared size old.device es c.loop-index.count new.device =
+    ran_still g.M.Memory.stored g.M.Memory.storing g.met.M.Memory.none shared size old.device c.loop-index.self.device es
+    c.loop-index.count new.device old.memory c.loop-index.self.memory new.memory c.in_err-step_by.ensures.ran.0
+    c.in_err-step_by.ensures.ran.1 c.loop-index.invariant.ran in
+    run_refused shared size old.device c.args.events.now c.loop-index.index e c.loop-index.count c.from_residual.result
     new.device c.from_residual.ensures.0 there
     (goes_on_live c.the_promise_is_kept.ensures c.every_run_goes_on.ensures.run c.a_live_run_is_a_run.ensures wrote shared size
-    old.device es c.loop-place.count new.device ran)
+    old.device es c.loop-index.count new.device ran)
 
 pub returns-in_err-step_by-clause-stores : goal.returns-in_err-step_by-clause-stores
 returns-in_err-step_by-clause-stores g c =
-    let e = c.index-events-place.result in
+    let e = c.index-events-index.result in
     let shared = g.M.Memory.shared in
     let old = c.args.self.now in
     let new = c.step_by.new.self in
     let size = g.M.Memory.extent old.memory in
     let wrote = Stored g.M.Memory.stored g.M.Memory.storing old.memory new.memory in
-    let es = events_of (take c.loop-place.place c.args.events.now) in
-    let there = read_there c.args.events.now c.loop-place.place e
-    (omega (arith, c.loop-place-test.true, c.loop-place.invariant.all)) c.index-events-place.is in
-    let ran : RanLive wrote shared size old.device es c.loop-place.count new.device =
-    ran_still g.M.Memory.stored g.M.Memory.storing g.met.M.Memory.none shared size old.device c.loop-place.self.device es
-    c.loop-place.count new.device old.memory c.loop-place.self.memory new.memory c.in_err-step_by.ensures.ran.0
-    c.in_err-step_by.ensures.ran.1 c.loop-place.invariant.ran in
-    stores_refused wrote shared size old.device c.args.events.now c.loop-place.place e c.loop-place.count c.from_residual.result
+    let es = events_of (take c.loop-index.index c.args.events.now) in
+    let there = read_there c.args.events.now c.loop-index.index e
+    (omega (arith, c.loop-index-test.true, c.loop-index.invariant.all)) c.index-events-index.is in
+    let ran : RanLive wrote shared size old.device es c.loop-index.count new.device =
+    ran_still g.M.Memory.stored g.M.Memory.storing g.met.M.Memory.none shared size old.device c.loop-index.self.device es
+    c.loop-index.count new.device old.memory c.loop-index.self.memory new.memory c.in_err-step_by.ensures.ran.0
+    c.in_err-step_by.ensures.ran.1 c.loop-index.invariant.ran in
+    stores_refused wrote shared size old.device c.args.events.now c.loop-index.index e c.loop-index.count c.from_residual.result
     new.device c.from_residual.ensures.0 there
     (stores_along c.the_promise_is_kept.ensures c.every_run_goes_on.ensures.run c.a_live_run_is_a_run.ensures wrote shared size
-    old.device es c.loop-place.count new.device ran)
+    old.device es c.loop-index.count new.device ran)
 
 pub returns-clause-promise : goal.returns-clause-promise
 returns-clause-promise g c =
     let shared = g.M.Memory.shared in
     let old = c.args.self.now in
-    let new = c.loop-place.self in
+    let new = c.loop-index.self in
     let size = g.M.Memory.extent old.memory in
     let wrote = Stored g.M.Memory.stored g.M.Memory.storing old.memory new.memory in
-    let whole = take_all c.loop-place.place c.args.events.now
-    (omega (arith, c.loop-place-test.false, c.loop-place.invariant.all)) in
-    let ran : RanLive wrote shared size old.device (events_of c.args.events.now) c.loop-place.count new.device =
-    subst (λ xs. RanLive wrote shared size old.device (events_of xs) c.loop-place.count new.device) whole
-    c.loop-place.invariant.ran in
+    let whole = take_all c.loop-index.index c.args.events.now
+    (omega (arith, c.loop-index-test.false, c.loop-index.invariant.all)) in
+    let ran : RanLive wrote shared size old.device (events_of c.args.events.now) c.loop-index.count new.device =
+    subst (λ xs. RanLive wrote shared size old.device (events_of xs) c.loop-index.count new.device) whole
+    c.loop-index.invariant.ran in
     goes_on_live c.the_promise_is_kept.ensures c.every_run_goes_on.ensures.run c.a_live_run_is_a_run.ensures wrote shared size
-    old.device (events_of c.args.events.now) c.loop-place.count new.device ran
+    old.device (events_of c.args.events.now) c.loop-index.count new.device ran
 
 pub returns-clause-stores : goal.returns-clause-stores
 returns-clause-stores g c =
     let shared = g.M.Memory.shared in
     let old = c.args.self.now in
-    let new = c.loop-place.self in
+    let new = c.loop-index.self in
     let size = g.M.Memory.extent old.memory in
     let wrote = Stored g.M.Memory.stored g.M.Memory.storing old.memory new.memory in
-    let whole = take_all c.loop-place.place c.args.events.now
-    (omega (arith, c.loop-place-test.false, c.loop-place.invariant.all)) in
-    let ran : RanLive wrote shared size old.device (events_of c.args.events.now) c.loop-place.count new.device =
-    subst (λ xs. RanLive wrote shared size old.device (events_of xs) c.loop-place.count new.device) whole
-    c.loop-place.invariant.ran in
+    let whole = take_all c.loop-index.index c.args.events.now
+    (omega (arith, c.loop-index-test.false, c.loop-index.invariant.all)) in
+    let ran : RanLive wrote shared size old.device (events_of c.args.events.now) c.loop-index.count new.device =
+    subst (λ xs. RanLive wrote shared size old.device (events_of xs) c.loop-index.count new.device) whole
+    c.loop-index.invariant.ran in
     stores_along c.the_promise_is_kept.ensures c.every_run_goes_on.ensures.run c.a_live_run_is_a_run.ensures wrote shared size
-    old.device (events_of c.args.events.now) c.loop-place.count new.device ran
+    old.device (events_of c.args.events.now) c.loop-index.count new.device ran

@@ -5,15 +5,15 @@ use Rattle.world.specs.LiveWorld.{StepsEach, StepsLive}
 use Rattle.world.specs.Inner.LiveWorld.{RanLive}
 use Rattle.world.proofs.live_world.LiveWorld.run.Given as goal
 
-abbrev pub invariant-loop-place : goal.invariant-loop-place
-invariant-loop-place g l =
+abbrev pub invariant-loop-index : goal.invariant-loop-index
+invariant-loop-index g l =
     record {
       runs : StepsEach (StepsLive g.M.Memory.shared g.M.Memory.begins g.M.Memory.may_be
-          (Stored g.M.Memory.stored g.M.Memory.storing)) l.fn.self (events_of (take l.place l.events))
+          (Stored g.M.Memory.stored g.M.Memory.storing)) l.fn.self (events_of (take l.index l.events))
           l.count l.self;
-      ran : RanLive (Stored g.M.Memory.stored g.M.Memory.storing l.fn.self.memory l.self.memory) g.M.Memory.shared (g.M.Memory.extent l.fn.self.memory) l.fn.self.device (events_of (take l.place l.events))
+      ran : RanLive (Stored g.M.Memory.stored g.M.Memory.storing l.fn.self.memory l.self.memory) g.M.Memory.shared (g.M.Memory.extent l.fn.self.memory) l.fn.self.device (events_of (take l.index l.events))
           l.count l.self.device;
       size : g.M.Memory.extent l.self.memory ≡ g.M.Memory.extent l.fn.self.memory;
-      all : l.place-end ≡ length l.events;
-      few : l.count ≤ l.place;
+      all : l.index-end ≡ length l.events;
+      few : l.count ≤ l.index;
     }

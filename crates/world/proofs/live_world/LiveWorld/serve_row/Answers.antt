@@ -32,8 +32,8 @@ loop-taken-preserved g c =
     let x = c.args.self.now in
     let stored = Stored g.M.Memory.stored g.M.Memory.storing in
     let shared = g.M.Memory.shared in
-    let (left, place) = c.ends_row.ensures c.if-ends_row.false in
-    let (k, is) = place in
+    let (left, point) = c.ends_row.ensures c.if-ends_row.false in
+    let (k, is) = point in
     record {
       rows = row_next shared g.M.Memory.begins g.M.Memory.may_be stored c.args.number x c.loop-taken.self one.new.self
           c.loop-taken.steps one.result.steps c.loop-taken._taken (omega (arith, c.loop-taken-test.true)) inv.rows

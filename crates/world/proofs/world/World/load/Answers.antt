@@ -12,8 +12,8 @@ invariant_of-self c =
     let d = c.self.inside.device in
     let d' = c.load.new.self in
     let x = Dealing.Load c.args.page in
-    done_or (IsDealt d c.args.place x d') (d' ≡ d) (IsSteady (standing false m d'))
-    (λ h. deal_steady d c.args.place x d' h false m c.self.invariant)
+    done_or (IsDealt d c.args.unit_index x d') (d' ≡ d) (IsSteady (standing false m d'))
+    (λ h. deal_steady d c.args.unit_index x d' h false m c.self.invariant)
     (λ same. subst (λ (z : PlainDevice). IsSteady (standing false m z)) (sym same) c.self.invariant) c.load.result
     c.load.ensures.loaded c.load.ensures.otherwise c.load.ensures.err
 
@@ -23,6 +23,6 @@ returns-clause-loaded c =
     let d' = c.load.new.self in
     let x = Dealing.Load c.args.page in
     rw (← c.self.view_is)
-    (each_done (IsDealt d c.args.place x d') _
-    (λ h. deal_promised d c.args.place x d' h c.the_promise_is_kept.ensures c.every_run_goes_on.ensures.run c.self.inside.memory)
+    (each_done (IsDealt d c.args.unit_index x d') _
+    (λ h. deal_promised d c.args.unit_index x d' h c.the_promise_is_kept.ensures c.every_run_goes_on.ensures.run c.self.inside.memory)
     c.load.result c.load.ensures.loaded)

@@ -100,7 +100,7 @@ invariant_of-self-in-Fetch c =
 
 pub invariant_of-self-in-Hard : goal.invariant_of-self-in-Hard
 invariant_of-self-in-Hard c =
-    alone_steady_result c.self.inside.memory c.self.inside.device (Event.Hard c.in-Hard.place) c.hard.result c.hard.new.self (subst IsSound (sym c.self.view_is) c.is_sound.ensures.sound) (subst AreFew (sym c.self.view_is) c.is_sound.ensures.few) c.self.invariant c.hard.ensures
+    alone_steady_result c.self.inside.memory c.self.inside.device (Event.Hard c.in-Hard.unit_index) c.hard.result c.hard.new.self (subst IsSound (sym c.self.view_is) c.is_sound.ensures.sound) (subst AreFew (sym c.self.view_is) c.is_sound.ensures.few) c.self.invariant c.hard.ensures
 
 pub invariant_of-self-in-Raise : goal.invariant_of-self-in-Raise
 invariant_of-self-in-Raise c =
@@ -112,7 +112,7 @@ returns-in-Fetch c =
 
 pub returns-in-Hard : goal.returns-in-Hard
 returns-in-Hard c =
-    rw (c.in-Hard.is, ← c.self.view_is) (alone_steps_result c.self.inside.memory c.self.inside.device (Event.Hard c.in-Hard.place) c.hard.result c.hard.new.self (subst IsSound (sym c.self.view_is) c.is_sound.ensures.sound) (subst AreFew (sym c.self.view_is) c.is_sound.ensures.few) c.hard.ensures)
+    rw (c.in-Hard.is, ← c.self.view_is) (alone_steps_result c.self.inside.memory c.self.inside.device (Event.Hard c.in-Hard.unit_index) c.hard.result c.hard.new.self (subst IsSound (sym c.self.view_is) c.is_sound.ensures.sound) (subst AreFew (sym c.self.view_is) c.is_sound.ensures.few) c.hard.ensures)
 
 pub returns-in-Raise : goal.returns-in-Raise
 returns-in-Raise c =
@@ -128,11 +128,11 @@ returns-in-Prepare c =
 
 pub invariant_of-self-in-Resize : goal.invariant_of-self-in-Resize
 invariant_of-self-in-Resize c =
-    alone_steady_result c.self.inside.memory c.self.inside.device (Event.Resize c.in-Resize.place c.in-Resize.blocks) c.resize.result c.resize.new.self (subst IsSound (sym c.self.view_is) c.is_sound.ensures.sound) (subst AreFew (sym c.self.view_is) c.is_sound.ensures.few) c.self.invariant c.resize.ensures
+    alone_steady_result c.self.inside.memory c.self.inside.device (Event.Resize c.in-Resize.unit_index c.in-Resize.blocks) c.resize.result c.resize.new.self (subst IsSound (sym c.self.view_is) c.is_sound.ensures.sound) (subst AreFew (sym c.self.view_is) c.is_sound.ensures.few) c.self.invariant c.resize.ensures
 
 pub returns-in-Resize : goal.returns-in-Resize
 returns-in-Resize c =
-    rw (c.in-Resize.is, ← c.self.view_is) (alone_steps_result c.self.inside.memory c.self.inside.device (Event.Resize c.in-Resize.place c.in-Resize.blocks) c.resize.result c.resize.new.self (subst IsSound (sym c.self.view_is) c.is_sound.ensures.sound) (subst AreFew (sym c.self.view_is) c.is_sound.ensures.few) c.resize.ensures)
+    rw (c.in-Resize.is, ← c.self.view_is) (alone_steps_result c.self.inside.memory c.self.inside.device (Event.Resize c.in-Resize.unit_index c.in-Resize.blocks) c.resize.result c.resize.new.self (subst IsSound (sym c.self.view_is) c.is_sound.ensures.sound) (subst AreFew (sym c.self.view_is) c.is_sound.ensures.few) c.resize.ensures)
 
 pub invariant_of-self-in-Wake : goal.invariant_of-self-in-Wake
 invariant_of-self-in-Wake c =

@@ -1,6 +1,6 @@
 use Rattle.std.proofs.Common.{◌≡◌, ◌++◌, drop, take}
 use Rattle.task_set.specs.Inner.Tasks.{task_at, without}
-use Rattle.task_set.proofs.walks.place_of.Given as goal
+use Rattle.task_set.proofs.walks.index_of.Given as goal
 
 abbrev pub invariant-loop-i : goal.invariant-loop-i
 invariant-loop-i l = record {

@@ -1,4 +1,4 @@
--- One queue, and the places that seats have at it.
+-- One queue, and the ends that seats have of it.
 use Rattle.std.specs.Prelude.{ℕ}
 use Rattle.atomic_table.specs.Seated.{TableId}
 use Rattle.handoff.specs.declared.rule.View.{View}
@@ -8,7 +8,7 @@ pub record PlainLane : Type 0 where
   pub queue : TableId
   pub capacity : ℕ
 
--- own: a place: at which queue, and what it knows
-pub record PlainPlace : Type 0 where
+-- own: an end: of which queue, and what it knows
+pub record PlainEnd : Type 0 where
   pub queue : TableId
   pub knows : View
