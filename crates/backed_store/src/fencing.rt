@@ -1,14 +1,10 @@
 //! Changes that the host's storage may lack.
 
-ghost use Rattle.std.specs.Prelude.{◌≡◌, ℕ, ◌+◌, ◌/◌, ◌^◌, ◌<◌, ◌≤◌, not, false, IsTrue, IsFalse, IfSome, IfNone};
-ghost use Rattle.block_store.specs.Blocks.{is_within};
-ghost use Rattle.backed_store.specs.Marks as marks;
-ghost use Rattle.backed_store.specs.Caches.{mark_at};
+ghost use Rattle.std.specs.Prelude.{◌≡◌, ℕ, ◌/◌, ◌≤◌, false, IsTrue, IsFalse, IfSome, IfNone};
 ghost use Rattle.backed_store.specs.Stores.{contents, backing_of, is_dirty, number_of, latest_of};
 ghost use Rattle.backed_store.specs.Flushes.{owes, IsFlushed};
 
 use crate::backed::BackedStore;
-use crate::numbers::page_of;
 
 impl BackedStore {
     /// Returns the number of the latest change. A flush that begins now waits for the changes up to it.
@@ -43,34 +39,5 @@ impl BackedStore {
         ensures no { IsFalse result → (p : ℕ) × IsTrue (owes self.now number p) }
     {
         self.find_unkept_change(number).is_none()
-    }
-
-    /// Returns true if the host's storage has each change of a page up to this number. A page that is about to be changed
-    /// counts as changed.
-    pub fn has_kept(&self, page: u64, number: u64) -> bool
-        ensures { result ≡ not (owes self.now number page) }
-    {
-        match self.cache.slots.mark(page) {
-            Some(mark) => !(mark.listed || mark.writing) || mark.number > number,
-            None => true,
-        }
-    }
-
-    /// Returns a page of a range that the host's storage may lack as it is; `None` where it has all blocks of the range. A page
-    /// that is about to be changed counts as changed.
-    pub fn find_unkept(&self, first: u64, count: u64) -> Option<u64>
-        requires number { first + count < 2 ^ 64 }
-        ensures room { IfSome result (λ page. IsTrue (marks.has_room (mark_at self.now.cache page))) }
-        ensures none { IfNone result ((b : ℕ) → IsTrue (is_within first count b) → is_dirty self.now (b / 8) ≡ false) }
-        ensures kept { IfNone result ((b : ℕ) → IsTrue (is_within first count b) → contents self.now b ≡ backing_of self.now b) }
-    {
-        if count == 0 {
-            return None;
-        }
-        let page = self.cache.unkept.pages.next_from(page_of(first))?;
-        if page > page_of(first + count - 1) {
-            return None;
-        }
-        Some(page)
     }
 }

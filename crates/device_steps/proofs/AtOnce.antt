@@ -22,6 +22,8 @@ use Rattle.device_model.proofs.Lists.{same, get_change}
 use Rattle.device_model.specs.Order.{of_seat}
 use Rattle.virtqueue.specs.Queue.{BareQueue}
 use Rattle.phases.specs.Queue.{with_slot}
+use Rattle.phases.specs.declared.serving.Brought.{Brought}
+use Rattle.phases.specs.declared.serving.Brought.TheVariants as brought
 use Rattle.phases.specs.DoingUnit.{with_more}
 use Rattle.phases.specs.Fetching.{FetchesRequest}
 use Rattle.phases.specs.Units as phases
@@ -610,39 +612,39 @@ has_room s n is many =
 
 -- what is served keeps the room of the list
 pub serves_keeps : (shared : Bool) (stored : List Write → Type 0) (x : PlainJob) (u u' : PlainUnit) (q q' : BareQueue) (m m' seen : List ℕ) (s s' : Slot)
-    (out out' : Jobs) (done : Option Bool) → ServesIn shared stored x u q m s out done u' q' m' seen s' out'
+    (out out' : Jobs) (done : Brought) → ServesIn shared stored x u q m s out done u' q' m' seen s' out'
     → out'.limit ≡ out.limit
-serves_keeps shared stored x u u' q q' m m' seen s s' out out' None h = ap (λ (z : Jobs). z.limit) h.jobs
-serves_keeps shared stored x u u' q q' m m' seen s s' out out' (Some gone) h =
+serves_keeps shared stored x u u' q q' m m' seen s s' out out' brought.Waits h = ap (λ (z : Jobs). z.limit) h.jobs
+serves_keeps shared stored x u u' q q' m m' seen s s' out out' (brought.Answered gone) h =
     keeps_limit (Hand.Answered x.unit x.chain.ticket) h.0.committed u' out out' gone Hand.Empty h.0.leaves
 
 -- how many events follow its chain
-abbrev pub later_of : Option Bool → ℕ
-later_of None = 1
-later_of (Some gone) = 6
+abbrev pub later_of : Brought → ℕ
+later_of brought.Waits = 1
+later_of (brought.Answered gone) = 6
 
-pub steps_are : (done : Option Bool) (n k : ℕ) → (served_of done n k).steps ≡ 1 + later_of done
-steps_are None n k = refl
-steps_are (Some gone) zero k = refl
-steps_are (Some gone) (suc n) k = refl
+pub steps_are : (done : Brought) (n k : ℕ) → (served_of done n k).steps ≡ 1 + later_of done
+steps_are brought.Waits n k = refl
+steps_are (brought.Answered gone) zero k = refl
+steps_are (brought.Answered gone) (suc n) k = refl
 
-pub some_steps : (done : Option Bool) → 1 ≤ 1 + later_of done
-some_steps None = omega arith
-some_steps (Some gone) = omega arith
+pub some_steps : (done : Brought) → 1 ≤ 1 + later_of done
+some_steps brought.Waits = omega arith
+some_steps (brought.Answered gone) = omega arith
 
-pub few_steps : (done : Option Bool) (most : ℕ) → 7 ≤ most → 1 + later_of done ≤ most
-few_steps None most few = omega (arith, few)
-few_steps (Some gone) most few = omega (arith, few)
+pub few_steps : (done : Brought) (most : ℕ) → 7 ≤ most → 1 + later_of done ≤ most
+few_steps brought.Waits most few = omega (arith, few)
+few_steps (brought.Answered gone) most few = omega (arith, few)
 
 -- where to look then
 looks_so : (v : PlainWorld) (n k : ℕ) (gone : Bool) (jobs : List PlainJob) → n ≡ length jobs → NoneBefore cursor.Seats v
-    → (jobs ≡ [] → NoneBefore (cursor.Fetch k) v) → NoneBefore (served_of (Some gone) n k).next v
+    → (jobs ≡ [] → NoneBefore (cursor.Fetch k) v) → NoneBefore (served_of (brought.Answered gone) n k).next v
 looks_so v zero k gone [] is seats fetch = fetch refl
 looks_so v zero k gone (j ∷ jobs) is seats fetch = absurd (omega (arith, is))
 looks_so v (suc n) k gone jobs is seats fetch = seats
 
 -- what follows of a request that was taken: so many events, each the first that applies; and where to look then
-pub record ServedKept (asked : ℕ → Bool) (stored : List Write → Type 0) (seen : List ℕ) (w v : PlainWorld) (done : Option Bool)
+pub record ServedKept (asked : ℕ → Bool) (stored : List Write → Type 0) (seen : List ℕ) (w v : PlainWorld) (done : Brought)
     (n : ℕ) : Type 0 where
   pub follows : FollowsSeen asked stored seen w (later_of done) v
   pub before : (k : ℕ) → NoneBefore (served_of done n k).next v
@@ -654,23 +656,23 @@ pub serves_kept : (stored : List Write → Type 0) (sound : AreSound) (asked : �
     → MayServe i w → slice_get w.queues i ≡ Some q → NoneBeforeFetch w → NoFetchBelow asked i w → asked i ≡ true
     → (x : PlainJob) (lent : BareQueue) → FetchesRequest w.inventory w.memory q (Ok true) (with_slot (Slot.Arrived x) lent)
     → (u u' : PlainUnit) → slice_get w.units x.unit ≡ Some u → (s s' : Slot) (q' : BareQueue) (m' seen : List ℕ) (out' : Jobs)
-    → s ≡ Slot.Empty → (done : Option Bool)
+    → s ≡ Slot.Empty → (done : Brought)
     → ServesIn w.shared stored x u lent w.memory s (record { jobs = []; limit = limit }) done u' q' m' seen s' out' → (n : ℕ)
     → n ≡ length out'.jobs
     → ServedKept asked stored seen (record w { queues = slice_set w.queues i (with_slot (Slot.Arrived x) lent) })
     (set_all w m' i (with_slot s' q') x.unit u' kept (seat_with Hand.Empty out')) done n
-serves_kept stored a asked w b i q l kept rest ka are f g may at bf bl on x t ft u u' ut s s' q' m' seen out' e None h n is =
+serves_kept stored a asked w b i q l kept rest ka are f g may at bf bl on x t ft u u' ut s s' q' m' seen out' e brought.Waits h n is =
     let are' = are ∙ ap (λ (ks : List KeptSeat). map seat_of ks) ka in
     let limits' = subst (λ (ks : List KeptSeat). Everywhere (λ k (z : KeptSeat). z.limit ≡ 64 * length w.units + 64) ks) ka
     g in
     let w1 = record w { queues = slice_set w.queues i (with_slot (Slot.Arrived x) t) } in
     subst (λ (ks : List KeptSeat).
-    ServedKept asked stored seen w1 (set_all w m' i (with_slot s' q') x.unit u' ks (seat_with Hand.Empty out')) None n) (sym ka)
+    ServedKept asked stored seen w1 (set_all w m' i (with_slot s' q') x.unit u' ks (seat_with Hand.Empty out')) brought.Waits n) (sym ka)
     (record {
       follows = only_follows a asked w b i q l rest are' f limits' may at bf bl on x t ft stored u u' ut s' q' m' seen out' h;
       before = λ k. tt;
     })
-serves_kept stored a asked w b i q l kept rest ka are f g may at bf bl on x t ft u u' ut s s' q' m' seen out' e (Some gone) h n is =
+serves_kept stored a asked w b i q l kept rest ka are f g may at bf bl on x t ft u u' ut s s' q' m' seen out' e (brought.Answered gone) h n is =
     let are' = are ∙ ap (λ (ks : List KeptSeat). map seat_of ks) ka in
     let limits' = subst (λ (ks : List KeptSeat). Everywhere (λ k (z : KeptSeat). z.limit ≡ 64 * length w.units + 64) ks) ka
     g in
@@ -681,13 +683,13 @@ serves_kept stored a asked w b i q l kept rest ka are f g may at bf bl on x t ft
     before_seats a asked w b i q l rest are' f limits' may at bf bl on x t ft stored u u' ut s' q' m' seen out' gone h.0 in
     let fetch : out'.jobs ≡ [] → (k : ℕ) → NoneBefore (cursor.Fetch k) v =
     before_fetch a asked w b i q l rest are' f limits' may at bf bl on x t ft stored u u' ut s' q' m' seen out' gone h.0 in
-    let base : ServedKept asked stored seen w1 v (Some gone) n =
+    let base : ServedKept asked stored seen w1 v (brought.Answered gone) n =
     record {
       follows = follows a asked w b i q l rest are' f limits' may at bf bl on x t ft stored u u' ut s' q' m' seen out' gone h.0;
       before = λ k. looks_so v n k gone out'.jobs is seats (λ none. fetch none k);
     } in
     subst (λ (ks : List KeptSeat).
-    ServedKept asked stored seen w1 (set_all w m' i (with_slot s' q') x.unit u' ks (seat_with Hand.Empty out')) (Some gone) n) (sym ka)
+    ServedKept asked stored seen w1 (set_all w m' i (with_slot s' q') x.unit u' ks (seat_with Hand.Empty out')) (brought.Answered gone) n) (sym ka)
     (subst (λ (z : Slot).
     ServedKept asked stored seen w1 (set_all w m' i (with_slot z q') x.unit u' (bare Hand.Empty l ∷ rest) (seat_with Hand.Empty out'))
-    (Some gone) n) slot base)
+    (brought.Answered gone) n) slot base)

@@ -3,6 +3,8 @@
 ghost use Rattle.std.specs.Prelude.{◌≡◌, ◌↔◌, IsTrue};
 ghost use Rattle.device_steps.specs.Inner.Cursors.{IsFetchPlace, served_of, direct_from, seat_from, enter_from};
 
+use phases::Brought;
+
 /// A point in the order before which no event applies. A host that serves begins at `Start`, and goes on from where each
 /// turn says.
 #[derive(Clone, Copy)]
@@ -40,10 +42,10 @@ pub(crate) fn one(next: Cursor) -> Progress
 
 /// Returns the progress of a request of a queue that was served at once, where the first seat has so many jobs to hand off
 /// then.
-pub(crate) fn progress_of(done: Option<bool>, jobs: usize, queue: u16) -> Progress
+pub(crate) fn progress_of(done: Brought, jobs: usize, queue: u16) -> Progress
     ensures { result ≡ served_of done jobs queue }
 {
-    if done.is_none() {
+    if matches!(done, Brought::Waits) {
         return Progress {
             next: Cursor::Start,
             steps: 2,

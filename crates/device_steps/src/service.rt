@@ -24,7 +24,7 @@ use crate::sound::all_are_sound;
 use crate::steps::owner;
 use foundation::NoMemory;
 use guest_mem::{Memory, WritableMemory};
-use phases::{Slot, Taken, serve_request_in, take_request_in};
+use phases::{Slot, Taken, serve_request, take_request};
 use scsi_codec::{CONTROL_QUEUE, EVENT_QUEUE, FIRST_REQUEST_QUEUE};
 
 /// Returns true if the bit of a queue is set.
@@ -500,7 +500,7 @@ impl Device {
     {
         all_are_sound();
         let bay = &mut self.bays[number as usize];
-        let taken = take_request_in(&mut bay.queue, &mut bay.slot, memory, &self.inventory);
+        let taken = take_request(&mut bay.queue, &mut bay.slot, memory, &self.inventory);
         let _read = memory.size();
         match taken {
             Err(NoMemory) => Err(NoMemory),
@@ -512,7 +512,7 @@ impl Device {
                     bay.slot = Slot::Arrived(arrival);
                     return Ok(Some(one(Cursor::Start)));
                 }
-                let done = serve_request_in(
+                let done = serve_request(
                     &mut self.units[unit_index],
                     &mut bay.queue,
                     memory,

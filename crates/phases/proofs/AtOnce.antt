@@ -28,13 +28,15 @@ use Rattle.virtqueue.specs.Queue.{BareQueue, completing}
 use Rattle.virtqueue.specs.Completing.{SeenBehind}
 use Rattle.phases.specs.Units.{EntersAs, Commits, Leaves}
 use Rattle.phases.specs.DoingUnit.{with_more}
-use Rattle.phases.specs.Inner.Serving.{Serves, HandsOn}
+use Rattle.phases.specs.Inner.Serving.{HandsOn}
+use Rattle.phases.specs.declared.serving.Brought.{Brought}
+use Rattle.phases.specs.declared.serving.Brought.TheVariants as brought
 use Rattle.phases.specs.InMemory.{EachSeen}
 use Rattle.phases.specs.Direct.{decided_writes}
 use Rattle.phases.specs.Inner.Outcomes.{WritesWholeIn}
 use Rattle.phases.specs.Inner.Stored.{ending_writes}
 use Rattle.phases.specs.Inner.ServingInMemory.{ServesAtOnceIn, ServesIn}
-use Rattle.phases.proofs.Answered.{AnswersJob, answers_job, answers_own, both_lengths}
+use Rattle.phases.proofs.Answered.{AnswersJob, answers_job, both_lengths}
 use Rattle.phases.proofs.Behind.{each_read, each_maps}
 use Rattle.phases.proofs.Commits.{committed}
 use Rattle.phases.proofs.Enters.{runs, with_none}
@@ -91,10 +93,10 @@ pub served : (shared : Bool) (stored : List Write → Type 0) (x y : PlainJob) (
     → stored (decided_writes q.ring y.chain (came what))
     → ((unit_index : ℕ) → Leaves (Hand.Answered unit_index t) z out gone u' Hand.Empty out')
     → EachSeen shared before after
-    (λ found left seen. ServesIn shared stored x u q found s out (Some gone) u' q' left seen s out')
+    (λ found left seen. ServesIn shared stored x u q found s out (brought.Answered gone) u' q' left seen s out')
 served shared stored x y t u v z u' q q' before after s out out' gone what enters ran used answered made leaves =
     each_maps shared before after (AnswersJob shared y (ending_of what) q q')
-    (λ found left seen. ServesIn shared stored x u q found s out (Some gone) u' q' left seen s out')
+    (λ found left seen. ServesIn shared stored x u q found s out (brought.Answered gone) u' q' left seen s out')
     (λ found left seen is told. (
       served_so shared stored x y t u v z u' q q' found left seen out out' gone what enters ran used told made leaves,
       refl,
@@ -104,9 +106,9 @@ served shared stored x y t u v z u' q q' before after s out out' gone what enter
 hands_on : (shared : Bool) (stored : List Write → Type 0) (x : PlainJob) (u u' : PlainUnit) (q : BareQueue)
     (may : List ℕ → Type 0) (s s' : Slot) (more : List PlainJob) (out out' : Jobs) → stored [] → HandsOn x u more
     → ((list : Jobs) → EntersAs x u list u' s' (with_more more list)) → out' ≡ with_more more out
-    → EachSeen shared may may (λ found left seen. ServesIn shared stored x u q found s out None u' q left seen s' out')
+    → EachSeen shared may may (λ found left seen. ServesIn shared stored x u q found s out brought.Waits u' q left seen s' out')
 hands_on shared stored x u u' q may s s' more out out' none waits enters jobs =
-    each_read shared may may (λ found left seen. ServesIn shared stored x u q found s out None u' q left seen s' out')
+    each_read shared may may (λ found left seen. ServesIn shared stored x u q found s out brought.Waits u' q left seen s' out')
     (λ m stood. stood)
     (λ m stood.
     record {
@@ -121,7 +123,7 @@ hands_on shared stored x u u' q may s s' more out out' none waits enters jobs =
 -- the request only entered, or was refused
 pub only_entered : (shared : Bool) (stored : List Write → Type 0) (x : PlainJob) (u u' : PlainUnit) (q : BareQueue)
     (may : List ℕ → Type 0) (s s' : Slot) (out : Jobs) → stored [] → ((list : Jobs) → EntersAs x u list u' s' list)
-    → EachSeen shared may may (λ found left seen. ServesIn shared stored x u q found s out None u' q left seen s' out)
+    → EachSeen shared may may (λ found left seen. ServesIn shared stored x u q found s out brought.Waits u' q left seen s' out)
 only_entered shared stored x u u' q may s s' out none enters =
     hands_on shared stored x u u' q may s s' [] out out none (inl refl)
     (λ list. subst (λ (jobs : Jobs). EntersAs x u list u' s' jobs) (with_none list) (enters list)) (with_none out)
@@ -130,7 +132,7 @@ only_entered shared stored x u u' q may s s' out none enters =
 pub waits_on : (shared : Bool) (stored : List Write → Type 0) (x y : PlainJob) (u v u' : PlainUnit) (q : BareQueue)
     (may : List ℕ → Type 0) (s s' : Slot) (out out' : Jobs) → stored [] → s' ≡ Slot.Empty
     → calls.Enters u x (entered.Run y) v → calls.Waits v y u' → out' ≡ with_more (y ∷ []) out
-    → EachSeen shared may may (λ found left seen. ServesIn shared stored x u q found s out None u' q left seen s' out')
+    → EachSeen shared may may (λ found left seen. ServesIn shared stored x u q found s out brought.Waits u' q left seen s' out')
 waits_on shared stored x y u v u' q may s s' out out' none empty enters waits jobs =
     let is : y ≡ x = enters.0 in
     let asked : waits.entry.command ≡ x.entry.command = ap (λ (a : Asked). a.command) waits.of.as_asked ∙ ap (λ (j : PlainJob). j.entry.command) is in
@@ -160,7 +162,7 @@ pub served_alone : {S : Type 0} (storing : S → List Store → S)
     → c ≡ x.chain → SeenBehind shared middle after (used_writes q.ring c.id len)
     → ((m : List ℕ) → after m → q' ≡ completing m c q) → s₃ ≡ storing s₂ (stores_of (used_writes q.ring c.id len))
     → EachSeen shared before after
-    (λ found left seen. ServesIn shared (λ ws. s₃ ≡ storing s₁ (stores_of ws)) x u q found s out (Some true) u' q' left seen s out)
+    (λ found left seen. ServesIn shared (λ ws. s₃ ≡ storing s₁ (stores_of ws)) x u q found s out (brought.Answered true) u' q' left seen s out)
 served_alone {S} storing both s₁ s₂ s₃ shared x u u' q q' before middle after len c s out alone chain used queue more =
     let stored : List Write → Type 0 = λ ws. s₃ ≡ storing s₁ (stores_of ws) in
     let e = ending_of alone.outcome in
@@ -168,38 +170,13 @@ served_alone {S} storing both s₁ s₂ s₃ shared x u u' q q' before middle af
     answer_stored storing both s₁ s₂ s₃ q.ring x.chain c (answer_of (lengths_of x.chain) e) len alone.answered.1 chain
     alone.answered.0.written more in
     each_maps shared before after (AnswersJob shared x e q q')
-    (λ found left seen. ServesIn shared stored x u q found s out (Some true) u' q' left seen s out)
+    (λ found left seen. ServesIn shared stored x u q found s out (brought.Answered true) u' q' left seen s out)
     (λ found left seen is answered. (
       all shared stored x u alone.once_entered alone.once_run u' q q' found left seen out out true alone.outcome alone.enters
           alone.commits answered made (left_alone alone.once_run u' x.unit x.chain.ticket out alone.alone alone.leaves),
       refl,
     ))
     (answers_job shared x e q q' before middle after len c alone.answered.0 chain used queue)
-
--- a request that is served in such a memory
-pub serves_own : (stored : List Write → Type 0) (x : PlainJob) (u u' : PlainUnit) (q q' : BareQueue) (m m' n : List ℕ) (s s' : Slot) (out out' : Jobs)
-    (r : Option Bool) → ServesIn false stored x u q m s out r u' q' m' n s' out' → Serves x u q m s out r u' q' m' s' out'
-serves_own stored x u u' q q' m m' n s s' out out' (Some gone) (at_once, slot) = (
-  record {
-    entered = at_once.entered;
-    committed = at_once.committed;
-    outcome = at_once.outcome;
-    enters = at_once.enters;
-    commits = at_once.commits;
-    answers = answers_own (Hand.Done x at_once.outcome) (Hand.Answered x.unit x.chain.ticket) q q' m m' n true at_once.answers;
-    leaves = at_once.leaves;
-  },
-  slot,
-)
-serves_own stored x u u' q q' m m' n s s' out out' None enters =
-    record {
-      more = enters.more;
-      waits = enters.waits;
-      enters = enters.enters;
-      queue = enters.at_queue.queue;
-      memory = enters.at_queue.memory;
-      jobs = enters.jobs;
-    }
 
 -- what was written over a job's parts answers it, by its chain's lengths
 pub writes_whole : (x : PlainJob) (e : Ending) (n : ChainLengths) (c : PlainChain) (before after : List ℕ → Type 0) (len : ℕ)

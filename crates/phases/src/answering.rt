@@ -36,7 +36,7 @@ fn write_held<M: WritableMemory>(queue: &Queue, memory: &mut M, held: &JobInHand
         (λ ws. M.stored memory.new ≡ M.storing (M.stored memory.old) (stores_of ws))) }
     ensures size { M.extent memory.new ≡ M.extent memory.old }
 {
-    if !queue.may_complete_in(memory, held.job().chain()) {
+    if !queue.may_complete(memory, held.job().chain()) {
         return None;
     }
     Some(held.write(memory))

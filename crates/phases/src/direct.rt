@@ -84,7 +84,7 @@ pub fn phase_direct_in<M: WritableMemory>(
     match mem::replace(slot, Slot::Empty) {
         Slot::Direct(ready) => {
             let (chain, direct, cause) = ready.into_parts();
-            if !queue.may_complete_in(memory, &chain) {
+            if !queue.may_complete(memory, &chain) {
                 return None;
             }
             let answered = answer_chain(queue, memory, chain, &direct);
@@ -134,7 +134,7 @@ pub fn phase_answer_tmf_in<M: WritableMemory>(
                 chain,
                 function: finished,
             } = open;
-            if !queue.may_complete_in(memory, &chain) {
+            if !queue.may_complete(memory, &chain) {
                 return false;
             }
             let response = DirectAnswer::of_function(finished.answer());

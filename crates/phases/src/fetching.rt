@@ -13,7 +13,7 @@ ghost use Rattle.phases.specs.Inner.Fetching.{IsDecided};
 use crate::direct_chain::DirectChain;
 use crate::function::OpenFunction;
 use crate::slot::Slot;
-use crate::taking::{Taken, take_request_in};
+use crate::taking::{Taken, take_request};
 use foundation::NoMemory;
 use guest_mem::{GuestMem, Memory, StillMem};
 use request_intake::{ChainLengths, Inventory};
@@ -71,7 +71,7 @@ pub fn phase_fetch_in<M: Memory>(
     ensures fetches { (m : List ℕ) → M.may_be memory.new m → FetchesRequest inventory.now m
         (with_slot (slot_of slot.old) queue.old) result (with_slot (slot_of slot.new) queue.new) }
 {
-    match take_request_in(queue, slot, memory, inventory) {
+    match take_request(queue, slot, memory, inventory) {
         Err(NoMemory) => Err(NoMemory),
         Ok(Taken::Nothing) => Ok(false),
         Ok(Taken::Other) => Ok(true),

@@ -59,6 +59,6 @@ pub use receipt_or_note::ReceiptOrNote;
 pub use refusal::Refusal;
 pub use resetting::{ResetFault, phase_hard};
 pub use resizing::{ResizeFault, phase_resize};
-pub use serving::{serve_request, serve_request_in};
+pub use serving::{Brought, serve_request};
 pub use slot::Slot;
-pub use taking::{Taken, take_request, take_request_in};
+pub use taking::{Taken, take_request};

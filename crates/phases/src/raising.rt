@@ -185,7 +185,7 @@ fn may_raise<M: Memory>(queue: &Queue, memory: &M, port: &EventPort) -> bool
     ensures may { (m : List ℕ) → M.may_be memory.now m → (IsTrue result ↔ MayRaise port.now.buffers queue.now m) }
 {
     match port.oldest() {
-        Some(buffer) => queue.may_complete_in(memory, buffer.chain()),
+        Some(buffer) => queue.may_complete(memory, buffer.chain()),
         None => true,
     }
 }

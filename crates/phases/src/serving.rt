@@ -9,7 +9,6 @@ ghost use Rattle.phases.specs.Slots.{slot_of};
 ghost use Rattle.phases.specs.Units.{Leaves};
 ghost use Rattle.phases.specs.InMemory.{EachSeen};
 ghost use Rattle.phases.specs.Inner.InMemory.{AnswersIn};
-ghost use Rattle.phases.specs.Inner.Serving.{Serves};
 ghost use Rattle.phases.specs.Inner.ServingInMemory.{ServesIn};
 ghost use Rattle.phases.specs.Inner.Outcomes.{WritesWholeIn};
 ghost use Rattle.phases.specs.Inner.Stored.{ending_writes};
@@ -25,7 +24,7 @@ use crate::slot::Slot;
 use backed_store::BlocksInPlace;
 use command_model::Reply;
 use foundation::{NoMemory, Record};
-use guest_mem::{GuestMem, WritableMemory};
+use guest_mem::WritableMemory;
 use responses::write_read;
 use ring_core::Answered;
 use unit_history::{Answering, Arrival, Entered, Job, JobList, Outcome, UnitState, Unknown};
@@ -135,7 +134,16 @@ fn serve_alone<M: WritableMemory>(
     }
 }
 
-/// Serves a request as [`serve_request_in`] does, by one call of its unit for each step.
+/// How far a request came that was brought to its unit.
+#[derive(Clone, Copy)]
+pub enum Brought {
+    /// It was answered. True if its unit knew the task when that left.
+    Answered(bool),
+    /// It wasn't. Its task waits at its unit, its command for the unit's disk, or what refuses it stands in the slot.
+    Waits,
+}
+
+/// Serves a request as [`serve_request`] does, by one call of its unit for each step.
 #[inline(never)]
 fn serve_by_steps<M: WritableMemory>(
     unit: &mut UnitState,
@@ -144,7 +152,7 @@ fn serve_by_steps<M: WritableMemory>(
     slot: &mut Slot,
     arrival: Arrival,
     out: &mut JobList,
-) -> Option<bool>
+) -> Brought
     requires fits { M.extent memory.old ≡ queue.old.ring.memory }
     requires owned { Owns queue.old.ring arrival.chain }
     requires places { HasPlaces out.old }
@@ -163,25 +171,25 @@ fn serve_by_steps<M: WritableMemory>(
             Some(outcome) => {
                 let answered = answer_job(queue, memory, job, &outcome);
                 unit.keep_room(outcome);
-                Some(leave(unit, answered, out))
+                Brought::Answered(leave(unit, answered, out))
             }
             None => {
                 out.push(job);
-                None
+                Brought::Waits
             }
         },
-        Entered::Parked => None,
+        Entered::Parked => Brought::Waits,
         Entered::Full(job) => {
             *slot = Slot::Direct(DirectChain::refused(job, Refusal::Full));
-            None
+            Brought::Waits
         }
         Entered::Busy(job) => {
             *slot = Slot::Direct(DirectChain::refused(job, Refusal::Busy));
-            None
+            Brought::Waits
         }
         Entered::Stale(job) => {
             *slot = Slot::Direct(DirectChain::refused(job, Refusal::Stale));
-            None
+            Brought::Waits
         }
     }
 }
@@ -189,46 +197,21 @@ fn serve_by_steps<M: WritableMemory>(
 /// Brings a request to its unit. Where nothing blocks its task, its command runs whole, it is answered by what came of
 /// that, its chain is used, and the task leaves. This is what [`phase_enter`](crate::phase_enter),
 /// [`phase_commit`](crate::phase_commit), [`phase_answer`](crate::phase_answer) and [`phase_leave`](crate::phase_leave)
-/// do one after another, with its job in no list and no hand between them. Then it returns true if the unit knew the
-/// task when it left. Else `None`, where one of these holds:
+/// do one after another, with its job in no list and no hand between them. Else the job of a command that waits for its
+/// unit's disk is appended to the list, to be committed later.
 ///
-/// - The task waits at its unit.
-/// - What refuses the request stands in the slot.
-/// - The command waits for its unit's disk, which is backed. The job is appended to the list, to be committed later.
-///
-/// The queue owns the chain, and the list has room for 64, which the caller sees to.
+/// The queue owns the chain, and the list has 64 places free, which the caller sees to. Where it uses the chain, it begins a
+/// new phase of the memory behind that. What was stored are the bytes that answer the request, and then its used entry.
+/// Where it isn't answered, nothing was stored.
 #[inline(always)]
-pub fn serve_request(
-    unit: &mut UnitState,
-    queue: &mut Queue,
-    memory: &mut GuestMem,
-    slot: &mut Slot,
-    arrival: Arrival,
-    out: &mut JobList,
-) -> Option<bool>
-    requires fits { length memory.old ≡ queue.old.ring.memory }
-    requires owned { Owns queue.old.ring arrival.chain }
-    requires places { HasPlaces out.old }
-    requires empty { slot_of slot.old ≡ plain.Slot.Empty }
-    ensures serves { Serves arrival unit.old queue.old memory.old (slot_of slot.old) out.old result
-        unit.new queue.new memory.new (slot_of slot.new) out.new }
-    ensures size { length memory.new ≡ length memory.old }
-{
-    serve_request_in(unit, queue, memory, slot, arrival, out)
-}
-
-/// Brings a request to its unit in any memory, as [`serve_request`] does. Where it uses the chain, it begins a new phase
-/// of the memory behind that. What was stored are the bytes that answer the request, and then its used entry. Where
-/// it isn't answered, nothing was stored.
-#[inline(always)]
-pub fn serve_request_in<M: WritableMemory>(
+pub fn serve_request<M: WritableMemory>(
     unit: &mut UnitState,
     queue: &mut Queue,
     memory: &mut M,
     slot: &mut Slot,
     arrival: Arrival,
     out: &mut JobList,
-) -> Option<bool>
+) -> Brought
     requires fits { M.extent memory.old ≡ queue.old.ring.memory }
     requires owned { Owns queue.old.ring arrival.chain }
     requires places { HasPlaces out.old }
@@ -245,7 +228,7 @@ pub fn serve_request_in<M: WritableMemory>(
     match serve_alone(unit, memory, &arrival) {
         Some(len) => {
             queue.complete_in(memory, arrival.into_chain(), len);
-            Some(true)
+            Brought::Answered(true)
         }
         None => serve_by_steps(unit, queue, memory, slot, arrival, out),
     }

@@ -3,13 +3,13 @@
 ghost use Rattle.std.specs.Prelude.{◌≡◌, ◌+◌, List, ℕ, length, min, Ok};
 ghost use Rattle.ring_core.specs.Parts.{readable_total};
 ghost use Rattle.phases.specs.Slots.{slot_of};
-ghost use Rattle.phases.specs.Inner.Taking.{IsTakenAs, TakesRequest, IsOutstanding, IsOutstandingIn};
+ghost use Rattle.phases.specs.Inner.Taking.{IsTakenAs, TakesRequest, IsOutstandingIn};
 
 use crate::direct_chain::DirectChain;
 use crate::fetching::lengths_of_chain;
 use crate::slot::Slot;
 use foundation::NoMemory;
-use guest_mem::{GuestMem, Memory, StillMem};
+use guest_mem::Memory;
 use request_intake::{Decision, Inventory, decide};
 use ring_core::Fetched;
 use scsi_codec::FIRST_REQUEST_QUEUE;
@@ -53,26 +53,10 @@ fn decided(inventory: &Inventory, fetched: Fetched, slot: &mut Slot) -> Taken
 }
 
 /// Takes the next chain of a request queue as [`phase_fetch`](crate::phase_fetch) does, but gives a request that
-/// arrives to the caller, who puts it into the slot or serves it. Its chain is outstanding at the queue.
+/// arrives to the caller, who puts it into the slot or serves it. Its chain is outstanding at the queue. Called in a phase of
+/// the memory that wrote nothing yet and has room for 4 short reads. Where it took nothing, it took one of these at most.
 #[inline(always)]
-pub fn take_request(
-    queue: &mut Queue,
-    slot: &mut Slot,
-    memory: &GuestMem,
-    inventory: &Inventory,
-) -> Result<Taken, NoMemory>
-    ensures takes { TakesRequest inventory.now memory.now (slot_of slot.old) queue.old
-        result (slot_of slot.new) queue.new }
-    ensures owned { IsOutstanding memory.now result queue.new }
-{
-    let mut still = StillMem::of(memory);
-    take_request_in(queue, slot, &mut still, inventory)
-}
-
-/// Takes the next chain of a request queue from any memory, as [`take_request`] does. Called in a phase of the
-/// memory that wrote nothing yet and has room for 4 short reads. Where it took nothing, it took one of these at most.
-#[inline(always)]
-pub fn take_request_in<M: Memory>(
+pub fn take_request<M: Memory>(
     queue: &mut Queue,
     slot: &mut Slot,
     memory: &mut M,

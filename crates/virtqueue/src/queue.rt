@@ -176,18 +176,9 @@ impl Queue {
         self.ring.fits(memory)
     }
 
-    /// Returns true if the memory has the size that it was made with, and the chain is outstanding here.
+    /// Returns true if the memory has the size that it was made with, and the chain is outstanding here. It reads nothing.
     #[inline(always)]
-    pub fn may_complete(&self, memory: &GuestMem, chain: &Chain) -> bool
-        ensures { IsTrue result ↔ MayComplete self.now memory.now chain.now }
-    {
-        self.may_complete_in(memory, chain)
-    }
-
-    /// Returns true if any memory has the size that it was made with, and the chain is outstanding here, as `may_complete`
-    /// does. It reads nothing.
-    #[inline(always)]
-    pub fn may_complete_in<M: Memory>(&self, memory: &M, chain: &Chain) -> bool
+    pub fn may_complete<M: Memory>(&self, memory: &M, chain: &Chain) -> bool
         ensures fits { IsTrue result → M.extent memory.now ≡ self.now.ring.memory }
         ensures owned { IsTrue result → Owns self.now.ring chain.now }
         ensures may { (m : List ℕ) → M.may_be memory.now m → (IsTrue result ↔ MayComplete self.now m chain.now) }

@@ -14,6 +14,8 @@ use Rattle.device_model.specs.Applies.{Applies}
 use Rattle.device_model.specs.Found.{SlotIs}
 use Rattle.device_model.specs.Order.{of_seat, IsFirstOf, IsNextOf, NoneApplies, IsQuietOf}
 use Rattle.phases.specs.InMemory.{EachSeen}
+use Rattle.phases.specs.declared.serving.Brought.{Brought}
+use Rattle.phases.specs.declared.serving.Brought.TheVariants as brought
 use Rattle.phases.specs.EventsInMemory.{SeesBy}
 use Rattle.device_steps.specs.Apart.{PlainDevice, standing, FitsIn}
 use Rattle.device_steps.specs.Inner.Apart.{HasFew, IsSoundIn}
@@ -159,10 +161,10 @@ pub record MayServe (i : ℕ) (w : PlainWorld) : Type 0 where
   pub room : 0 < w.limit
 
 -- what was done at once of a request of this queue, and where to look then: it only entered, or was served to its end
-abbrev pub served_of : Option Bool → ℕ → ℕ → Progress
-served_of None jobs queue = record { next = cursor.Start; steps = 2 }
-served_of (Some left) zero queue = record { next = cursor.Fetch queue; steps = 7 }
-served_of (Some left) (suc jobs) queue = record { next = cursor.Seats; steps = 7 }
+abbrev pub served_of : Brought → ℕ → ℕ → Progress
+served_of brought.Waits jobs queue = record { next = cursor.Start; steps = 2 }
+served_of (brought.Answered left) zero queue = record { next = cursor.Fetch queue; steps = 7 }
+served_of (brought.Answered left) (suc jobs) queue = record { next = cursor.Seats; steps = 7 }
 
 -- In a memory that others may write too
 

@@ -1,6 +1,6 @@
 -- What is done of a request at once, in a memory that others may write too, in which these writes were stored: found, left and
 -- seen as in InMemory.
-use Rattle.std.specs.Prelude.{ℕ, ◌≡◌, Bool, true, List, [], ◌∷◌, Option, Some, None}
+use Rattle.std.specs.Prelude.{ℕ, ◌≡◌, Bool, true, List, [], ◌∷◌}
 use Rattle.ring_core.specs.Writes.{Write}
 use Rattle.unit_model.specs.Jobs.{PlainJob, Jobs}
 use Rattle.unit_model.specs.Unit.{PlainUnit}
@@ -11,8 +11,10 @@ use Rattle.phases.specs.Direct.{decided_writes}
 use Rattle.phases.specs.Units.{EntersAs, Commits, Leaves}
 use Rattle.phases.specs.Inner.InMemory.{AnswersIn, StaysQueueIn}
 use Rattle.phases.specs.Inner.Serving.{HandsOn}
+use Rattle.phases.specs.declared.serving.Brought.{Brought}
+use Rattle.phases.specs.declared.serving.Brought.TheVariants as brought
 
--- `ServesAtOnce` in such a memory
+-- the task enters, and nothing blocks it; it is committed, answered, and leaves, or isn't known there any more
 pub record ServesAtOnceIn (shared : Bool) (stored : List Write → Type 0) (x : PlainJob) (u : PlainUnit) (q : BareQueue)
     (found : List ℕ) (out : Jobs) (gone : Bool) (u' : PlainUnit) (q' : BareQueue) (left seen : List ℕ) (out' : Jobs)
     : Type 0 where
@@ -36,10 +38,10 @@ pub record OnlyEntersIn (stored : List Write → Type 0) (x : PlainJob) (u : Pla
   pub stores : stored []
   pub jobs : out' ≡ with_more more out
 
--- `Serves` in such a memory
-abbrev pub ServesIn : Bool → (List Write → Type 0) → PlainJob → PlainUnit → BareQueue → List ℕ → Slot → Jobs → Option Bool → PlainUnit → BareQueue
+-- a request that is brought to its unit
+abbrev pub ServesIn : Bool → (List Write → Type 0) → PlainJob → PlainUnit → BareQueue → List ℕ → Slot → Jobs → Brought → PlainUnit → BareQueue
     → List ℕ → List ℕ → Slot → Jobs → Type 0
-ServesIn shared stored x u q found s out (Some gone) u' q' left seen s' out' =
+ServesIn shared stored x u q found s out (brought.Answered gone) u' q' left seen s' out' =
     ServesAtOnceIn shared stored x u q found out gone u' q' left seen out' × (s' ≡ s)
-ServesIn shared stored x u q found s out None u' q' left seen s' out' =
+ServesIn shared stored x u q found s out brought.Waits u' q' left seen s' out' =
     OnlyEntersIn stored x u q found out u' q' left seen s' out'

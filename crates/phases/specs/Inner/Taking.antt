@@ -38,7 +38,3 @@ TakesRequest inventory m s q (Err e) s' q' =
 abbrev pub IsOutstandingIn : ℕ → Result Taken NoMemory → BareQueue → Type 0
 IsOutstandingIn size (Ok (taken.Arrived x)) q' = (size ≡ q'.ring.memory) × Owns q'.ring x.chain
 IsOutstandingIn size r q' = ⊤
-
--- the chain of a request that arrived is outstanding at the queue, whose memory this is
-abbrev pub IsOutstanding : List ℕ → Result Taken NoMemory → BareQueue → Type 0
-IsOutstanding m r q' = IsOutstandingIn (length m) r q'

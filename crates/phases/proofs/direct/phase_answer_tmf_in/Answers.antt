@@ -15,17 +15,17 @@ returns-then-not-finished-clause-responds g c =
     (responds_later g.M.Memory.shared open_one c.args.queue.now (g.M.Memory.may_be c.args.memory.now)
     (sym c.finished.ensures ∙ c.if-not-finished.true))
 
-pub returns-then-not-may_complete_in-clause-responds :
-    goal.returns-then-not-may_complete_in-clause-responds
-returns-then-not-may_complete_in-clause-responds g c =
+pub returns-then-not-may_complete-clause-responds :
+    goal.returns-then-not-may_complete-clause-responds
+returns-then-not-may_complete-clause-responds g c =
     let open_one : Opened = record { chain = c.open.inside.chain; function = c.open.inside.function } in
     rw (← c.in-Some.ensures.value, ← c.open.view_is, c.in-Some.ensures.after)
     (responds_away g.M.Memory.shared open_one c.args.queue.now (g.M.Memory.may_be c.args.memory.now)
-    (sym c.finished.ensures ∙ c.if-not-finished.false) c.if-not-may_complete_in.ensures.may)
+    (sym c.finished.ensures ∙ c.if-not-finished.false) c.if-not-may_complete.ensures.may)
 
-pub returns-else-not-may_complete_in-clause-responds :
-    goal.returns-else-not-may_complete_in-clause-responds
-returns-else-not-may_complete_in-clause-responds g c =
+pub returns-else-not-may_complete-clause-responds :
+    goal.returns-else-not-may_complete-clause-responds
+returns-else-not-may_complete-clause-responds g c =
     let open_one : Opened = record { chain = c.open.inside.chain; function = c.open.inside.function } in
     rw (← c.in-Some.ensures.value, ← c.open.view_is, c.in-Some.ensures.after)
     (responds g.M.Memory.shared open_one c.args.queue.now c.answer_chain-answered.new.queue
@@ -45,16 +45,16 @@ returns-then-not-finished-clause-stores g c =
     let r = c.args.queue.now.ring in
     none_stored g.M.Memory.storing g.met.M.Memory.none (g.M.Memory.stored c.args.memory.now) (responded_writes f r false) (not_responded f r)
 
-pub returns-then-not-may_complete_in-clause-stores :
-    goal.returns-then-not-may_complete_in-clause-stores
-returns-then-not-may_complete_in-clause-stores g c =
+pub returns-then-not-may_complete-clause-stores :
+    goal.returns-then-not-may_complete-clause-stores
+returns-then-not-may_complete-clause-stores g c =
     let f = c.args.function.now in
     let r = c.args.queue.now.ring in
     none_stored g.M.Memory.storing g.met.M.Memory.none (g.M.Memory.stored c.args.memory.now) (responded_writes f r false) (not_responded f r)
 
-pub returns-else-not-may_complete_in-clause-stores :
-    goal.returns-else-not-may_complete_in-clause-stores
-returns-else-not-may_complete_in-clause-stores g c =
+pub returns-else-not-may_complete-clause-stores :
+    goal.returns-else-not-may_complete-clause-stores
+returns-else-not-may_complete-clause-stores g c =
     let found : g.M.Memory.Stores = g.M.Memory.stored c.args.memory.now in
     let chain = c.open.inside.chain in
     rw (← c.in-Some.ensures.value, ← c.open.view_is)

@@ -13,13 +13,13 @@ returns-then-not-is_direct-clause-directs g c =
     directs_none g.M.Memory.shared (slot_of c.args.slot.now) c.args.queue.now (g.M.Memory.may_be c.args.memory.now)
     (sym c.is_direct.ensures ∙ c.if-not-is_direct.true)
 
-pub returns-then-not-may_complete_in-clause-directs :
-    goal.returns-then-not-may_complete_in-clause-directs
-returns-then-not-may_complete_in-clause-directs g c =
+pub returns-then-not-may_complete-clause-directs :
+    goal.returns-then-not-may_complete-clause-directs
+returns-then-not-may_complete-clause-directs g c =
     let ready = c.in-Direct.ready in
     rw (← c.in-Direct.ensures.value, c.in-Direct.ensures.after)
     (directs_away g.M.Memory.shared ready.chain c.into_parts-chain.result.0 ready.outcome c.args.queue.now
-    (g.M.Memory.may_be c.args.memory.now) c.into_parts-chain.ensures.chain c.if-not-may_complete_in.ensures.may)
+    (g.M.Memory.may_be c.args.memory.now) c.into_parts-chain.ensures.chain c.if-not-may_complete.ensures.may)
 
 pub returns-clause-directs : goal.returns-clause-directs
 returns-clause-directs g c =
@@ -36,9 +36,9 @@ returns-then-not-is_direct-clause-stores g c =
     let r = c.args.queue.now.ring in
     none_stored g.M.Memory.storing g.met.M.Memory.none (g.M.Memory.stored c.args.memory.now) (directed_writes s r false) (not_directed s r)
 
-pub returns-then-not-may_complete_in-clause-stores :
-    goal.returns-then-not-may_complete_in-clause-stores
-returns-then-not-may_complete_in-clause-stores g c =
+pub returns-then-not-may_complete-clause-stores :
+    goal.returns-then-not-may_complete-clause-stores
+returns-then-not-may_complete-clause-stores g c =
     let s = slot_of c.args.slot.now in
     let r = c.args.queue.now.ring in
     none_stored g.M.Memory.storing g.met.M.Memory.none (g.M.Memory.stored c.args.memory.now) (directed_writes s r false) (not_directed s r)

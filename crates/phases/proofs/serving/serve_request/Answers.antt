@@ -1,19 +1,16 @@
-use Rattle.std.proofs.Common.{◌≡◌, List, false}
-use Rattle.guest_mem.specs.Stores.{all_stored}
-use Rattle.ring_core.specs.Writes.{Write, stores_of}
 use Rattle.phases.specs.Slots.{slot_of}
-use Rattle.phases.specs.Inner.ServingInMemory.{ServesIn}
-use Rattle.phases.proofs.Behind.{each_own}
-use Rattle.phases.proofs.AtOnce.{serves_own}
+use Rattle.phases.proofs.AtOnce.{served_alone}
 use Rattle.phases.proofs.serving.serve_request.Goals as goal
 
-pub returns-clause-serves : goal.returns-clause-serves
-returns-clause-serves c =
-    let d = c.serve_request_in in
-    let stored : List Write → Type 0 = λ ws. d.new.memory ≡ all_stored c.args.memory.now (stores_of ws) in
-    serves_own stored c.args.arrival c.args.unit.now d.new.unit c.args.queue.now d.new.queue c.args.memory.now d.new.memory d.new.memory
-    (slot_of c.args.slot.now) (slot_of d.new.slot) c.args.out.now d.new.out d.result
-    (each_own c.args.memory.now d.new.memory
-    (λ found left seen. ServesIn false stored c.args.arrival c.args.unit.now c.args.queue.now found (slot_of c.args.slot.now)
-    c.args.out.now d.result d.new.unit d.new.queue left seen (slot_of d.new.slot) d.new.out)
-    d.ensures.serves)
+pub returns-in-Some-clause-serves : goal.returns-in-Some-clause-serves
+returns-in-Some-clause-serves g c =
+    served_alone g.M.Memory.storing g.met.M.Memory.both (g.M.Memory.stored c.args.memory.now)
+    (g.M.Memory.stored c.serve_alone.new.memory) (g.M.Memory.stored c.complete_in.new.memory) g.M.Memory.shared c.args.arrival c.args.unit.now c.serve_alone.new.unit c.args.queue.now c.complete_in.new.self
+    (g.M.Memory.may_be c.args.memory.now) (g.M.Memory.may_be c.serve_alone.new.memory)
+    (g.M.Memory.may_be c.complete_in.new.memory) c.in-Some.len c.into_chain.result (slot_of c.args.slot.now) c.args.out.now
+    c.in-Some.ensures.serves c.into_chain.ensures c.complete_in.ensures.seen c.complete_in.ensures.queue
+    c.complete_in.ensures.stores
+
+pub returns-in-None-clause-serves : goal.returns-in-None-clause-serves
+returns-in-None-clause-serves g c =
+    rw (c.in-None.ensures.same.0, c.in-None.ensures.same.1) at c.serve_by_steps.ensures.serves

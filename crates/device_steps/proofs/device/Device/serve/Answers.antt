@@ -38,7 +38,7 @@ returns-in-Err-clause-turns g c =
     let k = c.args.number in
     let shared = g.M.Memory.shared in
     let q = bay.the_view c.bay.inside in
-    let take = c.take_request_in-taken in
+    let take = c.take_request-taken in
     let v : PlainDevice = the_view d in
     let v' : PlainDevice =
     record v { queues = slice_set v.queues k (with_slot (slot_of take.new.slot) take.new.queue) } in
@@ -74,7 +74,7 @@ returns-in-Ok-Nothing-clause-turns g c =
     let k = c.args.number in
     let shared = g.M.Memory.shared in
     let q = bay.the_view c.bay.inside in
-    let take = c.take_request_in-taken in
+    let take = c.take_request-taken in
     let v : PlainDevice = the_view d in
     let v' : PlainDevice =
     record v { queues = slice_set v.queues k (with_slot (slot_of take.new.slot) take.new.queue) } in
@@ -112,7 +112,7 @@ returns-in-Ok-Other-clause-turns g c =
     let shared = g.M.Memory.shared in
     let asked = asks c.args.queues in
     let q = bay.the_view c.bay.inside in
-    let take = c.take_request_in-taken in
+    let take = c.take_request-taken in
     let q' = with_slot (slot_of take.new.slot) take.new.queue in
     let v : PlainDevice = the_view d in
     let v' : PlainDevice = record v { queues = slice_set v.queues k q' } in
@@ -156,7 +156,7 @@ returns-then-unit_index-len-clause-turns g c =
     let shared = g.M.Memory.shared in
     let asked = asks c.args.queues in
     let q = bay.the_view c.bay.inside in
-    let take = c.take_request_in-taken in
+    let take = c.take_request-taken in
     let q' = with_slot (Slot.Arrived c.in-Ok-Arrived.arrival) take.new.queue in
     let v : PlainDevice = the_view d in
     let v' : PlainDevice = record v { queues = slice_set v.queues k q' } in
@@ -193,8 +193,8 @@ returns-then-unit_index-len-clause-turns g c =
     fetches_only made nothing asked w k q q' (c.all_are_sound.ensures w whole.reached) serves at (fits k q at) before below c.requires.asked
     (takes m may).0)))
 
-pub serve_request_in-done-requires-clause-places : goal.serve_request_in-done-requires-clause-places
-serve_request_in-done-requires-clause-places g c =
+pub serve_request-done-requires-clause-places : goal.serve_request-done-requires-clause-places
+serve_request-done-requires-clause-places g c =
     let d = c.self.inside in
     let s : KeptSeat = seat.the_view c.behind-self.inside in
     let shared = g.M.Memory.shared in
@@ -209,8 +209,8 @@ serve_request_in-done-requires-clause-places g c =
     has_room s (length d.units.items) (seat_bare w c.args.number d.seats.items s refl at may)
     (c.self.invariant.limits 0 s at)
 
-pub serve_request_in-done-requires-clause-empty : goal.serve_request_in-done-requires-clause-empty
-serve_request_in-done-requires-clause-empty g c =
+pub serve_request-done-requires-clause-empty : goal.serve_request-done-requires-clause-empty
+serve_request-done-requires-clause-empty g c =
     let any = c.size-read.ensures.some in
     let takes = (rw c.in-Ok-Arrived.field-0-is at c.in-Ok-Arrived.ensures.takes) any.0 any.1 in
     takes.1 ∙ takes.0.1.empty
@@ -228,13 +228,13 @@ invariant_of-self-in-Ok-Arrived g c =
     omega (arith, slice_get_within (map seat_of d.seats.items) 0 _ may.seat, length-map d.seats.items seat_of, d.seats.ok.0) in
     let seat_at : slice_get d.seats.items 0 ≡ Some s = found d.seats.items d.seats.len 0 s
     c.index_mut-in-Ok-Arrived.result.now d.seats.ok.0 some c.index_mut-in-Ok-Arrived.ensures.value c.behind-self.view_is in
-    let done = c.serve_request_in-done in
+    let done = c.serve_request-done in
     let behind = c.size-bytes.ensures.some in
     let each = done.ensures.serves behind.0 behind.1 in
     let left = each.2 in
-    let keeps = serves_keeps shared (Stored g.M.Memory.stored g.M.Memory.storing c.take_request_in-taken.new.memory done.new.memory)
+    let keeps = serves_keeps shared (Stored g.M.Memory.stored g.M.Memory.storing c.take_request-taken.new.memory done.new.memory)
     c.in-Ok-Arrived.arrival c.index_mut.result.now done.new.unit
-    c.take_request_in-taken.new.queue done.new.queue each.0 left.0 behind.0 (slot_of c.take_request_in-taken.new.slot)
+    c.take_request-taken.new.queue done.new.queue each.0 left.0 behind.0 (slot_of c.take_request-taken.new.slot)
     (slot_of done.new.slot) c.behind-self.inside.out done.new.out done.result left.2 in
     let t : KeptSeat = seat.the_view (record { hand = c.behind-self.inside.hand; out = done.new.out }) in
     keeps_unit d.units.items d.seats.items 0 c.unit-unit_index.result done.new.unit s t seat_at keeps c.self.invariant
@@ -247,7 +247,7 @@ returns-else-unit_index-len-clause-turns g c =
     let asked = asks c.args.queues in
     let q = bay.the_view c.bay.inside in
     let v : PlainDevice = the_view d in
-    let take = c.take_request_in-taken in
+    let take = c.take_request-taken in
     let any = c.requires.ready.some in
     let known : MayServe k (standing shared any.0 v) =
     subst (λ (z : PlainDevice). MayServe k (standing shared any.0 z)) (sym c.self.view_is) (c.requires.at_once any.0 any.1) in
@@ -265,7 +265,7 @@ returns-else-unit_index-len-clause-turns g c =
     let lent = take.new.queue in
     let q1 = with_slot (Slot.Arrived x) lent in
     let v1 : PlainDevice = record v { queues = slice_set v.queues k q1 } in
-    let done = c.serve_request_in-done in
+    let done = c.serve_request-done in
     let bare_is = seat_bare (standing shared any.0 v) k d.seats.items s refl seat_at known in
     let kept : d.seats.items ≡ bare Hand.Empty s.limit ∷ drop 1 d.seats.items =
     begins d.seats.items s seat_at ∙ ap (λ (z : KeptSeat). z ∷ drop 1 d.seats.items) bare_is in
