@@ -1,49 +1,25 @@
 -- The parts of a device as they are made one after another.
-use Rattle.std.proofs.Common.{◌≡◌, ℕ, refl, List, [], ◌∷◌, ◌++◌, ◌+◌, ◌*◌, ◌<◌, Some, length, zero, suc, arith, ap, sym, ◌∙◌, ◌⊎◌, inl, inr, subst, map}
+use Rattle.std.proofs.Common.{◌≡◌, ℕ, refl, List, [], ◌∷◌, ◌++◌, ◌+◌, ◌*◌, Some, length, zero, suc, arith, ap, sym, ◌∙◌, subst, map}
 use Rattle.std.specs.Prelude.{slice_get, slice_set}
 use Rattle.std.proofs.lemmas.List.{length-map}
 use Rattle.std.proofs.lemmas.Option.{slice_get_within}
+use Rattle.ring_core.specs.declared.layout.Features.{Features}
+use Rattle.ring_core.specs.declared.layout.Form.{Form}
+use Rattle.ring_core.specs.declared.layout.Layout.{Layout}
+use Rattle.virtqueue.specs.Queue.{BareQueue}
+use Rattle.phases.specs.Queue.{with_slot}
 use Rattle.unit_model.specs.Unit.{PlainUnit}
-use Rattle.device_model.specs.World.{Seat, Everywhere, IsNewSeat}
+use Rattle.device_model.specs.Parts.{Slot}
+use Rattle.device_model.specs.World.{PlainQueue, Seat, Everywhere, IsNewSeat}
 use Rattle.device_model.proofs.Lists.{nothing, same}
 use Rattle.backed_store.specs.declared.disk.Disk.{Disk}
 use Rattle.unit_history.specs.Disks.{unit_over, IsDiskOf}
-use Rattle.device_steps.specs.Opening.{AreDisksOf, over_disks}
+use Rattle.device_opening.specs.Inner.Opening.{AreKept}
+use Rattle.device_steps.specs.Opening.{AreOpening, AreDisksOf, over_disks}
 use Rattle.device_steps.specs.Inner.Opening.{AreSeats}
 use Rattle.device_steps.specs.Kept.{KeptSeat, seat_of}
 use Rattle.device_steps.specs.Inner.Kept.{HasLists}
 use Rattle.device_steps.proofs.Setting.{each_image}
-
--- the item that was put at the end of a list
-pub at_end : {X : Type 0} (xs : List X) (y : X) → slice_get (xs ++ y ∷ []) (length xs) ≡ Some y
-at_end [] y = refl
-at_end (x ∷ xs) y = at_end xs y
-
--- those before it
-pub before_end : {X : Type 0} (xs : List X) (y : X) (k : ℕ) (x : X) → slice_get xs k ≡ Some x
-    → slice_get (xs ++ y ∷ []) k ≡ Some x
-before_end [] y k z e = absurd (omega (arith, slice_get_within [] k z e))
-before_end (x ∷ xs) y zero z e = e
-before_end (x ∷ xs) y (suc k) z e = before_end xs y k z e
-
-at_or_below : (k n : ℕ) → k < n + 1 → (k < n) ⊎ (k ≡ n)
-at_or_below k n lt = grind arith
-
--- Items that are made one after another, each of its number and of what a list has there; and one more of them:
-module _ {X Y : Type 0} (make : ℕ → X → Y) (wanted : List X) (made : List Y) (n : ℕ) (count : length made ≡ n)
-    (each : (k : ℕ) (x : X) → k < n → slice_get wanted k ≡ Some x → slice_get made k ≡ Some (make k x))
-    (y : Y) (is : (x : X) → slice_get wanted n ≡ Some x → y ≡ make n x) where
-  pub one_more : (k : ℕ) (x : X) → k < n + 1 → slice_get wanted k ≡ Some x
-      → slice_get (made ++ y ∷ []) k ≡ Some (make k x)
-  one_more k x lt there =
-      elim (at_or_below k n lt) [
-        | inl below ↦ before_end made y k (make k x) (each k x below there)
-        | inr here ↦
-            ap (λ (j : ℕ). slice_get (made ++ y ∷ []) j) (here ∙ sym count)
-            ∙ at_end made y
-            ∙ ap (λ (z : Y). Some z) (is x (subst (λ (j : ℕ). slice_get wanted j ≡ Some x) here there)
-            ∙ ap (λ (j : ℕ). make j x) (sym here))
-      ]
 
 -- what is true of each item is true of each of one more
 pub everywhere_more : {X : Type 0} (P : X → Type 0) (xs : List X) (y : X)
@@ -53,6 +29,19 @@ everywhere_more P [] y all h zero x e = subst P (same e) h
 everywhere_more P [] y all h (suc i) x e = absurd (omega (arith, slice_get_within [] i x e))
 everywhere_more P (z ∷ xs) y all h zero x e = all zero x e
 everywhere_more P (z ∷ xs) y all h (suc i) x e = everywhere_more P xs y (λ j v at. all (suc j) v at) h i x e
+
+-- the queues of a device that opens, each with an empty slot
+pub bays_open : (kept : BareQueue → PlainQueue → Type 0)
+    → ((q : BareQueue) (b : PlainQueue) → kept q b → b ≡ with_slot Slot.Empty q)
+    → (form : Form) (memory : ℕ) (features : Features) (layouts : List Layout) (bays : List PlainQueue)
+    → AreKept kept form memory features layouts bays → AreOpening form memory features layouts bays
+bays_open kept empty form memory features layouts bays are =
+    record {
+      count = are.count;
+      each = λ k l at.
+          let here = are.each k l at in
+          here.1 ∙ ap (λ (b : PlainQueue). Some b) (empty _ here.0 here.2);
+    }
 
 -- the lists of a device that opens
 pub lists_open : (units : List PlainUnit) (count : ℕ) (seats : List KeptSeat)

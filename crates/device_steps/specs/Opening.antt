@@ -1,5 +1,5 @@
 -- The device that a configuration opens as.
-use Rattle.std.specs.Prelude.{ℕ, ◌+◌, ◌≡◌, Bool, true, false, List, [], ◌∷◌, length, replicate, map, slice_get, Some, None, ⊤}
+use Rattle.std.specs.Prelude.{ℕ, ◌+◌, ◌≡◌, Bool, true, false, List, [], ◌∷◌, length, replicate, slice_get, Some, None, ⊤}
 use Rattle.ring_core.specs.State.{features_of}
 use Rattle.ring_core.specs.declared.layout.Features.{Features}
 use Rattle.ring_core.specs.declared.layout.Form.{Form}
@@ -8,39 +8,19 @@ use Rattle.virtqueue.specs.Queue.{opening_queue}
 use Rattle.phases.specs.Queue.{with_slot}
 use Rattle.device_model.specs.Parts.{Slot}
 use Rattle.device_model.specs.World.{PlainQueue, PlainWorld, IsNewSeat, Everywhere}
-use Rattle.unit_model.specs.Contents.{Opening}
 use Rattle.unit_model.specs.Jobs.{PlainJob}
 use Rattle.unit_model.specs.Unit.{PlainUnit}
-use Rattle.unit_model.specs.Unit as unit
 use Rattle.backed_store.specs.Disks.{size_of as disk_size, is_backed}
 use Rattle.backed_store.specs.declared.disk.Disk.{Disk}
 use Rattle.unit_history.specs.Disks.{unit_over, IsDiskOf}
-use Rattle.scsi_codec.specs.declared.lun.Address.{Address}
-use Rattle.request_intake.specs.Inventory.{address_of, inventory_of, has_cache, luns_of}
+use Rattle.request_intake.specs.Inventory.{inventory_of, has_cache}
 use Rattle.request_intake.specs.declared.inventory.UnitSpec.{UnitSpec}
 use Rattle.config.specs.Config.{form_of, has_bit, is_config, size_of}
 use Rattle.config.specs.declared.config.Config.{Config}
 use Rattle.config.specs.declared.config.StartFault.{StartFault}
 use Rattle.config.specs.declared.config.StartFault.TheVariants.{BadConfig, NoMemory}
+use Rattle.device_opening.specs.Opening.{AreFresh}
 use Rattle.device_steps.specs.Apart.{PlainDevice, standing}
-
--- what a unit opens with
-abbrev pub opening_of : List Address → UnitSpec → Opening
-opening_of inventory u =
-    record {
-      target = u.target;
-      lun = u.lun;
-      luns = luns_of inventory u.target;
-      blocks = u.blocks;
-      calm = u.calm;
-      content = [];
-      profile = u.profile;
-      identity = u.identity;
-    }
-
--- a unit of which no step was taken. It keeps no replies, since no receipt outlives a chain's service
-abbrev pub opening_unit : List Address → UnitSpec → PlainUnit
-opening_unit inventory u = unit.opening_unit (opening_of inventory u) false
 
 -- the queues of these layouts, for which these features were agreed and of which nothing was fetched yet
 pub record AreOpening
@@ -49,20 +29,14 @@ pub record AreOpening
   pub each : (k : ℕ) (l : Layout) → slice_get layouts k ≡ Some l → slice_get queues k
       ≡ Some (with_slot Slot.Empty (opening_queue form memory k l features))
 
--- the units, of which no step was taken
-pub record AreFresh (wanted : List UnitSpec) (units : List PlainUnit) : Type 0 where
-  pub count : length units ≡ length wanted
-  pub each : (k : ℕ) (u : UnitSpec) → slice_get wanted k ≡ Some u → slice_get units k
-      ≡ Some (opening_unit (map address_of wanted) u)
-
 -- for a memory of this size, whatever stands there: of each queue nothing was fetched, of each unit no step was taken, and
--- no seat has anything
+-- no seat has anything. Units keep no replies, since no receipt outlives a chain's service
 pub record IsOpeningFor (size : ℕ) (c : Config) (w : PlainWorld) : Type 0 where
   pub form : Form
   pub agreed : form_of c.features ≡ Some form
   pub inventory : w.inventory ≡ inventory_of c.units.items
   pub queues : AreOpening form size (features_of c.features) c.queues.items w.queues
-  pub units : AreFresh c.units.items w.units
+  pub units : AreFresh false c.units.items w.units
   pub workers : w.workers ≡ c.workers
   pub limit : w.limit ≡ c.handoff
   pub seats : length w.seats ≡ c.workers + 1

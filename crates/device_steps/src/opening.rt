@@ -1,13 +1,10 @@
 //! The opening of the device.
 
-ghost use Rattle.std.specs.Prelude.{◌≡◌, ◌≤◌, ◌↔◌, [], length, map, IfOk, IsFalse, IsTrue, true, false};
-ghost use Rattle.request_intake.specs.Inventory.{address_of};
-ghost use Rattle.std.specs.List.{list_all};
-ghost use Rattle.config.specs.Config.{is_config_for, is_queue};
-ghost use Rattle.ring_core.specs.State.{features_of};
+ghost use Rattle.std.specs.Prelude.{◌≡◌, ◌≤◌, ◌↔◌, [], length, IfOk, IsFalse, IsTrue, true};
+ghost use Rattle.config.specs.Config.{is_config_for};
 ghost use Rattle.device_model.specs.World.{Everywhere};
 ghost use Rattle.std.specs.Vec.{vec_capacity};
-ghost use Rattle.device_steps.specs.Opening.{IsOpeningApart, AreOpening, AreFresh, AreDisksOf, opening_unit, IsDiskFor, AreDisksFor, over_disks};
+ghost use Rattle.device_steps.specs.Opening.{IsOpeningApart, AreDisksOf, IsDiskFor, AreDisksFor, over_disks};
 ghost use Rattle.device_steps.specs.Inner.Opening.{AreSeats};
 
 use crate::aside::JobsAside;
@@ -17,74 +14,15 @@ use crate::handed_off::HandedOff;
 use crate::seat::Seat;
 use backed_store::Disk;
 use block_store::Store;
-use config::{Config, MOST_DESCRIPTORS, form, tells_changes};
-use event_queue::{EventPort, WaitingEvents};
+use config::{Config, tells_changes};
+use device_opening::{Opened, open_parts, open_port};
+use event_queue::WaitingEvents;
 use foundation::NoMemory;
 use guest_mem::Memory;
-use request_intake::{Inventory, UnitSpec};
-use ring_core::{Form, Layout};
+use request_intake::UnitSpec;
 use std::alloc::Global;
 use task_set::MOST_TASKS;
 use unit_history::{JobList, UnitState};
-use virtqueue::Queue;
-
-/// Opens the queues of these layouts, for a driver that agreed to these features.
-fn open_bays<M: Memory>(
-    alloc: Global,
-    form: Form,
-    features: u64,
-    layouts: &[Layout],
-    memory: &M,
-) -> Result<Vec<Bay>, NoMemory>
-    requires few { length layouts.now ≤ 18 }
-    requires placed { list_all (is_queue form (M.extent memory.now)) layouts.now ≡ true }
-    ensures { IfOk result (λ bays. AreOpening form (M.extent memory.now) (features_of features) layouts.now bays.items) }
-{
-    let Ok(mut bays) = Vec::with_capacity(alloc, layouts.len()) else {
-        return Err(NoMemory);
-    };
-    for number in 0..layouts.len() {
-        let queue = Queue::new(
-            alloc,
-            form,
-            number as u16,
-            layouts[number],
-            features,
-            memory,
-        )?;
-        bays.push_reserved(Bay::new(queue));
-    }
-    Ok(bays)
-}
-
-/// Makes a unit of an inventory, of which no step was taken. `NoMemory` where the list of its target's LUNs was
-/// refused memory.
-fn open_unit(alloc: Global, spec: &UnitSpec, inventory: &Inventory) -> Result<UnitState, NoMemory>
-    ensures { IfOk result (λ unit. unit ≡ opening_unit inventory.now.addresses spec.now) }
-{
-    let luns = inventory.luns_of(alloc, spec.target)?;
-    // No receipt outlives the answer of its chain, so no reply is kept to be compared.
-    UnitState::new(alloc, spec, luns.as_slice(), false)
-}
-
-/// Makes the units that are wanted, of which no step was taken.
-fn open_units(
-    alloc: Global,
-    wanted: &[UnitSpec],
-    inventory: &Inventory,
-) -> Result<Vec<UnitState>, NoMemory>
-    requires { inventory.now.addresses ≡ map address_of wanted.now }
-    ensures { IfOk result (λ units. AreFresh wanted.now units.items) }
-{
-    let mut units = Vec::new(alloc);
-    for number in 0..wanted.len() {
-        let unit = open_unit(alloc, &wanted[number], inventory)?;
-        if units.push(unit).is_err() {
-            return Err(NoMemory);
-        }
-    }
-    Ok(units)
-}
 
 /// Seats with nothing in hand, and room for so many jobs in each list.
 fn open_seats(alloc: Global, count: usize, limit: usize) -> Result<Vec<Seat>, NoMemory>
@@ -110,18 +48,12 @@ pub fn open_device<M: Memory>(
     requires taken { is_config_for (M.extent memory.now) config.now ≡ true }
     ensures { IfOk result (λ d. IsOpeningApart (M.extent memory.now) config.now d) }
 {
-    let Some(form) = form(config.features) else {
-        unreachable!()
-    };
-    let bays = open_bays(
-        alloc,
-        form,
-        config.features,
-        config.queues.as_slice(),
-        memory,
-    )?;
-    let inventory = Inventory::new(config.units.as_slice());
-    let units = open_units(alloc, config.units.as_slice(), &inventory)?;
+    // No receipt outlives the answer of its chain, so no reply is kept to be compared.
+    let Opened {
+        inventory,
+        queues: bays,
+        units,
+    } = open_parts(alloc, config, memory, false, |queue| Bay::new(queue))?;
     // The last seat is the operator's.
     let seats = open_seats(
         alloc,
@@ -130,10 +62,7 @@ pub fn open_device<M: Memory>(
     )?;
     let jobs_aside = JobsAside::new(alloc, MOST_TASKS * units.len() + MOST_TASKS)?;
     let handed_off = HandedOff::new(alloc, seats.len(), config.handoff as usize)?;
-    // Room for one more than a queue may have chains outstanding, so that a full port keeps no fault from being found.
-    let Ok(port) = EventPort::new(alloc, MOST_DESCRIPTORS as usize + 1) else {
-        return Err(NoMemory);
-    };
+    let port = open_port(alloc)?;
     Ok(Device {
         inventory,
         bays,

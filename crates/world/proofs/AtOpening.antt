@@ -27,7 +27,8 @@ use Rattle.command_model.specs.Identity.{is_identity, told_by}
 use Rattle.config.specs.Config.{is_config, is_config_for, has_pages, is_queue, is_unit, has_lun_0, has_own_naa, are_queues, are_units, form_of, size_of}
 use Rattle.backed_store.specs.declared.disk.Disk.{Disk}
 use Rattle.unit_history.specs.Disks.{unit_over}
-use Rattle.device_steps.specs.Opening.{AreOpening, AreFresh, IsOpeningFor, over_disks, opening_unit}
+use Rattle.device_opening.specs.Opening.{AreFresh, opening_unit}
+use Rattle.device_steps.specs.Opening.{AreOpening, IsOpeningFor, over_disks}
 use Rattle.device_steps.specs.Sound.{AreFew, AreFitting, IsSteady, IsWhole}
 use Rattle.device_steps.proofs.Setting.{map_get, each_image}
 use Rattle.device_steps.proofs.Making.{over_length}
@@ -109,12 +110,12 @@ pub taken_own : (c : Config) → is_config c ≡ true → is_config_for (size_of
 taken_own c is = (and_parts (has_pages c) (is_config_for (size_of c) c) is).1
 
 -- each unit has what stands in the inventory at its index
-addressed_open : (wanted : List UnitSpec) (inventory : PlainInventory) (units : List PlainUnit) → AreFresh wanted units
+addressed_open : (wanted : List UnitSpec) (inventory : PlainInventory) (units : List PlainUnit) → AreFresh false wanted units
     → inventory ≡ inventory_of wanted
     → Everywhere (IsAddressed inventory) units
 addressed_open wanted inventory units fresh is k u at =
     let found = stands_at wanted k (omega (arith, slice_get_within units k u at, fresh.count)) in
-    let one : opening_unit (map address_of wanted) found.0 ≡ u = same (sym (fresh.each k found.0 found.1) ∙ at) in (
+    let one : opening_unit (map address_of wanted) false found.0 ≡ u = same (sym (fresh.each k found.0 found.1) ∙ at) in (
       ap (λ (ns : PlainInventory). slice_get ns.addresses k) is
           ∙ map_get address_of k wanted found.0 found.1
           ∙ ap (λ (z : PlainUnit). Some (unit_address z.opening)) one,
@@ -146,7 +147,7 @@ opens size c w is o =
           IsNewQueue c.queues.items w.queues o.queues.count o.queues.each
           (λ k l. opens_new o.form size k l (features_of c.features));
       units =
-          each_made (λ (k : ℕ) (u : UnitSpec). opening_unit (map address_of c.units.items) u)
+          each_made (λ (k : ℕ) (u : UnitSpec). opening_unit (map address_of c.units.items) false u)
           (λ (k : ℕ) (u : PlainUnit). IsNewUnit u) c.units.items w.units o.units.count o.units.each
           (λ k u. record { steps = refl; parked = refl });
       there = o.units.count ∙ (sym (rw length-map refl) ∙ ap (λ (ns : PlainInventory). length ns.addresses) (sym o.inventory));
@@ -229,7 +230,7 @@ units_named units h =
           below u.lun 16383 (and_parts (nat_le u.lun 16383) (nat_le 1 u.blocks) two).0,
     )
 
-luns_open : (wanted : List UnitSpec) (units : List PlainUnit) → AreFresh wanted units
+luns_open : (wanted : List UnitSpec) (units : List PlainUnit) → AreFresh false wanted units
     → ((k : ℕ) (u : UnitSpec) → slice_get wanted k ≡ Some u → u.lun ≤ 16383)
     → Everywhere (λ k (n : ℕ). n ≤ 16383) (map seen.lun_of units)
 luns_open wanted units is named =

@@ -1,0 +1,2 @@
+-- No public clause of the device, of its hosts or of the library for C, and no law, rests on these.
+pub mod Opening
