@@ -31,20 +31,20 @@ pub(crate) const FIRST: Asked = Asked {
     writable: 108,
 };
 
-const SECOND: Asked = Asked {
+pub(crate) const SECOND: Asked = Asked {
     queue: 3,
     bytes: &[1, 0, 0, 1],
     ..FIRST
 };
 
-const ABSENT: Asked = Asked {
+pub(crate) const ABSENT: Asked = Asked {
     queue: 4,
     bytes: &[1, 7],
     ..FIRST
 };
 
 /// Returns the unit of a LUN.
-fn unit(lun: u16) -> UnitSpec {
+pub(crate) fn unit(lun: u16) -> UnitSpec {
     UnitSpec {
         target: 0,
         lun,
@@ -147,17 +147,28 @@ pub(crate) fn serve_nothing<R: Threads + Wait + Copy + Send + 'static>(
     alloc: Global,
     workers: u16,
 ) -> Option<Left> {
-    serve_nothing_with::<Brand, Brand, R>(rt, alloc, workers, Blank::new(64), Blank::new(73))
+    summed(closed(rt, alloc, workers, &[])?)
 }
 
-/// Does what [`serve_nothing`] does, with these ledgers.
-fn serve_nothing_with<C, D, R>(
+/// Asks for these, and closes the host, which has so many workers; `None` where memory was refused before.
+pub(crate) fn closed<R: Threads + Wait + Copy + Send + 'static>(
     rt: R,
     alloc: Global,
     workers: u16,
+    asked: &[Asked],
+) -> Option<Result<Report, CloseFault>> {
+    closed_with::<Brand, Brand, R>(rt, alloc, workers, asked, Blank::new(64), Blank::new(73))
+}
+
+/// Does what [`closed`] does, with these ledgers.
+fn closed_with<C, D, R>(
+    rt: R,
+    alloc: Global,
+    workers: u16,
+    asked: &[Asked],
     acts: Blank,
     receipts: Blank,
-) -> Option<Left>
+) -> Option<Result<Report, CloseFault>>
 where
     C: Ledger + Weighing + Send + Sync + 'static,
     D: Ledger + Send + Sync + 'static,
@@ -166,7 +177,10 @@ where
     requires receipts { Opens receipts.name receipts.parts D.name D.parts 73 }
 {
     let host: Host<Open, C, D> = start(rt, alloc, Open, workers, 1, acts, receipts)?;
-    summed(host.close(&rt))
+    for each in asked {
+        ask(&rt, &host, *each);
+    }
+    Some(host.close(&rt))
 }
 
 /// Returns true if the guest saw an answer to each request, and what a host of so many workers left.

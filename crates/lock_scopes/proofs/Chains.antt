@@ -236,30 +236,6 @@ module _ (q r : BareQueue) (fetched : List declared_slot.Slot) (notes : List Pla
         decided = ap note_left (ap (λ (i : ℕ). slice_get (fetched ++ s ∷ []) i) (ap (λ (z : PlainNote). z.ticket.number) is ∙ sym as_many) ∙ push_here fetched s) ∙ e;
       }
 
--- nor where it took none
-left_none : (q r : BareQueue) (fetched : List declared_slot.Slot) (notes : List PlainNote) (s : declared_slot.Slot) → KeepsFetches q fetched notes
-    → Nothing q r (slot_of s) → KeepsFetches r (with_left s fetched) notes
-left_none q r fetched notes slot.Empty k n = keeps_on q r fetched notes k n.none
-left_none q r fetched notes (slot.Arrived x) k n = absurd (unlike n.empty)
-  where
-    unlike : Slot.Arrived x ≡ Slot.Empty → ⊥
-    unlike e = cc
-left_none q r fetched notes (slot.Direct c) k n = absurd (unlike n.empty)
-  where
-    unlike : Slot.Direct c.chain c.outcome ≡ Slot.Empty → ⊥
-    unlike e = cc
-
-pub keeps_fetch : (inventory : PlainInventory) (m : List ℕ) (q r : BareQueue) (fetched : List declared_slot.Slot) (notes : List PlainNote)
-    (s : Slot) (s' : declared_slot.Slot) (b : Result Bool NoMemory) → KeepsFetches q fetched notes
-    → FetchesRequest inventory m (with_slot s q) b (with_slot (slot_of s') r) → KeepsFetches r (with_fetch b s' fetched) notes
-keeps_fetch inventory m q r fetched notes s s' (Ok true) k (two, free, (d, is, did)) = by_came (came inventory m q r s (slot_of s') d free.empty is did)
-  where
-    by_came : Fetched q r (slot_of s') ⊎ Nothing q r (slot_of s') → KeepsFetches r (with_left s' fetched) notes
-    by_came (inl f) = left_more q r fetched notes k two s' f
-    by_came (inr n) = left_none q r fetched notes s' k n
-keeps_fetch inventory m q r fetched notes s s' (Ok false) k e = keeps_on q r fetched notes k (same_slotted q r s (slot_of s') e.0)
-keeps_fetch inventory m q r fetched notes s s' (Err refused) k e = keeps_on q r fetched notes k (same_slotted q r s (slot_of s') e.0)
-
 -- One more note is of the chain that a fetch left.
 with_one : (r : BareQueue) (fetched : List declared_slot.Slot) (notes : List PlainNote) (n : PlainNote) → KeepsFetches r fetched notes
     → IsDecided fetched n → n.ticket.queue ≡ r.ring.queue → KeepsFetches r fetched (notes ++ n ∷ [])
@@ -375,26 +351,7 @@ noted_take inventory lost after fetched notes a s (Ok false) q p r m n s' old lo
 noted_take inventory lost after fetched notes a s (Err refused) q p r m n s' old loses e did =
     noted_none lost after fetched notes a (slot_of s) p r m n s' old (λ none. (loses none).0) (ap (λ (z : PlainQueue). z.slot) e.0) did
 
-pub noted_fetch : (lost after : Option Ticket) (fetched : List declared_slot.Slot) (notes : List PlainNote) (s : declared_slot.Slot)
-    (b : Result Bool NoMemory) → AreNoted lost fetched notes → Loses lost (is_direct (slot_of s)) false after
-    → AreNoted after (with_fetch b s fetched) notes
-noted_fetch lost after fetched notes s (Ok true) old loses none = noted_left lost after fetched notes false s old loses none
-noted_fetch lost after fetched notes s (Ok false) old loses none = old (loses none).0
-noted_fetch lost after fetched notes s (Err refused) old loses none = old (loses none).0
-
--- What a fetch left, once it was recorded.
-pub fetch_kept : (inventory : PlainInventory) (m : List ℕ) (q r : BareQueue) (fetched fetched' : List declared_slot.Slot) (notes : List PlainNote)
-    (lost after : Option Ticket) (s : Slot) (s' : declared_slot.Slot) (b : Result Bool NoMemory) (direct : Bool) → KeepsFetches q fetched notes
-    → AreNoted lost fetched notes → FetchesRequest inventory m (with_slot s q) b (with_slot (slot_of s') r)
-    → fetched' ≡ with_fetch b s' fetched → direct ≡ is_direct (slot_of s') → Loses lost direct false after
-    → KeepsFetches r fetched' notes × AreNoted after fetched' notes
-fetch_kept inventory m q r fetched fetched' notes lost after s s' b direct k old e recorded is loses = (
-  subst (λ (z : List declared_slot.Slot). KeepsFetches r z notes) (sym recorded) (keeps_fetch inventory m q r fetched notes s s' b k e),
-  subst (λ (z : List declared_slot.Slot). AreNoted after z notes) (sym recorded)
-      (noted_fetch lost after fetched notes s' b old (subst (λ (z : Bool). Loses lost z false after) is loses)),
-)
-
--- and once it was answered, too
+-- What a fetch left, once it was recorded, and its note where it was answered.
 pub take_kept : (inventory : PlainInventory) (m n : List ℕ) (q p r : BareQueue) (fetched fetched' : List declared_slot.Slot)
     (notes room notes' : List PlainNote) (lost after : Option Ticket) (s : Slot) (left : declared_slot.Slot) (s' : Slot)
     (b : Result Bool NoMemory) (a direct told : Bool) → s ≡ Slot.Empty → KeepsFetches q fetched notes → AreNoted lost fetched notes

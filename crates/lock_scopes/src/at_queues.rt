@@ -6,7 +6,7 @@ ghost use Rattle.virtqueue.specs.Queue.{BareQueue};
 ghost use Rattle.phases.specs.Queue.{with_slot};
 ghost use Rattle.phases.specs.Slots.{slot_of};
 ghost use Rattle.phases.specs.Parts.{hand_of};
-ghost use Rattle.phases.specs.Fetching.{FetchesRequest, FetchesControl};
+ghost use Rattle.phases.specs.Fetching.{FetchesControl};
 ghost use Rattle.phases.specs.Direct.{Directs, Responds};
 ghost use Rattle.phases.specs.Answering.{Answers};
 ghost use Rattle.phases.specs.DirectChain.{note_in};
@@ -21,23 +21,6 @@ use phases::{
     phase_fetch_control, phase_fetch_event, phase_raise,
 };
 use request_intake::Inventory;
-
-/// Takes the next chain of a request queue (`phase_fetch`), in one hold of it and of the memory. The queue's owner
-/// calls. Returns true if something changed, or `NoMemory` as the phase does.
-pub fn fetch_on<B: QueueLender>(
-    lender: &mut B,
-    at: usize,
-    slot: &mut Slot,
-    inventory: &Inventory,
-) -> Result<bool, NoMemory>
-    requires there { at < B.queues lender.old }
-    ensures did { (q : BareQueue) × (m : List ℕ) × (r : BareQueue) × B.lends_queue lender.old at q m
-        × FetchesRequest inventory.now m (with_slot (slot_of slot.old) q) result (with_slot (slot_of slot.new) r)
-        × B.keeps_queue lender.old at r m lender.new }
-    ensures queues { B.queues lender.new ≡ B.queues lender.old }
-{
-    lender.fetch(at, slot, inventory)
-}
 
 /// Takes the next chain of the control queue (`phase_fetch_control`), in one hold of it and of the memory. The queue's
 /// owner calls. Returns true if something changed, or `NoMemory` as the phase does.

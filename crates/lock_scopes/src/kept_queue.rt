@@ -107,12 +107,10 @@ impl KeptQueue {
     ghost use Rattle.std.specs.Prelude.{◌≡◌, [], List, ℕ, length, is_some, IfSome, Some};
     ghost use Rattle.virtqueue.specs.Queue.{BareQueue};
     ghost use Rattle.device_model.specs.Parts as plain;
-    ghost use Rattle.phases.specs.Queue.{with_slot};
     ghost use Rattle.phases.specs.Slots.{slot_of};
     ghost use Rattle.phases.specs.Parts.{hand_of};
     ghost use Rattle.phases.specs.Answering.{Answers};
     ghost use Rattle.phases.specs.Giving.{given_in};
-    ghost use Rattle.phases.specs.Fetching.{FetchesRequest};
     ghost use Rattle.lock_scopes.specs.Lending.{IsQueue, OnceAtFour, TakesNoRequest};
     ghost use Rattle.lock_scopes.specs.Fetches.{KeepsFetches, AreNoted};
     ghost use Rattle.lock_scopes.specs.Joined.{Takes};
@@ -171,32 +169,6 @@ impl KeptQueue {
         let answer = phase(queue, memory, one, other);
         let _behind = queue.log();
         answer
-    }
-
-    /// Takes the next chain of a request queue (`phase_fetch`), and records what that left.
-    pub(crate) fn fetch(
-        &mut self,
-        memory: &GuestMem,
-        slot: &mut Slot,
-        inventory: &Inventory,
-    ) -> Result<bool, NoMemory>
-        ensures { (q : BareQueue) × (r : BareQueue) × IsQueue q
-            × FetchesRequest inventory.now memory.now (with_slot (slot_of slot.old) q) result
-            (with_slot (slot_of slot.new) r)
-            × IsQueue r }
-    {
-        let KeptQueue {
-            queue,
-            fetched,
-            lost,
-            ..
-        } = self;
-        let _before = queue.log();
-        let outcome = phase_fetch(queue, slot, memory, inventory);
-        let _behind = queue.log();
-        record_fetch(fetched, &outcome, slot);
-        note_lost(lost, queue, slot.is_direct(), false);
-        outcome
     }
 
     /// Answers the job in the hand whose commit is over (`phase_answer`). Called in a hold of the queue's lock and the

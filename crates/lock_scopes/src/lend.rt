@@ -3,16 +3,10 @@
 ghost use Rattle.std.specs.Prelude.{◌≡◌, ◌<◌, List, ℕ};
 ghost use Rattle.unit_model.specs.Unit.{PlainUnit};
 ghost use Rattle.virtqueue.specs.Queue.{BareQueue};
-ghost use Rattle.phases.specs.Queue.{with_slot};
-ghost use Rattle.phases.specs.Slots.{slot_of};
-ghost use Rattle.phases.specs.Fetching.{FetchesRequest};
 ghost use Rattle.lock_scopes.specs.Lending.{OnceAtTwo, OnceAtThree, OnceAtFour, TakesNoRequest};
 ghost use Rattle.lock_scopes.specs.Ledgers.{CountsCommits};
 
-use foundation::NoMemory;
 use guest_mem::GuestMem;
-use phases::Slot;
-use request_intake::Inventory;
 use unit_history::UnitState;
 use virtqueue::Queue;
 
@@ -30,10 +24,6 @@ pub trait UnitLender {
 
     /// The number of units.
     ghost units: { Self → ℕ };
-
-    /// Returns how many units there are. Asked for an index that a request names, before that unit is lent.
-    fn unit_count(&self) -> usize
-        ensures { result ≡ units self.now };
 
     /// Runs a phase on the unit at an index, and on two values of the caller, which stay where they are. The phase
     /// answers how many Commits it made, too. It is no act of the operator.
@@ -71,18 +61,6 @@ pub trait QueueLender {
 
     /// The number of queues.
     ghost queues: { Self → ℕ };
-
-    /// Returns how many queues there are.
-    fn queue_count(&self) -> usize
-        ensures { result ≡ queues self.now };
-
-    /// Takes the next chain of a request queue into a slot (`phase_fetch`), with the memory.
-    fn fetch(&mut self, at: usize, slot: &mut Slot, inventory: &Inventory) -> Result<bool, NoMemory>
-        requires there { at < queues self.old }
-        ensures did { (q : BareQueue) × (m : List ℕ) × (r : BareQueue) × lends_queue self.old at q m
-            × FetchesRequest inventory.now m (with_slot (slot_of slot.old) q) result (with_slot (slot_of slot.new) r)
-            × keeps_queue self.old at r m self.new }
-        ensures queues { queues self.new ≡ queues self.old };
 
     /// Runs a phase on the queue of a number, with the memory, and on two values of the caller, which stay where they
     /// are. The phase takes no chain of a request queue.

@@ -1,14 +1,13 @@
-//! Lends the phases what they work on: a unit, or a queue with the memory. Locks lend it where threads share a device,
-//! plain parts where one thread has it. Beside this stands a function for each phase, and for a few that follow one
-//! another, which runs it in one hold of what it works on, whatever lends that.
+//! Lends the phases what they work on, where threads share a device: a unit, or a queue with the memory, each under a
+//! lock. Beside this stands a function for each phase, and for a few that follow one another, which runs it in one hold
+//! of what it works on.
 //!
 //! # Proved
 //!
-//! What one thread lends is what stands there. What a lock lends is lawful, memory has at most 2^28 bytes, and so
-//! they come back. No clause says that it is the one that the lock held before. Whenever a unit's lock is free, its
-//! history has all Commits that were counted for it. The acts of the operator in it weigh what was weighed for it,
-//! at its address and by any weighing: so they are those that were made of it. Phases that share a hold do each their
-//! part on what the one before left.
+//! What a lock lends is lawful, memory has at most 2^28 bytes, and so they come back. No clause says that it is the
+//! one that the lock held before. Whenever a unit's lock is free, its history has all Commits that were counted for it.
+//! The acts of the operator in it weigh what was weighed for it, at its address and by any weighing: so they are those
+//! that were made of it. Phases that share a hold do each their part on what the one before left.
 //!
 //! Whenever a queue's lock is free, each request that it accepted has one fetch, and each note Direct that it has is of
 //! a request whose fetch decided its answer. Nothing but a fetch and the answer in its hold adds to either: that rests
@@ -29,14 +28,13 @@ mod kept_queue;
 mod lend;
 mod locked;
 mod part;
-mod plain;
 mod weighing;
 
 pub use acting::{hard_on, resize_on};
 pub use acts::{Act, Acts};
 pub use at_memory::{peek_on, poke_on};
 pub use at_queues::{
-    answer_on, answer_tmf_on, direct_on, fetch_control_on, fetch_event_on, fetch_on, raise_on,
+    answer_on, answer_tmf_on, direct_on, fetch_control_on, fetch_event_on, raise_on,
 };
 pub use at_units::{check_on, commit_on, enter_on, leave_on, mark_on, prepare_on};
 pub use counted::CountedUnit;
@@ -48,5 +46,4 @@ pub use kept_queue::{KeptQueue, NextChain};
 pub use lend::{QueueLender, UnitLender};
 pub use locked::{LockedQueues, LockedUnits};
 pub use part::Part;
-pub use plain::Plain;
 pub use weighing::Weighing;

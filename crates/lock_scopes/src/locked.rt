@@ -10,10 +10,7 @@ use crate::kept_queue::KeptQueue;
 use crate::lend::{QueueLender, UnitLender};
 use crate::part::Part;
 use crate::weighing::Weighing;
-use foundation::NoMemory;
 use guest_mem::GuestMem;
-use phases::Slot;
-use request_intake::Inventory;
 use std::sync::ledger::Ledger;
 use std::sync::{Mutex, Wait};
 use unit_history::UnitState;
@@ -42,10 +39,6 @@ impl<'a, R: Wait, C: Ledger + Weighing, W: Ledger> UnitLender for LockedUnits<'a
         × (t.seat.now.share.amount ≡ s.seat.now.share.amount + n) };
 
     ghost units = { λ s. length s.units.now };
-
-    fn unit_count(&self) -> usize {
-        self.units.len()
-    }
 
     fn unit<T, X, Y, F: FnOnce(&mut UnitState, &mut X, &mut Y) -> (T, u64)>(
         &mut self,
@@ -85,23 +78,6 @@ impl<'a, R: Wait> QueueLender for LockedQueues<'a, R> {
     ghost keeps_memory = { λ s n t. IsMemory n × (t ≡ s) };
 
     ghost queues = { λ s. length s.queues.now };
-
-    fn queue_count(&self) -> usize {
-        self.queues.len()
-    }
-
-    fn fetch(
-        &mut self,
-        at: usize,
-        slot: &mut Slot,
-        inventory: &Inventory,
-    ) -> Result<bool, NoMemory> {
-        let mut held = hold(self.rt, &self.queues[at]);
-        let mut held_memory = hold(self.rt, self.memory);
-        let queue = &mut *held;
-        let memory = &mut *held_memory;
-        queue.fetch(memory, slot, inventory)
-    }
 
     fn queue<T, X, Y, F: FnOnce(&mut Queue, &mut GuestMem, &mut X, &mut Y) -> T>(
         &mut self,

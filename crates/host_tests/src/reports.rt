@@ -1,21 +1,22 @@
-//! A small device that one thread serves, and what is said of reports of it with something amiss.
+//! What is said of reports of closed hosts with something amiss.
 
 use crate::amiss::{Amiss, Other, fault_of};
-use close_audit::CloseFault;
 use ring_core::Ticket;
-use small_device::{refuses_plain, serves_plain};
 use std::alloc::Global;
+use std::sync::Wait;
 use std::test::Fail;
+use std::thread::Threads;
+use workers::CloseFault;
 
-/// The first request, and the second.
+/// The first request, and the second where it was fetched again.
 const FIRST: Ticket = Ticket {
     queue: 2,
     number: 0,
 };
 
 const SECOND: Ticket = Ticket {
-    queue: 3,
-    number: 0,
+    queue: 4,
+    number: 1,
 };
 
 /// The first ticket of all, which tells that the units aren't those that were wanted.
@@ -61,10 +62,10 @@ static ROWS: [(Amiss, Option<CloseFault>); 14] = [
 ];
 
 /// Returns the number of the first row of which something else is said, from 0.
-fn first_wrong(alloc: Global) -> Option<usize> {
+fn first_wrong<R: Threads + Wait + Copy + Send + 'static>(rt: R, alloc: Global) -> Option<usize> {
     for number in 0..ROWS.len() {
         let (amiss, fault) = ROWS[number];
-        if fault_of(alloc, amiss) != Some(fault) {
+        if fault_of(rt, alloc, amiss) != Some(fault) {
             return Some(number);
         }
     }
@@ -73,14 +74,14 @@ fn first_wrong(alloc: Global) -> Option<usize> {
 
 #[test]
 fn reports_are_given_where_they_add_up(rt: HostRuntime) {
-    assert_eq!(rt; first_wrong(rt.alloc()), None);
+    assert_eq!(rt; first_wrong(rt, rt.alloc()), None);
 }
 
 /// Faults, and what they are called.
 static CALLED: [(CloseFault, &str); 3] = [
     (CloseFault::NoMemory, "no memory"),
     (CloseFault::Unconfirmed(FIRST), "unconfirmed 2/0"),
-    (CloseFault::Outstanding(SECOND), "outstanding 3/0"),
+    (CloseFault::Outstanding(SECOND), "outstanding 4/1"),
 ];
 
 #[test]
@@ -89,10 +90,4 @@ fn faults_are_told(rt: HostRuntime) -> Result<(), Fail> {
         assert_eq!(rt; format!(in rt.alloc(); "{fault}")?.as_str(), *text);
     }
     Ok(())
-}
-
-#[test]
-fn the_parts_of_one_thread_are_lent(rt: HostRuntime) {
-    assert_eq!(rt; serves_plain(rt.alloc()), Some(true));
-    assert_eq!(rt; refuses_plain(rt.alloc()), Some(1));
 }
