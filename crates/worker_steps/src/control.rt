@@ -1,7 +1,6 @@
 //! The control queue and the event queue, which the first worker serves.
 
 ghost use Rattle.std.specs.Prelude.{◌≡◌};
-ghost use Rattle.worker_steps.specs.Tallying.{Tallies};
 
 use crate::post::Post;
 use crate::progress::Progress;
@@ -29,9 +28,7 @@ fn go_on<R: Wait, G: Gate + Drop, C: Ledger + Weighing, W: Ledger>(
     function: &mut OpenFunction,
     post: &mut Post<W>,
 ) -> Option<Progress>
-    requires tally { Tallies post.old.lost post.old.part.share.amount post.old.kept post.old.hand }
     ensures seat { post.new.seat ≡ post.old.seat }
-    ensures tally { Tallies post.new.lost post.new.part.share.amount post.new.kept post.new.hand }
 {
     if let Some(at) = function.function.next_unit() {
         if at < shared.units.len() {
@@ -97,9 +94,7 @@ pub fn manage<R: Wait, G: Gate + Drop, C: Ledger + Weighing, W: Ledger>(
     function: &mut Option<OpenFunction>,
     post: &mut Post<W>,
 ) -> Progress
-    requires tally { Tallies post.old.lost post.old.part.share.amount post.old.kept post.old.hand }
     ensures seat { post.new.seat ≡ post.old.seat }
-    ensures tally { Tallies post.new.lost post.new.part.share.amount post.new.kept post.new.hand }
 {
     let Some(open) = function else {
         return fetch_control(rt, shared, function);

@@ -5,7 +5,6 @@ ghost use Rattle.std.specs.Bool.{OnFalse};
 ghost use Rattle.device_model.specs.Parts as plain;
 ghost use Rattle.phases.specs.Slots.{slot_of};
 ghost use Rattle.close_audit.specs.Rooms.{HasRoomForOne};
-ghost use Rattle.worker_steps.specs.Tallying.{Tallies};
 ghost use Rattle.worker_steps.specs.Inner.Tallying.{HasNoJob};
 
 use crate::post::{Post, commit, is_long, leave, pass, serve_hand, take_own, ticket_in};
@@ -65,10 +64,8 @@ fn turn_at<R: Wait, G: Gate + Drop, C: Ledger + Weighing, W: Ledger>(
     post: &mut Post<W>,
 ) -> NextJob
     requires at { at < vec_len shared.now.units }
-    requires tally { Tallies post.old.lost post.old.part.share.amount post.old.kept post.old.hand }
     ensures seat { post.new.seat ≡ post.old.seat }
     ensures kept { post.new.kept ≡ post.old.kept }
-    ensures tally { Tallies post.new.lost post.new.part.share.amount post.new.kept post.new.hand }
 {
     let mut units = shared.units(rt, &mut post.part);
     if has_job(&post.hand) {
@@ -97,10 +94,8 @@ pub(crate) fn turn<R: Wait, G: Gate + Drop, C: Ledger + Weighing, W: Ledger>(
     slot: &mut Slot,
     post: &mut Post<W>,
 )
-    requires tally { Tallies post.old.lost post.old.part.share.amount post.old.kept post.old.hand }
     ensures seat { post.new.seat ≡ post.old.seat }
     ensures kept { post.new.kept ≡ post.old.kept }
-    ensures tally { Tallies post.new.lost post.new.part.share.amount post.new.kept post.new.hand }
 {
     let unit_index = slot.unit();
     if post.hand.leaving_unit() != unit_index {
@@ -137,9 +132,7 @@ fn answer_and_fetch<R: Wait, G: Gate + Drop, C: Ledger + Weighing, W: Ledger>(
     requires at { at < vec_len shared.now.queues }
     requires empty { slot_of slot.old ≡ plain.Slot.Empty }
     requires room { HasRoomForOne post.old.kept }
-    requires tally { Tallies post.old.lost post.old.part.share.amount post.old.kept post.old.hand }
     ensures seat { post.new.seat ≡ post.old.seat }
-    ensures tally { Tallies post.new.lost post.new.part.share.amount post.new.kept post.new.hand }
 {
     let Some(ticket) = ticket_in(&post.hand) else {
         return;
@@ -163,10 +156,8 @@ fn answer_and_fetch<R: Wait, G: Gate + Drop, C: Ledger + Weighing, W: Ledger>(
 /// Makes room for what one request leaves. Room for two was made before the first of them was answered, so it is found
 /// at once.
 fn make_room_behind<R: Wait, W: Ledger>(rt: &R, post: &mut Post<W>)
-    requires tally { Tallies post.old.lost post.old.part.share.amount post.old.kept post.old.hand }
     ensures room { HasRoomForOne post.new.kept }
     ensures seat { post.new.seat ≡ post.old.seat }
-    ensures tally { Tallies post.new.lost post.new.part.share.amount post.new.kept post.new.hand }
 {
     for _ in rt.forever() {
         if post.make_room() {
@@ -191,9 +182,7 @@ pub(crate) fn has_one_job<G: Gate + Drop, C: Ledger + Weighing, W: Ledger>(
     shared: &Shared<G, C, W>,
     post: &mut Post<W>,
 ) -> bool
-    requires tally { Tallies post.old.lost post.old.part.share.amount post.old.kept post.old.hand }
     ensures seat { post.new.seat ≡ post.old.seat }
-    ensures tally { Tallies post.new.lost post.new.part.share.amount post.new.kept post.new.hand }
 {
     if post.hand.is_empty() {
         return take_own(shared, post);
@@ -211,9 +200,7 @@ pub(crate) fn serve_and_fetch<R: Wait, G: Gate + Drop, C: Ledger + Weighing, W: 
     post: &mut Post<W>,
 )
     requires at { at < vec_len shared.now.queues }
-    requires tally { Tallies post.old.lost post.old.part.share.amount post.old.kept post.old.hand }
     ensures seat { post.new.seat ≡ post.old.seat }
-    ensures tally { Tallies post.new.lost post.new.part.share.amount post.new.kept post.new.hand }
 {
     commit(rt, shared, post);
     if is_long(&post.hand) {

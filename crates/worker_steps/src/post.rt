@@ -40,6 +40,8 @@ pub struct Post<W: Ledger> {
     // The first request whose chain its queue didn't know when it was to be answered, which never happens: no receipt
     // is given then.
     pub lost: Option<Ticket>,
+    /// As many receipts were counted for it as it kept, with the one that its hand is to give, unless it lost one.
+    pub ghost even: { Tallies lost part.share.amount kept hand },
 }
 
 /// Returns the ticket of what is in a hand; `None` where nothing is.
@@ -79,18 +81,15 @@ fn prepare<R: Wait, G: Gate + Drop, C: Ledger + Weighing, W: Ledger>(
     rt: &R,
     shared: &Shared<G, C, W>,
     at: usize,
-    post: &mut Post<W>,
+    part: &mut Part<W>,
+    hand: &mut Hand,
 )
     requires at { at < vec_len shared.now.units }
-    ensures seat { post.new.seat ≡ post.old.seat }
-    ensures kept { (post.new.kept ≡ post.old.kept) × (post.new.lost ≡ post.old.lost) }
-    ensures hand { hand_of post.new.hand ≡ hand_of post.old.hand }
-    ensures part { post.new.part.share.amount ≡ post.old.part.share.amount }
+    ensures hand { hand_of hand.new ≡ hand_of hand.old }
+    ensures part { part.new.share.amount ≡ part.old.share.amount }
 {
-    if is_write(&post.hand)
-        && prepare_on(&mut shared.units(rt, &mut post.part), at, &mut post.hand)
-    {
-        pass(&shared.gate, Point::Prepared, &post.hand);
+    if is_write(hand) && prepare_on(&mut shared.units(rt, part), at, hand) {
+        pass(&shared.gate, Point::Prepared, hand);
     }
 }
 
@@ -100,10 +99,8 @@ pub(crate) fn commit<R: Wait, G: Gate + Drop, C: Ledger + Weighing, W: Ledger>(
     shared: &Shared<G, C, W>,
     post: &mut Post<W>,
 )
-    requires tally { Tallies post.old.lost post.old.part.share.amount post.old.kept post.old.hand }
     ensures seat { post.new.seat ≡ post.old.seat }
     ensures kept { post.new.kept ≡ post.old.kept }
-    ensures tally { Tallies post.new.lost post.new.part.share.amount post.new.kept post.new.hand }
 {
     let Some(at) = post.hand.committing_unit() else {
         return;
@@ -111,7 +108,7 @@ pub(crate) fn commit<R: Wait, G: Gate + Drop, C: Ledger + Weighing, W: Ledger>(
     if at >= shared.units.len() {
         return;
     }
-    prepare(rt, shared, at, post);
+    prepare(rt, shared, at, &mut post.part, &mut post.hand);
     if commit_on(
         &mut shared.units(rt, &mut post.part),
         &shared.gate,
@@ -129,9 +126,7 @@ fn answer<R: Wait, G: Gate + Drop, C: Ledger + Weighing, W: Ledger>(
     post: &mut Post<W>,
 )
     requires room { HasRoomForOne post.old.kept }
-    requires tally { Tallies post.old.lost post.old.part.share.amount post.old.kept post.old.hand }
     ensures seat { post.new.seat ≡ post.old.seat }
-    ensures tally { Tallies post.new.lost post.new.part.share.amount post.new.kept post.new.hand }
 {
     let Some(queue) = post.hand.answering_queue() else {
         return;
@@ -157,10 +152,8 @@ pub(crate) fn leave<R: Wait, G: Gate + Drop, C: Ledger + Weighing, W: Ledger>(
     shared: &Shared<G, C, W>,
     post: &mut Post<W>,
 )
-    requires tally { Tallies post.old.lost post.old.part.share.amount post.old.kept post.old.hand }
     ensures seat { post.new.seat ≡ post.old.seat }
     ensures kept { post.new.kept ≡ post.old.kept }
-    ensures tally { Tallies post.new.lost post.new.part.share.amount post.new.kept post.new.hand }
 {
     let Some(at) = post.hand.leaving_unit() else {
         return;
@@ -187,7 +180,6 @@ impl<W: Ledger> Post<W> {
     ) -> Result<Post<W>, AllocError>
         requires new { part.share.amount ≡ 0 }
         ensures seat { IfOk result (λ post. post.seat ≡ seat) }
-        ensures tally { IfOk result (λ post. Tallies post.lost post.part.share.amount post.kept post.hand) }
     {
         Ok(Post {
             seat,
@@ -210,11 +202,9 @@ impl<W: Ledger> Post<W> {
     /// Makes room for what the jobs in its list and in its hand leave, and one more request. Returns false where a
     /// growth was refused.
     pub(crate) fn make_room(&mut self) -> bool
-        requires tally { Tallies self.old.lost self.old.part.share.amount self.old.kept self.old.hand }
         ensures room { OnTrue result (HasRoomForOne self.new.kept) }
         ensures seat { self.new.seat ≡ self.old.seat }
         ensures hand { self.new.hand ≡ self.old.hand }
-        ensures tally { Tallies self.new.lost self.new.part.share.amount self.new.kept self.new.hand }
     {
         self.kept.make_room(self.out.len().saturating_add(2))
     }
@@ -228,9 +218,7 @@ fn serve<R: Wait, G: Gate + Drop, C: Ledger + Weighing, W: Ledger>(
     post: &mut Post<W>,
 )
     requires room { HasRoomForOne post.old.kept }
-    requires tally { Tallies post.old.lost post.old.part.share.amount post.old.kept post.old.hand }
     ensures seat { post.new.seat ≡ post.old.seat }
-    ensures tally { Tallies post.new.lost post.new.part.share.amount post.new.kept post.new.hand }
 {
     commit(rt, shared, post);
     answer(rt, shared, post);
@@ -243,9 +231,7 @@ pub(crate) fn serve_hand<R: Wait, G: Gate + Drop, C: Ledger + Weighing, W: Ledge
     shared: &Shared<G, C, W>,
     post: &mut Post<W>,
 )
-    requires tally { Tallies post.old.lost post.old.part.share.amount post.old.kept post.old.hand }
     ensures seat { post.new.seat ≡ post.old.seat }
-    ensures tally { Tallies post.new.lost post.new.part.share.amount post.new.kept post.new.hand }
 {
     if post.hand.is_empty() || !post.make_room() {
         return;
@@ -261,9 +247,7 @@ fn serve_job<R: Wait, G: Gate + Drop, C: Ledger + Weighing, W: Ledger>(
     job: Job,
 )
     requires empty { receipts_due post.old.hand ≡ 0 }
-    requires tally { Tallies post.old.lost post.old.part.share.amount post.old.kept post.old.hand }
     ensures seat { post.new.seat ≡ post.old.seat }
-    ensures tally { Tallies post.new.lost post.new.part.share.amount post.new.kept post.new.hand }
 {
     shared.gate.pass(Point::Taken, job.ticket());
     post.hand = Hand::taken(job);
@@ -276,9 +260,7 @@ pub(crate) fn take_own<G: Gate + Drop, C: Ledger + Weighing, W: Ledger>(
     shared: &Shared<G, C, W>,
     post: &mut Post<W>,
 ) -> bool
-    requires tally { Tallies post.old.lost post.old.part.share.amount post.old.kept post.old.hand }
     ensures seat { post.new.seat ≡ post.old.seat }
-    ensures tally { Tallies post.new.lost post.new.part.share.amount post.new.kept post.new.hand }
 {
     if !post.hand.is_empty() || post.out.len() != 1 || shared.is_awaited(post.waits) {
         return false;
@@ -299,9 +281,7 @@ fn put<R: Wait, G: Gate + Drop, C: Ledger + Weighing, W: Ledger>(
     post: &mut Post<W>,
 ) -> bool
     requires seat { IsSeatOf shared.now.handoff post.old.seat }
-    requires tally { Tallies post.old.lost post.old.part.share.amount post.old.kept post.old.hand }
     ensures seat { IsSameSeat post.old.seat post.new.seat }
-    ensures tally { Tallies post.new.lost post.new.part.share.amount post.new.kept post.new.hand }
 {
     if !post.hand.is_empty() {
         return false;
@@ -324,9 +304,7 @@ pub fn drain<R: Wait, G: Gate + Drop, C: Ledger + Weighing, W: Ledger>(
     post: &mut Post<W>,
 )
     requires seat { IsSeatOf shared.now.handoff post.old.seat }
-    requires tally { Tallies post.old.lost post.old.part.share.amount post.old.kept post.old.hand }
     ensures seat { IsSameSeat post.old.seat post.new.seat }
-    ensures tally { Tallies post.new.lost post.new.part.share.amount post.new.kept post.new.hand }
 {
     serve_hand(rt, shared, post);
     for _ in rt.forever() {
@@ -345,9 +323,7 @@ pub fn finish<R: Wait, G: Gate + Drop, C: Ledger + Weighing, W: Ledger>(
     post: &mut Post<W>,
 )
     requires seat { IsSeatOf shared.now.handoff post.old.seat }
-    requires tally { Tallies post.old.lost post.old.part.share.amount post.old.kept post.old.hand }
     ensures seat { IsSameSeat post.old.seat post.new.seat }
-    ensures tally { Tallies post.new.lost post.new.part.share.amount post.new.kept post.new.hand }
     ensures empty { receipts_due post.new.hand ≡ 0 }
 {
     drain(rt, shared, post);
@@ -369,9 +345,7 @@ pub fn serve_handed_off<R: Wait, G: Gate + Drop, C: Ledger + Weighing, W: Ledger
     post: &mut Post<W>,
 ) -> Progress
     requires seat { IsSeatOf shared.now.handoff post.old.seat }
-    requires tally { Tallies post.old.lost post.old.part.share.amount post.old.kept post.old.hand }
     ensures seat { IsSameSeat post.old.seat post.new.seat }
-    ensures tally { Tallies post.new.lost post.new.part.share.amount post.new.kept post.new.hand }
 {
     if !post.is_idle() || !post.make_room() {
         return Progress::Made;

@@ -5,7 +5,6 @@ ghost use Rattle.std.specs.Bool.{OnFalse};
 ghost use Rattle.handoff.specs.Seats.{IsSeatOf, IsSameSeat};
 ghost use Rattle.phases.specs.declared.note.Cause.TheVariants as cause;
 ghost use Rattle.close_audit.specs.Rooms.{HasRoomForOne};
-ghost use Rattle.worker_steps.specs.Tallying.{Tallies};
 
 use crate::in_a_row::{has_one_job, serve_and_fetch, turn};
 use crate::post::{Post, drain};
@@ -38,9 +37,7 @@ pub(crate) fn direct<R: Wait, G: Gate + Drop, C: Ledger + Weighing, W: Ledger>(
 )
     requires at { at < vec_len shared.now.queues }
     requires room { HasRoomForOne post.old.kept }
-    requires tally { Tallies post.old.lost post.old.part.share.amount post.old.kept post.old.hand }
     ensures seat { post.new.seat ≡ post.old.seat }
-    ensures tally { Tallies post.new.lost post.new.part.share.amount post.new.kept post.new.hand }
 {
     if slot.is_empty() {
         return;
@@ -66,9 +63,7 @@ fn is_direct(note: &Note) -> bool
 /// Keeps a note that isn't Direct. A seat that would keep another has lost the request, and `close` gives no report.
 fn keep_note<W: Ledger>(post: &mut Post<W>, note: Note)
     requires room { HasRoomForOne post.old.kept }
-    requires tally { Tallies post.old.lost post.old.part.share.amount post.old.kept post.old.hand }
     ensures seat { post.new.seat ≡ post.old.seat }
-    ensures tally { Tallies post.new.lost post.new.part.share.amount post.new.kept post.new.hand }
 {
     if is_direct(&note) {
         post.lost = Some(note.ticket());
@@ -86,9 +81,7 @@ pub(crate) fn fetch_next<R: Wait, G: Gate + Drop, C: Ledger + Weighing, W: Ledge
     post: &mut Post<W>,
 ) -> Option<bool>
     requires at { at < vec_len shared.now.queues }
-    requires tally { Tallies post.old.lost post.old.part.share.amount post.old.kept post.old.hand }
     ensures seat { post.new.seat ≡ post.old.seat }
-    ensures tally { Tallies post.new.lost post.new.part.share.amount post.new.kept post.new.hand }
 {
     if !post.make_room() {
         return None;
@@ -113,9 +106,7 @@ pub fn serve_queue<R: Wait, G: Gate + Drop, C: Ledger + Weighing, W: Ledger>(
 ) -> Progress
     requires at { at < vec_len shared.now.queues }
     requires seat { IsSeatOf shared.now.handoff post.old.seat }
-    requires tally { Tallies post.old.lost post.old.part.share.amount post.old.kept post.old.hand }
     ensures seat { IsSameSeat post.old.seat post.new.seat }
-    ensures tally { Tallies post.new.lost post.new.part.share.amount post.new.kept post.new.hand }
 {
     // Then its list has the room that an Enter asks for.
     if !post.is_idle() {

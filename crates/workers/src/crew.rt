@@ -147,7 +147,6 @@ where
     ensures hub { IfOk result (λ r. r.0.hub ≡ W.hub (arc_value shared.now)) }
     ensures threads { IfOk result (λ r. r.0.threads + 1 ≡ (W.hub (arc_value shared.now)).seats) }
     ensures last { IfOk result (λ r. IsLastSeat (W.hub (arc_value shared.now)) (P.seat r.1)) }
-    ensures even { IfOk result (λ r. P.is_even r.1) }
 {
     let Some(last) = seats.pop() else {
         unreachable!()

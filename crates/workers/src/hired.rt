@@ -15,9 +15,6 @@ use std::thread::{self, Promise, PromisedHandle, Threads};
 pub trait Begins {
     /// Its seat.
     ghost seat: { Self → Rattle.handoff.specs.Seats.PlainSeat };
-
-    /// As much was counted for it as it has.
-    ghost is_even: { Self → Type 0 };
 }
 
 /// A worker's end: its seat, and what it kept.
@@ -39,8 +36,7 @@ pub trait Works<P: Begins, K: Drop, S: Drop> {
 
     /// Returns what a seat begins with, with room for so many jobs. An error where a growth was refused.
     fn begin(&self, alloc: Global, seat: Seat, part: S, limit: usize) -> Result<P, AllocError>
-        ensures seat { IfOk result (λ p. P.seat p ≡ seat) }
-        ensures even { IfOk result (λ p. P.is_even p) };
+        ensures seat { IfOk result (λ p. P.seat p ≡ seat) };
 
     /// Tells them to end.
     fn close<R: Wait>(&self, rt: &R);
@@ -49,7 +45,6 @@ pub trait Works<P: Begins, K: Drop, S: Drop> {
     fn work<R: Wait>(&self, rt: &R, post: P, number: usize, workers: usize) -> Worked<K>
         requires some { 0 < workers }
         requires seat { IsSeatOf (hub self.now) (P.seat post) }
-        requires even { P.is_even post }
         ensures seat { IsSameSeat (P.seat post) result.seat };
 }
 
@@ -103,7 +98,6 @@ where
     K: Drop + Send + 'static,
     S: Drop + Send + 'static,
     requires seat { IsSeatOf (W.hub (arc_value shared.now)) (P.seat post) × ((P.seat post).number ≡ number) }
-    requires even { P.is_even post }
     requires some { 0 < workers }
     ensures { IfOk result (λ h. (h.hub ≡ W.hub (arc_value shared.now)) × (h.number ≡ number)) }
 {
@@ -113,7 +107,7 @@ where
         number,
     };
     let job = move || -> Worked<K>
-        requires { IsSeatOf (W.hub (arc_value theirs)) (P.seat post) × (0 < workers) × P.is_even post }
+        requires { IsSeatOf (W.hub (arc_value theirs)) (P.seat post) × (0 < workers) }
         ensures { IsSameSeat (P.seat post) result.seat }
     { theirs.work(&rt, post, number, workers) };
     let handle = thread::spawn_with(&rt, promise, job)?;

@@ -3,7 +3,6 @@
 ghost use Rattle.std.specs.Prelude.{◌≡◌, ◌<◌, true, length, vec_len, IfOk, IfErr, OnOk, OnErr};
 ghost use Rattle.std.specs.Arc.{arc_value};
 ghost use Rattle.config.specs.Config.{is_config};
-ghost use Rattle.worker_steps.specs.Tallying.{Tallies};
 ghost use Rattle.workers.specs.Extent.{Starts, extent_of};
 ghost use Rattle.workers.specs.Ledgers.{Opens};
 
@@ -35,8 +34,6 @@ use worker_steps::{Post, Shared, finish};
 
 impl<W: Ledger> Begins for Post<W> {
     ghost seat = { λ p. p.seat };
-
-    ghost is_even = { λ p. Tallies p.lost p.part.share.amount p.kept p.hand };
 }
 
 impl<G: Gate + Drop, C: Ledger + Weighing, W: Ledger> Works<Post<W>, Tallied<W>, BlankPart<W>>
@@ -176,7 +173,6 @@ impl<G: Gate + Drop, C: Ledger + Weighing, W: Ledger> Model for Host<G, C, W> {
     ghost use Rattle.request_intake.specs.Inventory.{inventory_of};
     ghost use Rattle.workers.specs.Crew.{IsLastSeat};
     ghost use Rattle.workers.specs.Extent.{Extent};
-    ghost use Rattle.worker_steps.specs.Tallying.{Tallies};
 
     ghost Value = { Extent };
 
@@ -191,7 +187,6 @@ impl<G: Gate + Drop, C: Ledger + Weighing, W: Ledger> Model for Host<G, C, W> {
     ghost invariant = { λ h. (vec_len (arc_value h.shared).queues ≤ 18)
         × (vec_len (arc_value h.shared).units ≡ vec_len h.specs)
         × (h.crew.hub ≡ (arc_value h.shared).handoff) × IsLastSeat (arc_value h.shared).handoff h.post.seat
-        × Tallies h.post.lost h.post.part.share.amount h.post.kept h.post.hand
         × (h.ledgers.acts.parts + vec_len (arc_value h.shared).units ≡ C.parts) × (h.ledgers.acts.amount ≡ 0)
         × (h.ledgers.receipts.parts + vec_len (arc_value h.shared).units + (h.crew.threads + 1) ≡ W.parts)
         × (h.ledgers.receipts.amount ≡ 0)

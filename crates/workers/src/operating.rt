@@ -5,7 +5,6 @@ ghost use Rattle.std.specs.Bool.{OnTrue};
 ghost use Rattle.handoff.specs.Seats.{IsSeatOf, IsSameSeat};
 ghost use Rattle.unit_model.specs.Contents.{is_capacity};
 ghost use Rattle.lock_scopes.specs.Acts.{acts_with, reset_of, resize_of};
-ghost use Rattle.worker_steps.specs.Tallying.{Tallies};
 ghost use Rattle.workers.specs.Resetting.{WasReset};
 ghost use Rattle.workers.specs.Resizing.{ResizeFails, WasResized};
 
@@ -28,13 +27,11 @@ fn reset_one<R: Wait, G: Gate + Drop, C: Ledger + Weighing, W: Ledger>(
     waiting: &mut WaitingEvents,
 ) -> Result<bool, ResetFault>
     requires at { at < vec_len shared.now.units }
-    requires tally { Tallies post.old.lost post.old.part.share.amount post.old.kept post.old.hand }
     ensures made { IfOk result (λ was. acts.new
         ≡ (if was then acts_with (reset_of (slice_get shared.now.inventory.addresses at)) acts.old else acts.old)) }
     ensures none { OnErr result (acts.new ≡ acts.old) }
     ensures reset { IfOk result (λ was. OnTrue was (WasReset shared.now.inventory at)) }
     ensures seat { post.new.seat ≡ post.old.seat }
-    ensures tally { Tallies post.new.lost post.new.part.share.amount post.new.kept post.new.hand }
 {
     match hard_on(
         rt,
@@ -62,9 +59,7 @@ pub(crate) fn reset<R: Wait, G: Gate + Drop, C: Ledger + Weighing, W: Ledger>(
     waiting: &mut WaitingEvents,
 ) -> Result<(), ResetFault>
     requires seat { IsSeatOf shared.now.handoff post.old.seat }
-    requires tally { Tallies post.old.lost post.old.part.share.amount post.old.kept post.old.hand }
     ensures seat { IsSameSeat post.old.seat post.new.seat }
-    ensures tally { Tallies post.new.lost post.new.part.share.amount post.new.kept post.new.hand }
     ensures made { OnOk result (at < vec_len shared.now.units →
         acts.new ≡ acts_with (reset_of (slice_get shared.now.inventory.addresses at)) acts.old) }
     ensures absent { OnOk result ((at < vec_len shared.now.units → ⊥) → acts.new ≡ acts.old) }

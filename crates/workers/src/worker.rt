@@ -3,7 +3,6 @@
 ghost use Rattle.std.specs.Prelude.{◌≡◌, ◌<◌};
 ghost use Rattle.handoff.specs.Seats.{IsSeatOf, IsSameSeat};
 ghost use Rattle.lock_scopes.specs.Ledgers.{receipts_due};
-ghost use Rattle.worker_steps.specs.Tallying.{Tallies};
 
 use crate::hired::Worked;
 use crate::tallied::Tallied;
@@ -37,7 +36,6 @@ pub(crate) struct Worker<W: Ledger> {
 /// Takes a post apart into what its thread brings back.
 pub(crate) fn ends<W: Ledger>(post: Post<W>) -> Worked<Tallied<W>>
     requires empty { receipts_due post.hand ≡ 0 }
-    requires tally { Tallies post.lost post.part.share.amount post.kept post.hand }
     ensures { result.seat ≡ post.seat }
 {
     let Post {
@@ -61,9 +59,7 @@ fn serve_others<R: Wait, G: Gate + Drop, C: Ledger + Weighing, W: Ledger>(
     function: &mut Option<OpenFunction>,
     post: &mut Post<W>,
 ) -> Progress
-    requires tally { Tallies post.old.lost post.old.part.share.amount post.old.kept post.old.hand }
     ensures seat { post.new.seat ≡ post.old.seat }
-    ensures tally { Tallies post.new.lost post.new.part.share.amount post.new.kept post.new.hand }
 {
     if shared.is_abandoned() {
         return match function {
@@ -85,9 +81,7 @@ fn serve_own<R: Wait, G: Gate + Drop, C: Ledger + Weighing, W: Ledger>(
 ) -> Progress
     requires some { 0 < workers }
     requires seat { IsSeatOf shared.now.handoff post.old.seat }
-    requires tally { Tallies post.old.lost post.old.part.share.amount post.old.kept post.old.hand }
     ensures seat { IsSameSeat post.old.seat post.new.seat }
-    ensures tally { Tallies post.new.lost post.new.part.share.amount post.new.kept post.new.hand }
 {
     let mut progress = Progress::Idle;
     for at in FIRST_REQUEST..shared.queues.len() {
@@ -109,9 +103,7 @@ fn round<R: Wait, G: Gate + Drop, C: Ledger + Weighing, W: Ledger>(
 ) -> Progress
     requires some { 0 < workers }
     requires seat { IsSeatOf shared.now.handoff post.old.seat }
-    requires tally { Tallies post.old.lost post.old.part.share.amount post.old.kept post.old.hand }
     ensures seat { IsSameSeat post.old.seat post.new.seat }
-    ensures tally { Tallies post.new.lost post.new.part.share.amount post.new.kept post.new.hand }
 {
     if !post.is_idle() {
         drain(rt, shared, post);
@@ -167,7 +159,6 @@ pub(crate) fn work<R: Wait, G: Gate + Drop, C: Ledger + Weighing, W: Ledger>(
 ) -> Worked<Tallied<W>>
     requires some { 0 < worker.workers }
     requires seat { IsSeatOf shared.now.handoff worker.post.seat }
-    requires tally { Tallies worker.post.lost worker.post.part.share.amount worker.post.kept worker.post.hand }
     ensures seat { IsSameSeat worker.post.seat result.seat }
 {
     let Worker {

@@ -1,6 +1,5 @@
 use Rattle.std.specs.Prelude.{◌≡◌}
-use Rattle.worker_steps.specs.Tallying.{Tallies}
 use Rattle.worker_steps.proofs.requests.serve_queue.Given as goal
 
 abbrev pub invariant-loop : goal.invariant-loop
-invariant-loop g l = (l.post.seat ≡ l.fn.post.seat) × Tallies l.post.lost l.post.part.share.amount l.post.kept l.post.hand
+invariant-loop g l = l.post.seat ≡ l.fn.post.seat

@@ -12,6 +12,6 @@ returns-clause-reset g c =
     let many : vec_len c.deref.result.now.units ≡ length c.args.self.now.units =
     omega (arith, shared, c.self.invariant.1, c.self.inside.specs.ok.0, view) in
     let addresses : c.deref.result.now.inventory ≡ inventory_of c.args.self.now.units =
-    ap (λ s. s.inventory) c.deref.ensures ∙ c.self.invariant.9 ∙ ap (λ v. inventory_of v.units) c.self.view_is in
+    ap (λ s. s.inventory) c.deref.ensures ∙ c.self.invariant.8 ∙ ap (λ v. inventory_of v.units) c.self.view_is in
     subst (λ (l : PlainInventory). OnOk c.reset-done.result (c.args.unit_index < length c.args.self.now.units → WasReset l c.args.unit_index)) addresses
     (subst (λ n. OnOk c.reset-done.result (c.args.unit_index < n → WasReset c.deref.result.now.inventory c.args.unit_index)) many c.reset-done.ensures.reset)

@@ -13,7 +13,7 @@ returns-clause-resized g c =
     omega (arith, shared, c.self.invariant.1, c.self.inside.specs.ok.0, view) in
     let told = ap (λ v. v.told) c.self.view_is in
     let addresses : c.deref.result.now.inventory ≡ inventory_of c.args.self.now.units =
-    ap (λ s. s.inventory) c.deref.ensures ∙ c.self.invariant.9 ∙ ap (λ v. inventory_of v.units) c.self.view_is in
+    ap (λ s. s.inventory) c.deref.ensures ∙ c.self.invariant.8 ∙ ap (λ v. inventory_of v.units) c.self.view_is in
     subst (λ (l : PlainInventory). OnOk c.resize-done.result (c.args.unit_index < length c.args.self.now.units → WasResized l c.args.unit_index c.args.blocks c.args.self.now.told)) addresses
     (subst (λ b. OnOk c.resize-done.result (c.args.unit_index < length c.args.self.now.units → WasResized c.deref.result.now.inventory c.args.unit_index c.args.blocks b)) told
     (subst (λ n. OnOk c.resize-done.result (c.args.unit_index < n → WasResized c.deref.result.now.inventory c.args.unit_index c.args.blocks c.self.inside.told)) many c.resize-done.ensures.resized))
