@@ -6,7 +6,7 @@ use Rattle.std.proofs.lemmas.List.{length-map}
 use Rattle.backed_store.specs.declared.disk.Disk.{Disk as UnitDisk}
 use Rattle.request_intake.specs.declared.inventory.UnitSpec.{UnitSpec}
 use Rattle.unit_model.specs.Unit.{PlainUnit}
-use Rattle.unit_history.specs.declared.changes.Range.{Range}
+use Rattle.logical_unit.specs.declared.changes.Range.{Range}
 use Rattle.device_steps.specs.Opening.{AreDisksFor, AreDisksOf}
 use Rattle.c_calls.specs.Changes.{range_of}
 use Rattle.c_calls.specs.Disks.{CreatesOver, CreatesOverOf, Closes, ClosesInto}

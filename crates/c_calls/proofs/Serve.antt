@@ -6,7 +6,7 @@ use Rattle.config.specs.declared.config.Config.{Config}
 use Rattle.c_calls.specs.Wanted.{Asks}
 use Rattle.block_store.specs.Blocks.{Blocks}
 use Rattle.backed_store.specs.Disks.{size_of, blocks_of, hosted_of}
-use Rattle.unit_history.proofs.Durable.{hosted_ledger}
+use Rattle.logical_unit.proofs.Durable.{hosted_ledger}
 use Rattle.backed_store.specs.declared.disk.Disk.{Disk as UnitDisk}
 use Rattle.c_calls.specs.Disks.{OnDisk, CreatesDisk, IsBlank, CreatesBacked, IsBackedOver, IsUnchanged}
 use Rattle.c_calls.specs.Calls.{Serving, Creates, Makes, Refuses}

@@ -1,8 +1,8 @@
 -- Which blocks of a unit may have changed, as C is told.
 use Rattle.std.specs.Prelude.{ℕ, ◌≡◌, ◌≤◌, ◌<◌, false, List, length, map, take, Option, Some, None}
 use Rattle.unit_model.specs.Unit.{PlainUnit}
-use Rattle.unit_history.specs.Changes.{AreUnchanged}
-use Rattle.unit_history.specs.declared.changes.Range.{Range}
+use Rattle.logical_unit.specs.Changes.{AreUnchanged}
+use Rattle.logical_unit.specs.declared.changes.Range.{Range}
 use Rattle.device_steps.specs.Views.{unit_at}
 use Rattle.c_calls.specs.declared.answer.Answer.{Answer}
 use Rattle.c_calls.specs.declared.answer.Answer.TheVariants as answer

@@ -8,8 +8,8 @@ use crate::answer::Answer;
 use crate::disk::Disk;
 use backed_store::{BackedDisk, Disk as UnitDisk};
 use foundation::Record;
+use logical_unit::is_capacity;
 use std::alloc::Global;
-use unit_history::is_capacity;
 
 /// The least number of pages that such a disk may have in memory: some more than the largest command needs.
 const LEAST_PAGES: usize = 8448;

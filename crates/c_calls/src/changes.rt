@@ -6,7 +6,7 @@ ghost use Rattle.c_calls.specs.Changes.{TellsChanges, range_of};
 use crate::answer::Answer;
 use crate::ranges::{BlockRange, Told};
 use crate::served::Served;
-use unit_history::Range;
+use logical_unit::Range;
 
 /// The most ranges that a unit keeps apart.
 const MOST_RANGES: usize = 64;

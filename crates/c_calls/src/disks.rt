@@ -11,8 +11,8 @@ use crate::answer::Answer;
 use crate::disk::Disk;
 use backed_store::Disk as UnitDisk;
 use block_store::{PagedStore, Readiness, Store};
+use logical_unit::is_capacity;
 use std::alloc::Global;
-use unit_history::is_capacity;
 
 /// Makes a disk of zeros where there is none.
 pub fn create_disk(disk: &mut Disk, alloc: Global, blocks: u64) -> Answer

@@ -16,8 +16,8 @@ use crate::served::number_of_fault;
 use device_model::Event;
 use host_bus::HostBus;
 use live_mem::LiveMem;
+use logical_unit::is_capacity;
 use std::alloc::Global;
-use unit_history::is_capacity;
 use world::{LiveWorld, Notifications, Notify, RingFault};
 
 /// The most ranges that a unit keeps apart.

@@ -7,8 +7,8 @@ ghost use Rattle.c_calls.specs.Calls.{Settles, ServesPortion, Pokes, Peeks, Owes
 
 use crate::answer::Answer;
 use device_model::Event;
+use logical_unit::is_capacity;
 use std::alloc::Global;
-use unit_history::is_capacity;
 use world::{Notifications, RingFault, World};
 
 /// A device, and what its host was told of it.

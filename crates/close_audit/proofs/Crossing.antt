@@ -3,7 +3,7 @@ use denote.Param.Send.{IsSend, struct_send}
 use denote.Struct.Declared.{shape}
 use Rattle.std.proofs.Crossing.{crosses}
 use Rattle.std.proofs.option.Option.TheSendSync as option
-use Rattle.unit_history.proofs.outcomes.BareReceipt.TheSendSync as receipt
+use Rattle.logical_unit.proofs.outcomes.BareReceipt.TheSendSync as receipt
 use Rattle.command_model.proofs.reply.Reply.TheSendSync as reply
 use Rattle.phases.proofs.note.Note.TheSendSync as note
 use Rattle.close_audit.specs.contracts.kept.Kept.{the_field, the_type}

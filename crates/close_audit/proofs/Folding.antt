@@ -9,10 +9,10 @@ use Rattle.ring_core.specs.declared.log.Ticket.{Ticket}
 use Rattle.unit_model.specs.Tasks.{Entry, same_ticket}
 use Rattle.unit_model.specs.Steps.{Step, alive}
 use Rattle.unit_model.specs.Base.{base_of, kept_steps, kept_at}
-use Rattle.unit_history.specs.Runs.{committed_one}
+use Rattle.unit_log.specs.Runs.{committed_one}
 use Rattle.unit_model.specs.Receipts.{step_at}
 use Rattle.unit_model.specs.Unit.{PlainUnit}
-use Rattle.unit_history.specs.Kept.{kind_of}
+use Rattle.unit_log.specs.Kept.{kind_of}
 use Rattle.close_audit.specs.declared.tally.Tally.{Tally}
 use Rattle.close_audit.specs.Inner.Tallies.{fact_of_one, fact_of_commit, fact_of_alive, tells, read, read_commits, read_folded, read_alive, with_unit, with_units}
 

@@ -4,9 +4,9 @@ ghost use Rattle.std.specs.Prelude.{◌≡◌, ◌≤◌, ◌↔◌, IsTrue, len
 ghost use Rattle.close_audit.specs.Opened.{IsOpenedAs, AreOpenedAs};
 ghost use Rattle.close_audit.specs.Inner.Belonging.{Misplaces, FindsForeign};
 
+use logical_unit::UnitState;
 use request_intake::UnitSpec;
 use ring_core::Ticket;
-use unit_history::UnitState;
 use virtqueue::Queue;
 
 /// The first ticket of all, which is one of the control queue (VIRTIO 1.2, 5.6.2).

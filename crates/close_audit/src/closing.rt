@@ -12,10 +12,10 @@ use crate::report::Report;
 use command_model::Reply;
 use foundation::Record;
 use guest_mem::GuestMem;
+use logical_unit::{BareReceipt, Receipt, UnitState};
 use phases::{Note, Slot};
 use request_intake::UnitSpec;
 use std::alloc::{AllocError, Global};
-use unit_history::{BareReceipt, Receipt, UnitState};
 use virtqueue::Queue;
 
 /// The queues of a host, as they stood under their locks.

@@ -8,8 +8,8 @@ ghost use Rattle.close_audit.specs.Closed.{IsConfirmedBy, ConfirmsOne, has_commi
 ghost use Rattle.close_audit.specs.Inner.Unconfirmed.{Confirms, with_unconfirmed, AllStand, AllSound};
 
 use crate::least::lesser;
+use logical_unit::{Place, Receipt, UnitState};
 use ring_core::Ticket;
-use unit_history::{Place, Receipt, UnitState};
 use virtqueue::Queue;
 
 /// Returns whether a unit can say of a place whether a Commit stands there.

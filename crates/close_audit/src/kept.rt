@@ -4,12 +4,12 @@ ghost use Rattle.close_audit.specs.Undirected.{AreUndirected};
 
 use crate::replies::{keep_receipt, make_slots};
 use command_model::Reply;
+use logical_unit::BareReceipt;
 use phases::{Note, ReceiptOrNote};
 use std::alloc::Global;
-use unit_history::BareReceipt;
 
 /// The receipts and notes of the requests that a seat answered, in order. Replies are kept of its latest 4,096
-/// receipts alone, and of these those alone with at most [`unit_history::LONGEST_KEPT`] bytes of data: at most 16 MiB
+/// receipts alone, and of these those alone with at most [`logical_unit::LONGEST_KEPT`] bytes of data: at most 16 MiB
 /// for each seat. Each other receipt takes 24 bytes. No note is Direct: such a note stays with its queue.
 #[derive(Drop)]
 pub struct Kept {

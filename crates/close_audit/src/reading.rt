@@ -14,9 +14,9 @@ ghost use Rattle.close_audit.specs.Inner.Sources.{stray, stray_one};
 use crate::least::lesser;
 use crate::tables::Tables;
 use crate::tally::{Answer, Fact, fact_of_alive, fact_of_commit, fact_of_one};
+use logical_unit::{Receipt, UnitState};
 use phases::Note;
 use ring_core::Ticket;
-use unit_history::{Receipt, UnitState};
 
 /// Returns a ticket that is that of no request.
 fn stray_one(known: bool, ticket: Ticket) -> Option<Ticket>

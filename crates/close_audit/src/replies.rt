@@ -8,8 +8,8 @@ ghost use Rattle.close_audit.specs.Keeping.{has_long, shortened, without_reply, 
 ghost use Rattle.close_audit.specs.Rooms.{replies_kept};
 
 use command_model::Reply;
+use logical_unit::{BareReceipt, LONGEST_KEPT, Receipt};
 use std::alloc::AllocError;
-use unit_history::{BareReceipt, LONGEST_KEPT, Receipt};
 
 /// Gives the number of its latest receipts of which a seat has the replies.
 const REPLIES_KEPT: usize = 4096;

@@ -5,9 +5,9 @@ ghost use Rattle.std.specs.List.{list_any};
 
 use foundation::Record;
 use guest_mem::GuestMem;
+use logical_unit::{Receipt, UnitState};
 use phases::{Note, Slot};
 use ring_core::QueueLog;
-use unit_history::{Receipt, UnitState};
 use virtqueue::Queue;
 
 /// Returns true if a fault of the guest broke a queue.
@@ -27,7 +27,7 @@ pub struct Report {
     /// The memory of its guest.
     pub memory: GuestMem,
     /// The receipts of the requests whose commands ran. Replies may have been let go. A unit compares none but those of
-    /// its latest [`unit_history::LATEST_KEPT`] steps that have at most [`unit_history::LONGEST_KEPT`] bytes of data.
+    /// its latest [`logical_unit::LATEST_KEPT`] steps that have at most [`logical_unit::LONGEST_KEPT`] bytes of data.
     /// Where a host has threads, the latest 4,096 receipts of each seat have a reply, unless its data are longer.
     pub receipts: Vec<Receipt>,
     /// The notes of all other requests. Where a host has threads, those that are Direct come first.

@@ -3,9 +3,9 @@
 ghost use Rattle.std.specs.Prelude.{◌≡◌, Option};
 ghost use Rattle.close_audit.specs.Inner.Tallies.{joined, fresh, home_at, elsewhere, visited, stepped, after, is_ground, is_end, is_fine, ends_well, told, fact_of, fact_of_one, fact_of_commit, fact_of_alive};
 
+use logical_unit::StepKind;
 use phases::Cause;
 use ring_core::Ticket;
-use unit_history::StepKind;
 
 /// The receipts and notes of a request so far.
 #[derive(Clone, Copy)]

@@ -14,10 +14,10 @@ use config::{Config, MOST_DESCRIPTORS, form};
 use event_queue::EventPort;
 use foundation::NoMemory;
 use guest_mem::Memory;
+use logical_unit::UnitState;
 use request_intake::{Inventory, UnitSpec};
 use ring_core::{Form, Layout};
 use std::alloc::Global;
-use unit_history::UnitState;
 use virtqueue::Queue;
 
 /// The parts of a device of which nothing has happened yet, its queues as a host keeps them.

@@ -7,7 +7,7 @@ use Rattle.unit_model.specs.Tasks.{task_of}
 use Rattle.unit_model.specs.Steps.{Step, alive}
 use Rattle.unit_model.specs.Jobs.{PlainJob, Jobs}
 use Rattle.unit_model.specs.Unit.{PlainUnit, after as stepped}
-use Rattle.unit_history.specs.Calls.{CannotLeave}
+use Rattle.logical_unit.specs.Calls.{CannotLeave}
 use Rattle.device_model.specs.Parts.{Hand}
 use Rattle.device_model.specs.World.{Seat, PlainWorld, Everywhere, change}
 use Rattle.device_model.specs.Transitions.{Transition}

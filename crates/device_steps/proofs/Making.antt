@@ -13,7 +13,7 @@ use Rattle.device_model.specs.Parts.{Slot}
 use Rattle.device_model.specs.World.{PlainQueue, Seat, Everywhere, IsNewSeat}
 use Rattle.device_model.proofs.Lists.{nothing, same}
 use Rattle.backed_store.specs.declared.disk.Disk.{Disk}
-use Rattle.unit_history.specs.Disks.{unit_over, IsDiskOf}
+use Rattle.logical_unit.specs.Disks.{unit_over, IsDiskOf}
 use Rattle.device_opening.specs.Inner.Opening.{AreKept}
 use Rattle.device_steps.specs.Opening.{AreOpening, AreDisksOf, over_disks}
 use Rattle.device_steps.specs.Inner.Opening.{AreSeats}

@@ -12,7 +12,7 @@ use Rattle.unit_model.specs.Jobs.{PlainJob}
 use Rattle.unit_model.specs.Unit.{PlainUnit}
 use Rattle.backed_store.specs.Disks.{size_of as disk_size, is_backed}
 use Rattle.backed_store.specs.declared.disk.Disk.{Disk}
-use Rattle.unit_history.specs.Disks.{unit_over, IsDiskOf}
+use Rattle.logical_unit.specs.Disks.{unit_over, IsDiskOf}
 use Rattle.request_intake.specs.Inventory.{inventory_of, has_cache}
 use Rattle.request_intake.specs.declared.inventory.UnitSpec.{UnitSpec}
 use Rattle.config.specs.Config.{form_of, has_bit, is_config, size_of}

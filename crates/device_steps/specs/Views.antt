@@ -5,7 +5,7 @@ use Rattle.block_store.specs.Blocks.{run}
 use Rattle.foundation.specs.declared.NoMemory.{NoMemory}
 use Rattle.unit_model.specs.Contents.{blocks_of, capacity_of}
 use Rattle.unit_model.specs.Unit.{PlainUnit}
-use Rattle.unit_history.specs.Changes.{PlainChanges, AreUnchanged}
+use Rattle.logical_unit.specs.Changes.{PlainChanges, AreUnchanged}
 use Rattle.ring_core.specs.declared.fault.RingFault.{RingFault}
 use Rattle.device_model.specs.World.{PlainQueue, PlainWorld}
 

@@ -7,10 +7,10 @@ ghost use Rattle.device_steps.specs.Inner.Aside.{awakened, waiting_of};
 ghost use Rattle.device_steps.specs.Inner.Cursors.{Denies};
 
 use foundation::NoMemory;
+use logical_unit::{Job, JobList, UnitState};
 use phases::{Hand, phase_commit_or_defer};
 use std::alloc::Global;
 use std::marker::Model;
-use unit_history::{Job, JobList, UnitState};
 
 /// The jobs whose commands wait for pages of their disks, and those that are to be tried again, together at most as many
 /// as a limit.

@@ -5,10 +5,10 @@ use crate::bay::Bay;
 use crate::handed_off::HandedOff;
 use crate::seat::Seat;
 use event_queue::{EventPort, WaitingEvents};
+use logical_unit::UnitState;
 use phases::OpenFunction;
 use request_intake::Inventory;
 use std::marker::Model;
-use unit_history::UnitState;
 
 /// The parts of the device but memory: queues with their slots, units, seats, the jobs that wait for pages, the hand-off,
 /// the function, the event port and the events that wait for it. A host keeps it beside its memory, and lends each step

@@ -1,9 +1,9 @@
 //! The jobs between seats: for each seat a list of those that it handed off.
 
 use foundation::NoMemory;
+use logical_unit::{Job, JobList};
 use std::alloc::Global;
 use std::marker::Model;
-use unit_history::{Job, JobList};
 
 /// The jobs that each seat handed off and that none took yet, at most as many as a limit.
 #[derive(Drop)]

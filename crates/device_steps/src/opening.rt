@@ -19,10 +19,10 @@ use device_opening::{Opened, open_parts, open_port};
 use event_queue::WaitingEvents;
 use foundation::NoMemory;
 use guest_mem::Memory;
+use logical_unit::{JobList, UnitState};
 use request_intake::UnitSpec;
 use std::alloc::Global;
 use task_set::MOST_TASKS;
-use unit_history::{JobList, UnitState};
 
 /// Seats with nothing in hand, and room for so many jobs in each list.
 fn open_seats(alloc: Global, count: usize, limit: usize) -> Result<Vec<Seat>, NoMemory>

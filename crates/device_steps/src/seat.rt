@@ -1,8 +1,8 @@
 //! A seat: what a worker, or the operator, has between two steps.
 
+use logical_unit::{Job, JobList};
 use phases::Hand;
 use std::marker::Model;
-use unit_history::{Job, JobList};
 
 /// The next step of a seat, by its hand.
 #[derive(Clone, Copy)]

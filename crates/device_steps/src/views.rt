@@ -10,9 +10,9 @@ ghost use Rattle.unit_model.specs.Contents.{capacity_of, pending_of};
 use crate::bay::Bay;
 use crate::device::Device;
 use foundation::NoMemory;
+use logical_unit::{Changes, UnitState};
 use ring_core::{Position, QueueLog, RingFault};
 use unit_attention::Code;
-use unit_history::{Changes, UnitState};
 
 /// Returns true if a fault of the guest broke a queue.
 fn is_any_broken(bays: &[Bay]) -> bool

@@ -1,6 +1,7 @@
 //! Prints what each step of the device did, as a line.
 
 use guest_driver::Driver;
+use logical_unit::StepKind;
 use ring_core::Ticket;
 use script_machines::Machine;
 use script_semantics::{Known, written};
@@ -8,7 +9,6 @@ use script_syntax::Stop;
 use scsi_codec::{Address, CONTROL_QUEUE, EVENT_QUEUE};
 use std::alloc::{AllocError, Global};
 use std::io::Write;
-use unit_history::StepKind;
 use world::{Event, Notify};
 
 /// A device as it was seen last, so that the next step is known by what it changed.

@@ -3,10 +3,10 @@
 use crate::rule::{All, InOrder, Puts, Seats, Takes, View};
 use crossbeam_queue::{Pass, RuledArrayQueue};
 use foundation::NoMemory;
+use logical_unit::Job;
 use std::alloc::Global;
 use std::marker::Model;
 use std::sync::Wait;
-use unit_history::Job;
 
 /// A bounded queue of jobs, first in, first out. Clauses see which one it is, and its capacity.
 #[derive(Drop)]

@@ -3,11 +3,11 @@
 use crate::lane::{Lane, LaneEnd};
 use crate::seat::{Seat, Taken};
 use foundation::{NoMemory, Record};
+use logical_unit::Job;
 use std::alloc::Global;
 use std::marker::Model;
 use std::snapshot::Snapshot;
 use std::sync::Wait;
-use unit_history::Job;
 
 /// Bounded queues of jobs, each first in, first out, one for each seat. Several threads share them. Each thread has a
 /// `Seat`, by which it puts into its own queue and takes from all. No other call reaches the queues. Clauses see which

@@ -1,8 +1,8 @@
 //! The rule of a queue, and what each of its steps tells.
 
 use crossbeam_queue::protocol::{Join, Lesson, Outcome, Protocol, Split};
+use logical_unit::Job;
 use std::collections::LinkedList;
-use unit_history::Job;
 
 /// The jobs that one seat put into a queue and took from it, in order. Only proofs speak of it: no value of it is made.
 pub(crate) struct Account {

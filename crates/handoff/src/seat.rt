@@ -2,9 +2,9 @@
 
 use crate::lane::LaneEnd;
 use foundation::Record;
+use logical_unit::Job;
 use std::marker::Model;
 use std::snapshot::Snapshot;
-use unit_history::Job;
 
 /// A job that a seat took, and which seat had put it. Only proofs speak of it.
 #[derive(Drop)]

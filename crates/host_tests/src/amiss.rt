@@ -4,12 +4,12 @@ use crate::guest::Asked;
 use crate::runs::{ABSENT, FIRST, SECOND, closed, unit};
 use close_audit::examine;
 use config::UnitSpec;
+use logical_unit::UnitState;
 use phases::{Slot, phase_fetch};
 use request_intake::Inventory;
 use std::alloc::Global;
 use std::sync::Wait;
 use std::thread::Threads;
-use unit_history::UnitState;
 use workers::{CloseFault, Report};
 
 /// The address of the number of chains that the guest made available on the queue of the refused request.

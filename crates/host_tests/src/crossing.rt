@@ -5,6 +5,7 @@ ghost use Rattle.workers.specs.Ledgers.{Opens};
 use crate::guest::{Asked, are_answered, ask};
 use crate::meeting::LONG;
 use crate::runs::{FIRST, start};
+use logical_unit::UnitState;
 use ring_core::Ticket;
 use std::alloc::Global;
 use std::marker::Brand;
@@ -13,7 +14,6 @@ use std::sync::ledger::{Blank, Ledger};
 use std::sync::{Arc, Wait};
 use std::thread;
 use std::thread::Threads;
-use unit_history::UnitState;
 use workers::{Gate, Host, Point, Weighing};
 
 /// The queues of the two WRITEs.

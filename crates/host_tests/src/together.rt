@@ -5,12 +5,12 @@ ghost use Rattle.workers.specs.Ledgers.{Opens};
 use crate::guest::{Asked, are_answered, ask};
 use crate::meeting::{LONG, Meeting, SHORT, Seen};
 use crate::runs::{FIRST, Left, start};
+use logical_unit::{StepKind, UnitState};
 use std::alloc::Global;
 use std::marker::Brand;
 use std::sync::ledger::{Blank, Ledger};
 use std::sync::{Arc, Wait};
 use std::thread::Threads;
-use unit_history::{StepKind, UnitState};
 use workers::{Host, Point, Report, Weighing};
 
 /// The byte of which the block is that is written.

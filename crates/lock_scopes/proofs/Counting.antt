@@ -3,9 +3,9 @@ use Rattle.std.proofs.Common.{◌≡◌, ℕ, ◌+◌, ◌≤◌, Bool, true, fa
 use Rattle.unit_model.specs.Jobs.{PlainJob, Jobs}
 use Rattle.unit_model.specs.Steps.{Step}
 use Rattle.unit_model.specs.Unit.{PlainUnit}
-use Rattle.unit_history.specs.Calls.{Commits as CommitsUnit}
-use Rattle.unit_history.specs.declared.outcomes.Outcome as answers
-use Rattle.unit_history.specs.declared.outcomes.Outcome.TheVariants as outcome
+use Rattle.logical_unit.specs.Calls.{Commits as CommitsUnit}
+use Rattle.logical_unit.specs.declared.outcomes.Outcome as answers
+use Rattle.logical_unit.specs.declared.outcomes.Outcome.TheVariants as outcome
 use Rattle.device_model.specs.Parts.{Slot, Hand}
 use Rattle.device_model.specs.Transitions.{Transition}
 use Rattle.phases.specs.DoingUnit.{DoesUnit}

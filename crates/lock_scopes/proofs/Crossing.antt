@@ -16,7 +16,7 @@ use Rattle.ring_core.proofs.chain.Chain.TheSendSync as chain
 use Rattle.ring_core.proofs.chain.Spare.TheSendSync as spare
 use Rattle.std.proofs.Crossing.{crosses}
 use Rattle.std.proofs.option.Option.TheSendSync as option
-use Rattle.unit_history.proofs.kind.StepKind.TheSendSync as kind
+use Rattle.unit_log.proofs.kind.StepKind.TheSendSync as kind
 use Rattle.command_model.proofs.reply.Reply.TheSendSync as reply
 use Rattle.split_ring.specs.contracts.ring.SplitRing.{the_row as split_row}
 use Rattle.split_ring.specs.contracts.ring.SplitRing.TheInside as split
@@ -26,26 +26,26 @@ use Rattle.virtqueue.specs.contracts.any_ring.AnyRing.{the_field as ring_field, 
 use Rattle.virtqueue.specs.contracts.queue.Queue.{the_row as queue_row}
 use Rattle.virtqueue.specs.contracts.queue.Queue.TheInside as queue
 use Rattle.arrayvec.proofs.array_vec.ArrayVec.TheSendSync as array_vec
-use Rattle.unit_history.proofs.commits.Commits.TheSendSync as commits
-use Rattle.unit_history.specs.contracts.counted.CountedSteps.{the_row as counted_row}
-use Rattle.unit_history.specs.contracts.counted.CountedSteps.TheInside as counted
-use Rattle.unit_history.proofs.folding.FoldedMark.TheSendSync as mark
-use Rattle.unit_history.specs.contracts.folding.Folding.{the_row as folding_row}
-use Rattle.unit_history.specs.contracts.folding.Folding.TheInside as folding
-use Rattle.unit_history.specs.contracts.ring.KindRing.{the_row as kinds_row}
-use Rattle.unit_history.specs.contracts.ring.KindRing.TheInside as kinds
-use Rattle.unit_history.specs.contracts.log.StepLog.{the_row as steps_row}
-use Rattle.unit_history.specs.contracts.log.StepLog.TheInside as steps
-use Rattle.unit_history.specs.contracts.last_tickets.LastTickets.{the_row as lasts_row}
-use Rattle.unit_history.specs.contracts.last_tickets.LastTickets.TheInside as lasts
+use Rattle.unit_log.proofs.commits.Commits.TheSendSync as commits
+use Rattle.unit_log.specs.contracts.counted.CountedSteps.{the_row as counted_row}
+use Rattle.unit_log.specs.contracts.counted.CountedSteps.TheInside as counted
+use Rattle.unit_log.proofs.folding.FoldedMark.TheSendSync as mark
+use Rattle.unit_log.specs.contracts.folding.Folding.{the_row as folding_row}
+use Rattle.unit_log.specs.contracts.folding.Folding.TheInside as folding
+use Rattle.unit_log.specs.contracts.ring.KindRing.{the_row as kinds_row}
+use Rattle.unit_log.specs.contracts.ring.KindRing.TheInside as kinds
+use Rattle.unit_log.specs.contracts.log.StepLog.{the_row as steps_row}
+use Rattle.unit_log.specs.contracts.log.StepLog.TheInside as steps
+use Rattle.unit_log.specs.contracts.last_tickets.LastTickets.{the_row as lasts_row}
+use Rattle.unit_log.specs.contracts.last_tickets.LastTickets.TheInside as lasts
 use Rattle.unit_attention.proofs.attentions.Attentions.TheSendSync as attentions
 use Rattle.unit_model.specs.contracts.reason.Reason.{the_row as reason_row}
 use Rattle.ring_core.specs.contracts.fault.RingFault.{the_row as fault_row}
 use Rattle.sense.specs.contracts.Sense.{the_row as sense_row}
 use Rattle.request_intake.proofs.unit_request.UnitRequest.TheSendSync as request
 use Rattle.task_set.proofs.shared.SharedRequest.TheSendSync as shared
-use Rattle.unit_history.specs.contracts.unit.UnitState.{the_row as unit_row}
-use Rattle.unit_history.specs.contracts.unit.UnitState.TheInside as unit
+use Rattle.logical_unit.specs.contracts.unit.UnitState.{the_row as unit_row}
+use Rattle.logical_unit.specs.contracts.unit.UnitState.TheInside as unit
 use Rattle.block_store.proofs.edges.Prepared.TheSendSync as pages
 use Rattle.block_store.proofs.paged.PagedStore.TheSendSync as store
 use Rattle.backed_store.proofs.cache.Cache.TheSendSync as cache
@@ -53,7 +53,7 @@ use Rattle.backed_store.proofs.lost.LostPages.TheSendSync as lost_pages
 use Rattle.backed_store.specs.contracts.backed.BackedStore.{the_field as backed_field, the_type as backed_type}
 use Rattle.backed_store.specs.contracts.backed_disk.BackedDisk.{the_field as backed_disk_field, the_type as backed_disk_type}
 use Rattle.backed_store.specs.contracts.disk.Disk.{the_field as disk_field, the_type as disk_type}
-use Rattle.unit_history.proofs.changes.Changes.TheSendSync as changes
+use Rattle.logical_unit.proofs.changes.Changes.TheSendSync as changes
 use Rattle.block_commands.specs.contracts.facts.UnitFacts.{the_field as facts_field, the_type as facts_type}
 use Rattle.ring_core.proofs.outstanding.OutstandingTable.TheSendSync as table
 use Rattle.ring_core.specs.contracts.base.RingBase.{the_row as base_row}

@@ -11,11 +11,11 @@ use crate::counted::CountedUnit;
 use crate::holding::hold;
 use crate::weighing::Weighing;
 use event_queue::WaitingEvents;
+use logical_unit::JobList;
 use phases::{ResetFault, ResizeFault};
 use request_intake::Inventory;
 use std::sync::ledger::Ledger;
 use std::sync::{Mutex, Wait};
-use unit_history::JobList;
 
 /// Resets the unit at an index of the inventory (`phase_hard`), in one hold of its lock, and adds that to the acts.
 /// The operator calls. Returns true if something changed, or `WrongUnit` or `NoMemory` as the phase does.

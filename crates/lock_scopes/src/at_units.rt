@@ -12,6 +12,7 @@ ghost use Rattle.lock_scopes.specs.Inner.Acts.{is_hard_mark};
 
 use crate::gate::{Gate, Point};
 use crate::lend::UnitLender;
+use logical_unit::{JobList, StartedWrite, UnitState};
 use phases::{
     Hand, OpenFunction, Slot, phase_check, phase_commit, phase_enter, phase_leave, phase_mark,
     phase_prepare, phase_start_pages,
@@ -19,7 +20,6 @@ use phases::{
 use request_intake::Inventory;
 use task_mgmt::{Kind, MarkBy};
 use unit_attention::Code;
-use unit_history::{JobList, StartedWrite, UnitState};
 
 /// Brings the request that arrived to its unit (`phase_enter`), in one hold of that. The owner of its queue calls, with
 /// its index from `Slot::unit`. Returns true if something changed.

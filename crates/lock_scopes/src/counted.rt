@@ -9,10 +9,10 @@ use crate::acts::{Act, Acts};
 use crate::part::Part;
 use crate::weighing::Weighing;
 use event_queue::WaitingEvents;
+use logical_unit::{JobList, UnitState};
 use phases::{ResetFault, ResizeFault, phase_hard, phase_resize};
 use request_intake::Inventory;
 use std::sync::ledger::Ledger;
-use unit_history::{JobList, UnitState};
 
 /// A unit, with its parts of two ledgers. It stands under the unit's lock: so whenever that is free, no Commit for which
 /// a receipt was counted is missing from the history. And the acts of the operator in the history weigh, at the unit's

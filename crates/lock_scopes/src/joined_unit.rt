@@ -10,8 +10,8 @@ ghost use Rattle.lock_scopes.specs.Joined.{LeavesEnters, RunsNext, LeavesEntersR
 use crate::at_units::pass_locked;
 use crate::gate::Gate;
 use crate::lend::UnitLender;
+use logical_unit::{JobList, UnitState};
 use phases::{Hand, Slot, phase_commit, phase_enter, phase_leave};
-use unit_history::{JobList, UnitState};
 
 /// The readable bytes of a chain from which on a job isn't committed in the hold of its Enter. So much data is put in
 /// place faster with pages that are made before the hold.

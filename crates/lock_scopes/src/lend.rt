@@ -7,7 +7,7 @@ ghost use Rattle.lock_scopes.specs.Lending.{OnceAtTwo, OnceAtThree, OnceAtFour, 
 ghost use Rattle.lock_scopes.specs.Ledgers.{CountsCommits};
 
 use guest_mem::GuestMem;
-use unit_history::UnitState;
+use logical_unit::UnitState;
 use virtqueue::Queue;
 
 /// The units of a device, of which one is lent for as long as one closure runs. Units are counted by their indices in

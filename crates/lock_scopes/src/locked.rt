@@ -11,9 +11,9 @@ use crate::lend::{QueueLender, UnitLender};
 use crate::part::Part;
 use crate::weighing::Weighing;
 use guest_mem::GuestMem;
+use logical_unit::UnitState;
 use std::sync::ledger::Ledger;
 use std::sync::{Mutex, Wait};
-use unit_history::UnitState;
 use virtqueue::Queue;
 
 /// The units that threads share, each under a lock of its own. A thread holds it while one phase runs, or several that

@@ -8,8 +8,8 @@ use Rattle.ring_core.specs.Offer.{used_writes}
 use Rattle.request_intake.specs.declared.answer.ChainLengths.{ChainLengths}
 use Rattle.unit_model.specs.Endings.{Ending, answer_of}
 use Rattle.unit_model.specs.Jobs.{PlainJob}
-use Rattle.unit_history.specs.Endings.{ending_of}
-use Rattle.unit_history.specs.declared.outcomes.Outcome as answers
+use Rattle.logical_unit.specs.Endings.{ending_of}
+use Rattle.logical_unit.specs.declared.outcomes.Outcome as answers
 use Rattle.device_model.specs.Parts.{IsSeen, Outcome, Slot, Hand, lengths_of}
 use Rattle.device_model.specs.Transitions.{Transition}
 use Rattle.virtqueue.specs.Queue.{BareQueue, MayComplete, completing}

@@ -17,12 +17,12 @@ use Rattle.unit_model.specs.Steps.{Step}
 use Rattle.unit_model.specs.Released.{released}
 use Rattle.unit_model.specs.Asking.{Asked}
 use Rattle.unit_model.specs.Jobs.{PlainJob, Jobs, of_tasks}
-use Rattle.unit_history.specs.Serving.{ServesAlone}
+use Rattle.logical_unit.specs.Serving.{ServesAlone}
 use Rattle.unit_model.specs.Unit.{PlainUnit, may_wait, Steps}
-use Rattle.unit_history.specs.Calls as calls
-use Rattle.unit_history.specs.Endings.{ending_of}
-use Rattle.unit_history.specs.declared.outcomes.Outcome as answers
-use Rattle.unit_history.specs.declared.outcomes.Entered.TheVariants as entered
+use Rattle.logical_unit.specs.Calls as calls
+use Rattle.logical_unit.specs.Endings.{ending_of}
+use Rattle.logical_unit.specs.declared.outcomes.Outcome as answers
+use Rattle.logical_unit.specs.declared.outcomes.Entered.TheVariants as entered
 use Rattle.device_model.specs.Parts.{Outcome, Slot, Hand, lengths_of}
 use Rattle.virtqueue.specs.Queue.{BareQueue, completing}
 use Rattle.virtqueue.specs.Completing.{SeenBehind}

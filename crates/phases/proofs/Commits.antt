@@ -5,10 +5,10 @@ use Rattle.unit_model.specs.Endings.{Ending}
 use Rattle.unit_model.specs.Jobs.{PlainJob}
 use Rattle.unit_model.specs.Asking.{Asked}
 use Rattle.unit_model.specs.Unit.{PlainUnit}
-use Rattle.unit_history.specs.Calls.{Commits}
-use Rattle.unit_history.specs.Endings.{ending_of, ending_of_reply}
-use Rattle.unit_history.specs.declared.outcomes.Outcome as outcome_type
-use Rattle.unit_history.specs.declared.outcomes.Outcome.TheVariants as outcome
+use Rattle.logical_unit.specs.Calls.{Commits}
+use Rattle.logical_unit.specs.Endings.{ending_of, ending_of_reply}
+use Rattle.logical_unit.specs.declared.outcomes.Outcome as outcome_type
+use Rattle.logical_unit.specs.declared.outcomes.Outcome.TheVariants as outcome
 use Rattle.device_model.specs.Parts.{Outcome, Hand}
 use Rattle.device_model.specs.Transitions.{Transition}
 use Rattle.device_model.specs.Found.{MayYield}

@@ -5,8 +5,8 @@ use Rattle.std.proofs.lemmas.Bool.{false≢true}
 use Rattle.request_intake.specs.Inventory.{PlainInventory}
 use Rattle.unit_model.specs.Jobs.{PlainJob, Jobs}
 use Rattle.unit_model.specs.Unit.{PlainUnit}
-use Rattle.unit_history.specs.Calls as calls
-use Rattle.unit_history.specs.declared.outcomes.Outcome as outcome_type
+use Rattle.logical_unit.specs.Calls as calls
+use Rattle.logical_unit.specs.declared.outcomes.Outcome as outcome_type
 use Rattle.task_mgmt.specs.declared.kind.Kind.{Kind}
 use Rattle.task_mgmt.specs.declared.kind.Kind.TheVariants.{Marking, Querying}
 use Rattle.device_model.specs.Parts.{Hand}

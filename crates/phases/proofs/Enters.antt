@@ -3,8 +3,8 @@ use Rattle.std.proofs.Common.{◌≡◌, List, [], ◌∷◌, refl, ap, sym}
 use Rattle.std.proofs.lemmas.List.{append-nil}
 use Rattle.unit_model.specs.Jobs.{PlainJob, Jobs}
 use Rattle.unit_model.specs.Unit.{PlainUnit}
-use Rattle.unit_history.specs.Calls.{Enters}
-use Rattle.unit_history.specs.declared.outcomes.Entered.TheVariants as entered
+use Rattle.logical_unit.specs.Calls.{Enters}
+use Rattle.logical_unit.specs.declared.outcomes.Entered.TheVariants as entered
 use Rattle.unit_model.specs.Endings.{Ending}
 use Rattle.device_model.specs.Parts.{Outcome, Slot}
 use Rattle.device_model.specs.Transitions.{Transition}

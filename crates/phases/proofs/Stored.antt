@@ -8,8 +8,8 @@ use Rattle.ring_core.specs.Offer.{used_writes}
 use Rattle.ring_core.proofs.InStores.{in_turn}
 use Rattle.unit_model.specs.Endings.{answer_of}
 use Rattle.unit_model.specs.Jobs.{PlainJob}
-use Rattle.unit_history.specs.Endings.{ending_of}
-use Rattle.unit_history.specs.declared.outcomes.Outcome as answers
+use Rattle.logical_unit.specs.Endings.{ending_of}
+use Rattle.logical_unit.specs.declared.outcomes.Outcome as answers
 use Rattle.device_model.specs.Parts.{Slot, Hand, answer_writes, lengths_of}
 use Rattle.device_model.specs.World.{Opened}
 use Rattle.phases.specs.Inner.Outcomes.{WritesEndingIn}

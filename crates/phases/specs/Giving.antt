@@ -3,9 +3,9 @@ use Rattle.std.specs.Prelude.{◌≡◌, Bool, true, false, Option, Some, None, 
 use Rattle.std.specs.Option.{option_map}
 use Rattle.ring_core.specs.declared.log.Ticket.{Ticket}
 use Rattle.unit_model.specs.Unit.{PlainUnit}
-use Rattle.unit_history.specs.Calls.{Commits}
-use Rattle.unit_history.specs.declared.outcomes.Outcome as answers
-use Rattle.unit_history.specs.declared.outcomes.Outcome.TheVariants as outcome
+use Rattle.logical_unit.specs.Calls.{Commits}
+use Rattle.logical_unit.specs.declared.outcomes.Outcome as answers
+use Rattle.logical_unit.specs.declared.outcomes.Outcome.TheVariants as outcome
 use Rattle.phases.specs.Parts.{outcome_in}
 use Rattle.phases.specs.declared.hand.Hand.{Hand}
 use Rattle.phases.specs.declared.hand.Hand.TheVariants as hand

@@ -1,7 +1,7 @@
 -- What a chain or a job is answered with, as plain values.
 use Rattle.std.specs.Prelude.{Option}
 use Rattle.unit_model.specs.Jobs.{PlainJob}
-use Rattle.unit_history.specs.declared.outcomes.Outcome as answers
+use Rattle.logical_unit.specs.declared.outcomes.Outcome as answers
 
 -- a job in hand, and what came of its commit once that is over
 pub record PlainJobInHand : Type 0 where

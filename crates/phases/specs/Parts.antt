@@ -1,8 +1,8 @@
 -- What stands in a slot and in a hand, as plain values.
 use Rattle.std.specs.Prelude.{ℕ, Option, Some, None}
 use Rattle.unit_model.specs.Jobs.{PlainJob}
-use Rattle.unit_history.specs.Endings.{ending_of}
-use Rattle.unit_history.specs.declared.outcomes.Outcome as answers
+use Rattle.logical_unit.specs.Endings.{ending_of}
+use Rattle.logical_unit.specs.declared.outcomes.Outcome as answers
 use Rattle.device_model.specs.Parts.{Outcome, Hand}
 use Rattle.phases.specs.declared.hand.Hand as declared_hand
 use Rattle.phases.specs.declared.hand.Hand.TheVariants as hand

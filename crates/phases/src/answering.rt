@@ -19,9 +19,9 @@ use crate::job_in_hand::JobInHand;
 use crate::note::{Cause, Note};
 use crate::receipt_or_note::ReceiptOrNote;
 use guest_mem::{GuestMem, WritableMemory};
+use logical_unit::Outcome;
 use ring_core::{Chain, Ticket};
 use std::mem;
-use unit_history::Outcome;
 use virtqueue::Queue;
 
 /// Writes what answers a job whose commit is over: how many bytes it has. `None` where the memory isn't the queue's, or

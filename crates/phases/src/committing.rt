@@ -8,8 +8,8 @@ ghost use Rattle.phases.specs.Giving.{KeepsOutcome};
 
 use crate::entering::has_places;
 use crate::hand::Hand;
+use logical_unit::{JobList, UnitState, Unknown};
 use std::mem;
-use unit_history::{JobList, UnitState, Unknown};
 
 /// Commits the job in the hand at its unit, which the caller found by the hand: its command runs whole, or it was
 /// marked, or memory was refused. Returns true if the hand then has what came of it. Nothing changes where no job is in

@@ -9,9 +9,9 @@ ghost use Rattle.std.specs.Prelude.{IsTrue, ◌↔◌, ◌≡◌};
 use crate::direct_chain::DirectChain;
 use crate::refusal::Refusal;
 use crate::slot::Slot;
+use logical_unit::{Arrival, Entered, JobList, UnitState};
 use std::mem;
 use task_set::MOST_TASKS;
-use unit_history::{Arrival, Entered, JobList, UnitState};
 
 /// Returns true if there is room for all that a unit may hand out.
 pub(crate) fn has_places(out: &JobList) -> bool

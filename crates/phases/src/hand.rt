@@ -1,8 +1,8 @@
 //! The hand of a seat, between two steps.
 
 use crate::job_in_hand::JobInHand;
+use logical_unit::Job;
 use ring_core::Answered;
-use unit_history::Job;
 
 /// The hand of a seat, between two steps.
 #[derive(Drop)]

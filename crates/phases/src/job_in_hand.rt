@@ -1,13 +1,13 @@
 //! A job in hand.
 
 ghost use Rattle.std.specs.Prelude.{◌≡◌, is_some, Some, IsTrue, IsFalse};
-ghost use Rattle.unit_history.specs.Calls.{Commits, Waits};
+ghost use Rattle.logical_unit.specs.Calls.{Commits, Waits};
 
 use crate::response::write_outcome;
 use block_store::Prepared;
 use guest_mem::WritableMemory;
+use logical_unit::{Job, Outcome, PreparedWrite, StartedWrite, UnitState};
 use std::marker::Model;
-use unit_history::{Job, Outcome, PreparedWrite, StartedWrite, UnitState};
 
 /// A job in hand, the pages of its WRITE once they are made, and what came of its commit once that is over. The commit
 /// changes it in place, so that the job doesn't move.
@@ -23,7 +23,7 @@ pub struct JobInHand {
 impl Model for JobInHand {
     ghost use Rattle.std.specs.Prelude.{IfSome};
     ghost use Rattle.cdb.specs.Need.{need_of};
-    ghost use Rattle.unit_history.specs.Endings.{FitsNeed};
+    ghost use Rattle.logical_unit.specs.Endings.{FitsNeed};
     ghost use Rattle.phases.specs.Outcomes.{PlainJobInHand};
 
     ghost Value = { PlainJobInHand };
@@ -39,7 +39,7 @@ impl JobInHand {
     ghost use Rattle.phases.specs.Inner.Outcomes.{WritesEndingIn};
     ghost use Rattle.phases.specs.Inner.Stored.{StoresEnding};
     ghost use Rattle.ring_core.specs.Writes.{stores_of};
-    ghost use Rattle.unit_history.specs.declared.outcomes.Outcome as answers;
+    ghost use Rattle.logical_unit.specs.declared.outcomes.Outcome as answers;
 
     /// Makes a job that is to be committed.
     pub fn new(job: Job) -> JobInHand

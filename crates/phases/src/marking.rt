@@ -9,9 +9,9 @@ use crate::entering::has_places;
 use crate::function::OpenFunction;
 use crate::naming::is_addressed;
 use foundation::NoMemory;
+use logical_unit::{JobList, Place, UnitState};
 use request_intake::Inventory;
 use task_mgmt::{Kind, MarkBy};
-use unit_history::{JobList, Place, UnitState};
 
 /// Marks the tasks of a unit, and returns the place of the step.
 fn mark_tasks(unit: &mut UnitState, mark: MarkBy, out: &mut JobList) -> Result<Place, NoMemory>

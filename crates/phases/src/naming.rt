@@ -3,8 +3,8 @@
 ghost use Rattle.std.specs.Prelude.{IsTrue, IsFalse};
 ghost use Rattle.device_model.specs.Addressed.{IsAddressed};
 
+use logical_unit::UnitState;
 use request_intake::Inventory;
-use unit_history::UnitState;
 
 /// Returns true if the unit has the address and the profile that stand in the inventory at this index, and a volatile
 /// write cache where one stands there.

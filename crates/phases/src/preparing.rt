@@ -4,7 +4,7 @@ ghost use Rattle.std.specs.Prelude.{◌≡◌};
 ghost use Rattle.phases.specs.Parts.{hand_of};
 
 use crate::hand::Hand;
-use unit_history::{StartedWrite, UnitState};
+use logical_unit::{StartedWrite, UnitState};
 
 /// Copies what the pages of the WRITE in the hand need from its unit, which the caller found by the hand; the unit
 /// stays as it is. `None` where no job is in the hand that is to be committed, or its unit gives nothing for it

@@ -1,7 +1,7 @@
 //! The rest of a request once it is answered: the receipt of its Commit, or a note of why there is none.
 
 use crate::note::Note;
-use unit_history::Receipt;
+use logical_unit::Receipt;
 
 /// The rest of a request once it is answered.
 #[derive(Drop)]

@@ -8,10 +8,10 @@ use crate::entering::has_places;
 use crate::naming::is_addressed;
 use event_queue::WaitingEvents;
 use foundation::NoMemory;
+use logical_unit::{JobList, UnitState};
 use request_intake::Inventory;
 use scsi_codec::{Address, Event, TRANSPORT_RESET};
 use unit_attention::Code;
-use unit_history::{JobList, UnitState};
 
 /// Says why a unit isn't reset for the operator. Nothing changed.
 #[derive(Clone, Copy, Debug, PartialEq, Eq)]

@@ -8,9 +8,9 @@ ghost use Rattle.phases.specs.Inner.Resizing.{resize_fault_of};
 use crate::naming::is_addressed;
 use crate::resetting::LUNS;
 use event_queue::WaitingEvents;
+use logical_unit::{ResizeFault as UnitFault, UnitState, is_capacity};
 use request_intake::Inventory;
 use scsi_codec::{Address, Event, PARAM_CHANGE};
-use unit_history::{ResizeFault as UnitFault, UnitState, is_capacity};
 
 /// Says why a unit isn't resized for the operator. Nothing changed.
 #[derive(Clone, Copy, Debug, PartialEq, Eq)]

@@ -4,16 +4,16 @@ ghost use Rattle.std.specs.Prelude.{◌≡◌, ◌+◌, ◌≤◌, ◌<◌, ◌-
 ghost use Rattle.ring_core.specs.Parts.{writable_total};
 ghost use Rattle.ring_core.specs.Writes.{Wrote, scatter_writes, stores_of};
 ghost use Rattle.unit_model.specs.Endings.{answer_of, code_of};
-ghost use Rattle.unit_history.specs.Endings.{ending_of, ending_of_reply, ending_of_run, plain_run, FitsNeed};
+ghost use Rattle.logical_unit.specs.Endings.{ending_of, ending_of_reply, ending_of_run, plain_run, FitsNeed};
 
 use command_model::{BUSY, Reply};
 use foundation::NoMemory;
 use guest_mem::WritableMemory;
+use logical_unit::{Outcome, Receipt};
 use request_intake::{ChainLengths, DirectAnswer};
 use responses::{write_direct, write_reply};
 use ring_core::Chain;
 use scsi_codec::{RESPONSE_BYTES, ResponseCode};
-use unit_history::{Outcome, Receipt};
 use unit_model::Reason;
 
 /// Writes what came of a command: its reply, or BUSY where it was refused memory.

@@ -13,8 +13,8 @@ ghost use Rattle.phases.specs.Inner.ServingInMemory.{ServesIn};
 ghost use Rattle.phases.specs.Inner.Outcomes.{WritesWholeIn};
 ghost use Rattle.phases.specs.Inner.Stored.{ending_writes};
 ghost use Rattle.phases.specs.Direct.{decided_writes};
-ghost use Rattle.unit_history.specs.Endings.{ending_of, FitsNeed};
-ghost use Rattle.unit_history.specs.Serving.{ServesAlone};
+ghost use Rattle.logical_unit.specs.Endings.{ending_of, FitsNeed};
+ghost use Rattle.logical_unit.specs.Serving.{ServesAlone};
 ghost use Rattle.cdb.specs.Need.{need_of};
 
 use crate::direct_chain::DirectChain;
@@ -25,9 +25,9 @@ use backed_store::BlocksInPlace;
 use command_model::Reply;
 use foundation::{NoMemory, Record};
 use guest_mem::WritableMemory;
+use logical_unit::{Answering, Arrival, Entered, Job, JobList, Outcome, UnitState, Unknown};
 use responses::write_read;
 use ring_core::Answered;
-use unit_history::{Answering, Arrival, Entered, Job, JobList, Outcome, UnitState, Unknown};
 use virtqueue::Queue;
 
 /// Writes what answers a job over the writable parts of its chain, by what came of its commit.

@@ -11,6 +11,7 @@ use foundation::NoMemory;
 use guest_driver::GuestMemory;
 use guest_mem::{GuestMem, MemFault};
 use live_mem::LiveMem;
+use logical_unit::UnitState;
 use ring_core::QueueLog;
 use script_semantics::{Device, Hosted, stop_of};
 use script_syntax::{HostLine, LineFault, Race, Stop};
@@ -18,7 +19,6 @@ use scsi_codec::Address;
 use std::alloc::Global;
 use std::cell::RefCell;
 use std::rc::Rc;
-use unit_history::UnitState;
 use world::{Event, LiveWorld, Notify, Served};
 
 /// A device on a memory that its guest changes between two reads of a line, as the script says.

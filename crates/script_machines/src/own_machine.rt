@@ -8,12 +8,12 @@ use config::Config;
 use foundation::NoMemory;
 use guest_driver::GuestMemory;
 use guest_mem::{GuestMem, MemFault};
+use logical_unit::UnitState;
 use ring_core::QueueLog;
 use script_semantics::{Device, Hosted, stop_of};
 use script_syntax::{HostLine, LineFault, Race, Stop};
 use scsi_codec::Address;
 use std::alloc::Global;
-use unit_history::UnitState;
 use world::{Event, Notify, Served, World};
 
 /// Each queue's bit, as `serve` takes them.

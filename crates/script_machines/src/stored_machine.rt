@@ -10,13 +10,13 @@ use config::Config;
 use foundation::NoMemory;
 use guest_driver::GuestMemory;
 use guest_mem::{GuestMem, MemFault};
+use logical_unit::UnitState;
 use ring_core::QueueLog;
 use script_semantics::{Device, Hosted, stop_of};
 use script_syntax::{HostLine, LineFault, Race, Stop};
 use scsi_codec::Address;
 use std::alloc::{AllocError, Global};
 use stored_world::StoredWorld;
-use unit_history::UnitState;
 use world::{Event, Notify, Served};
 
 /// A device that has its guest's memory to itself, and disks on storages of its host.

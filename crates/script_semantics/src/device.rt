@@ -3,8 +3,8 @@
 use close_audit::Report;
 use guest_mem::GuestMem;
 use host_storage::Storage;
+use logical_unit::UnitState;
 use scsi_codec::Address;
-use unit_history::UnitState;
 
 /// A device that stands still, as printing lines look at it: one of one thread between two lines, or what threads left
 /// when it was closed.

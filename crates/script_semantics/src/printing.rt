@@ -6,12 +6,12 @@ use crate::show::show;
 use block_store::BLOCK_BYTES;
 use guest_driver::Driver;
 use guest_mem::GuestMem;
+use logical_unit::{StepKind, UnitState};
 use ring_core::Ticket;
 use script_syntax::{LineFault, PrintLine, Stop};
 use scsi_codec::{Address, EVENT_BYTES};
 use std::alloc::Global;
 use std::io::Write;
-use unit_history::{StepKind, UnitState};
 
 /// The number of blocks that are read at once.
 const BLOCKS_AT_ONCE: u64 = 64;

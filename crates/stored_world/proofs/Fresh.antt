@@ -19,8 +19,8 @@ use Rattle.request_intake.specs.declared.inventory.UnitSpec.{UnitSpec}
 use Rattle.unit_model.specs.Steps.{Step}
 use Rattle.unit_model.specs.Contents.{capacity_of}
 use Rattle.unit_model.specs.Unit.{PlainUnit}
-use Rattle.unit_history.specs.Disks.{unit_over, opening_over}
-use Rattle.unit_history.proofs.Places.{push_get}
+use Rattle.logical_unit.specs.Disks.{unit_over, opening_over}
+use Rattle.unit_log.proofs.Places.{push_get}
 use Rattle.device_model.proofs.Lists.{nothing, same}
 use Rattle.device_model.proofs.Rooms.{below_found}
 use Rattle.device_steps.specs.Opening.{over_disks}

@@ -1,7 +1,7 @@
 //! The rows of a test, and the acts that they consist of.
 
+use logical_unit::{Place, StepKind};
 use ring_core::Ticket;
-use unit_history::{Place, StepKind};
 use unit_model::Rule;
 
 /// The queue that all chains come from.

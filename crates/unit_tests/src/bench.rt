@@ -6,9 +6,9 @@ use crate::calls::Came;
 use crate::hand::{Hand, MOST_JOBS, name_of};
 use crate::port::Ports;
 use foundation::NoMemory;
+use logical_unit::{Place, UnitState};
 use request_intake::{Identity, Profile, UnitSpec};
 use std::alloc::Global;
-use unit_history::{Place, UnitState};
 use unit_model::Rule;
 
 /// A unit of 1,000 blocks with nothing pending.

@@ -3,9 +3,9 @@
 use crate::acts::{Comes, Ends};
 use command_model::{CHECK_CONDITION, GOOD, Reply};
 use foundation::NoMemory;
+use logical_unit::{Arrival, Entered, Job, JobList, Outcome, Place, Receipt, StepKind, UnitState};
 use ring_core::{Answered, Ticket};
 use unit_attention::Code;
-use unit_history::{Arrival, Entered, Job, JobList, Outcome, Place, Receipt, StepKind, UnitState};
 use unit_model::{Reason, Rule};
 
 /// Returns true if a history that had so many steps is longer by this one, or by none.

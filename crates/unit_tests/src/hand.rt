@@ -4,9 +4,9 @@ use crate::acts::{Ends, OTHER};
 use crate::calls;
 use crate::port::PAGES;
 use foundation::NoMemory;
+use logical_unit::{Job, JobList, Outcome, Place, Receipt, UnitState};
 use ring_core::Answered;
 use std::alloc::Global;
-use unit_history::{Job, JobList, Outcome, Place, Receipt, UnitState};
 use unit_model::Rule;
 
 /// More jobs than a row has.

@@ -1,5 +1,5 @@
 //! Tests of a logical unit over its public calls, each a table of rows, and of the hand-off, all with chains of real
-//! split queues. They stand in a crate of their own so that `unit_history` and `handoff` are proved once.
+//! split queues. They stand in a crate of their own so that `logical_unit` and `handoff` are proved once.
 #![tactic(auto)]
 
 #[cfg(test)]

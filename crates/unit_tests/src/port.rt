@@ -6,11 +6,11 @@ use crate::acts::{DATA, QUEUE, SIMPLE, Sent};
 use crate::bench::{CALM, SECOND};
 use foundation::NoMemory;
 use guest_mem::GuestMem;
+use logical_unit::{Arrival, Job};
 use request_intake::{ChainLengths, Decision, Inventory, MOST_UNITS, UnitSpec, are_rising, decide};
 use ring_core::{Answered, Chain, FIRST_BYTES, FIRST_INDEX, Fetched, Layout, Ring, RingFault};
 use split_ring::SplitRing;
 use std::alloc::Global;
-use unit_history::{Arrival, Job};
 
 /// The pages of the memory of each queue. They differ, so that their chains do.
 pub(crate) const PAGES: u32 = 8;

@@ -4,10 +4,10 @@ ghost use Rattle.handoff.specs.Seats.{IsSeatOf, IsSameSeat};
 
 use crate::port::Ports;
 use handoff::{Handoff, Seat};
+use logical_unit::Job;
 use std::alloc::Global;
 use std::sync::Wait;
 use std::test::Fail;
-use unit_history::Job;
 
 /// Returns the identifier of a job, where there is one.
 fn id_of(job: Option<Job>) -> Option<u64> {

@@ -14,8 +14,8 @@ use Rattle.close_audit.proofs.Crossing.{kept_sends}
 use Rattle.task_set.specs.contracts.job.JobList.{the_row as list_row}
 use Rattle.task_set.specs.contracts.job.JobList.TheInside as list
 use Rattle.ring_core.proofs.answered.Answered.TheSendSync as answered
-use Rattle.unit_history.proofs.outcomes.Outcome.TheSendSync as outcome
-use Rattle.unit_history.proofs.pages.PreparedWrite.TheSendSync as pages
+use Rattle.logical_unit.proofs.outcomes.Outcome.TheSendSync as outcome
+use Rattle.logical_unit.proofs.pages.PreparedWrite.TheSendSync as pages
 use Rattle.block_store.proofs.edges.Prepared.TheSendSync as spare
 use Rattle.phases.specs.contracts.job_in_hand.JobInHand.{the_row as held_row}
 use Rattle.phases.specs.contracts.job_in_hand.JobInHand.TheInside as held

@@ -4,8 +4,8 @@ use Rattle.std.specs.Option.{option_map}
 use Rattle.ring_core.specs.declared.log.Ticket.{Ticket}
 use Rattle.unit_model.specs.Jobs.{PlainJob, Jobs}
 use Rattle.unit_model.specs.Unit.{PlainUnit}
-use Rattle.unit_history.specs.declared.outcomes.Outcome as answers
-use Rattle.unit_history.specs.declared.outcomes.Outcome.TheVariants as outcome
+use Rattle.logical_unit.specs.declared.outcomes.Outcome as answers
+use Rattle.logical_unit.specs.declared.outcomes.Outcome.TheVariants as outcome
 use Rattle.phases.specs.declared.receipt_or_note.ReceiptOrNote.{ReceiptOrNote}
 use Rattle.device_model.specs.Parts.{Slot, Hand}
 use Rattle.virtqueue.specs.Queue.{BareQueue}

@@ -14,13 +14,13 @@ use cdb::Command;
 use close_audit::Kept;
 use handoff::Seat;
 use lock_scopes::{Gate, Part, Point, Weighing, answer_on, commit_on, leave_on, prepare_on};
+use logical_unit::{Job, JobList};
 use phases::Hand;
 use ring_core::Ticket;
 use std::alloc::{AllocError, Global};
 use std::sync::Wait;
 use std::sync::ledger::Ledger;
 use std::thread;
-use unit_history::{Job, JobList};
 
 /// An answer may be long from so many writable bytes of its chain on: to copy as many takes longer than to take a
 /// chain.

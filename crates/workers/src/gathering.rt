@@ -9,11 +9,11 @@ ghost use Rattle.workers.specs.Ledgers.{commits_in, weight_in};
 use crate::tallied::{BlankPart, Tallied};
 use close_audit::{CloseFault, ClosedQueues, Kept};
 use lock_scopes::{CountedUnit, KeptQueue, Part, Weighing};
+use logical_unit::UnitState;
 use phases::Note;
 use std::alloc::{AllocError, Global};
 use std::sync::Mutex;
 use std::sync::ledger::{Ledger, Share};
-use unit_history::UnitState;
 
 /// Splits so many parts off a share, in which nothing was counted yet.
 pub(crate) fn split_off<W: Ledger>(

@@ -33,10 +33,10 @@ pub use config::{Config, StartFault};
 pub use host::{Host, Seen};
 pub use laws::as_many_acts_as_were_made;
 pub use lock_scopes::{Gate, Open, Point, QueueLender, UnitLender, Weighing};
+pub use logical_unit::Receipt;
 pub use phases::{
     Cause, Note, ResetFault, ResizeFault, phase_answer, phase_answer_tmf, phase_check,
     phase_commit, phase_direct, phase_enter, phase_fetch, phase_fetch_control, phase_fetch_event,
     phase_hard, phase_leave, phase_mark, phase_prepare, phase_raise, phase_resize,
     phase_start_pages,
 };
-pub use unit_history::Receipt;

@@ -11,10 +11,10 @@ use device_opening::{Opened, open_port};
 use foundation::NoMemory;
 use guest_mem::GuestMem;
 use lock_scopes::{CountedUnit, KeptQueue, Part, Weighing};
+use logical_unit::UnitState;
 use std::alloc::Global;
 use std::sync::Mutex;
 use std::sync::ledger::{Book, Ledger, Share};
-use unit_history::UnitState;
 use worker_steps::Parts;
 
 /// The rest of the two ledgers as units are opened: the parts that no unit has, and the book of the second. A unit is

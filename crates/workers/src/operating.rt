@@ -10,10 +10,10 @@ ghost use Rattle.workers.specs.Resizing.{ResizeFails, WasResized};
 
 use event_queue::WaitingEvents;
 use lock_scopes::{Acts, Gate, Weighing, hard_on, resize_on};
+use logical_unit::is_capacity;
 use phases::{ResetFault, ResizeFault};
 use std::sync::Wait;
 use std::sync::ledger::Ledger;
-use unit_history::is_capacity;
 use worker_steps::{Post, Shared, drain, raise};
 
 /// Resets a unit, in one hold of its lock, which is an act. Returns true if it did: not where the list has no room for

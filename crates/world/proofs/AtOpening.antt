@@ -26,7 +26,7 @@ use Rattle.config.specs.declared.config.Config.{Config}
 use Rattle.command_model.specs.Identity.{is_identity, told_by}
 use Rattle.config.specs.Config.{is_config, is_config_for, has_pages, is_queue, is_unit, has_lun_0, has_own_naa, are_queues, are_units, form_of, size_of}
 use Rattle.backed_store.specs.declared.disk.Disk.{Disk}
-use Rattle.unit_history.specs.Disks.{unit_over}
+use Rattle.logical_unit.specs.Disks.{unit_over}
 use Rattle.device_opening.specs.Opening.{AreFresh, opening_unit}
 use Rattle.device_steps.specs.Opening.{AreOpening, IsOpeningFor, over_disks}
 use Rattle.device_steps.specs.Sound.{AreFew, AreFitting, IsSteady, IsWhole}

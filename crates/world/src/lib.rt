@@ -24,6 +24,7 @@ pub use config::{
 };
 pub use device_model::Event;
 pub use live_world::LiveWorld;
+pub use logical_unit::{Changes, StepKind, UnitState};
 pub use notifications::Notifications;
 pub use phases::{
     Cause, DirectChain, Hand, JobInHand, Note, OpenFunction, ReceiptOrNote, Refusal, ResetFault,
@@ -34,7 +35,6 @@ pub use phases::{
 pub use ring_core::{Notify, Position, RingFault, RingIndex};
 pub use served::Served;
 pub use unit_attention::Code;
-pub use unit_history::{Changes, StepKind, UnitState};
 pub use unit_model::Counts;
 pub use virtqueue::{AnyRing, Queue};
 pub use world::World;

@@ -19,9 +19,9 @@ use device_model::waiting_laws::a_device_in_memory_defers_nothing;
 use device_steps::{Bay, all_are_sound};
 use foundation::NoMemory;
 use guest_mem::WritableMemory;
+use logical_unit::{Changes, UnitState};
 use ring_core::{Position, QueueLog, RingFault};
 use unit_attention::Code;
-use unit_history::{Changes, UnitState};
 
 impl<M: WritableMemory> LiveWorld<M> {
     /// Shows that some trace led here from an opening, whatever bytes stand in memory: every law over reached traces holds

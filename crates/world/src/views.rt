@@ -10,9 +10,9 @@ use crate::world::World;
 use device_steps::Bay;
 use foundation::NoMemory;
 use guest_mem::GuestMem;
+use logical_unit::{Changes, UnitState};
 use ring_core::{Position, QueueLog, RingFault};
 use unit_attention::Code;
-use unit_history::{Changes, UnitState};
 
 impl World {
     ghost use Rattle.device_steps.specs.Views.{unit_at, IsIndexOf, fault_of, device_status, GivesBlocks, GivesChanges};

@@ -8,10 +8,10 @@ use Rattle.unit_model.specs.Steps.{Step, alive}
 use Rattle.unit_model.specs.Base.{kept_steps, folded_steps}
 use Rattle.unit_model.specs.Receipts.{Receipt}
 use Rattle.unit_model.specs.Unit.{PlainUnit}
-use Rattle.unit_history.specs.Kept.{kind_of}
-use Rattle.unit_history.specs.Runs.{committed}
-use Rattle.unit_history.specs.declared.kind.StepKind.{StepKind}
-use Rattle.unit_history.specs.declared.kind.StepKind.TheVariants as kind
+use Rattle.unit_log.specs.Kept.{kind_of}
+use Rattle.unit_log.specs.Runs.{committed}
+use Rattle.unit_log.specs.declared.kind.StepKind.{StepKind}
+use Rattle.unit_log.specs.declared.kind.StepKind.TheVariants as kind
 use Rattle.virtqueue.specs.Queue.{BareQueue}
 use Rattle.phases.specs.Notes.{PlainNote}
 use Rattle.phases.specs.declared.note.Cause.{Cause}

@@ -3,7 +3,7 @@ use Rattle.std.specs.Prelude.{ℕ, ◌≡◌, List, length, IfSome}
 use Rattle.ring_core.specs.Writes.{Wrote, scatter_writes}
 use Rattle.unit_model.specs.Endings.{Ending, answer_of}
 use Rattle.unit_model.specs.Jobs.{PlainJob}
-use Rattle.unit_history.specs.Endings.{ending_of}
+use Rattle.logical_unit.specs.Endings.{ending_of}
 use Rattle.device_model.specs.Parts.{lengths_of}
 use Rattle.phases.specs.Outcomes.{PlainJobInHand}
 

@@ -1,6 +1,6 @@
 -- Rests on `specs/Resizing.antt`; no promise rests on it.
-use Rattle.unit_history.specs.declared.outcomes.ResizeFault as of_unit
-use Rattle.unit_history.specs.declared.outcomes.ResizeFault.TheVariants as unit_fault
+use Rattle.logical_unit.specs.declared.outcomes.ResizeFault as of_unit
+use Rattle.logical_unit.specs.declared.outcomes.ResizeFault.TheVariants as unit_fault
 use Rattle.phases.specs.declared.resizing.ResizeFault.{ResizeFault}
 use Rattle.phases.specs.declared.resizing.ResizeFault.TheVariants as fault
 

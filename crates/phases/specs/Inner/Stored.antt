@@ -7,7 +7,7 @@ use Rattle.ring_core.specs.State.{RingState, PlainChain}
 use Rattle.ring_core.specs.Writes.{Write, scatter_writes}
 use Rattle.unit_model.specs.Endings.{Ending, answer_of}
 use Rattle.unit_model.specs.Jobs.{PlainJob}
-use Rattle.unit_history.specs.Endings.{ending_of}
+use Rattle.logical_unit.specs.Endings.{ending_of}
 use Rattle.task_mgmt.specs.Functions.{response_of}
 use Rattle.device_model.specs.Parts.{Completion, Slot, Hand, answer_writes, lengths_of}
 use Rattle.device_model.specs.World.{Opened}

@@ -1,7 +1,7 @@
 use Rattle.std.proofs.Common.{◌≡◌, ◌∙◌, ◌+◌, ◌*◌, ◌≤◌, length, ap, arith}
 use Rattle.block_store.specs.Blocks.{Blocks, overwritten}
 use Rattle.backed_store.specs.Disks.{size_of}
-use Rattle.unit_history.proofs.Durable.{hosted_ledger}
+use Rattle.logical_unit.proofs.Durable.{hosted_ledger}
 use Rattle.c_calls.proofs.Serve.{unchanged}
 use Rattle.c_calls.proofs.disks.load_blocks.Goals as goal
 

@@ -1,5 +1,5 @@
 use Rattle.unit_model.specs.Endings.{answer_of}
-use Rattle.unit_history.specs.Endings.{ending_of}
+use Rattle.logical_unit.specs.Endings.{ending_of}
 use Rattle.device_model.specs.Parts.{lengths_of}
 use Rattle.phases.proofs.Answered.{answers_job}
 use Rattle.phases.proofs.Stored.{answer_stored}

@@ -4,7 +4,7 @@ use Rattle.ring_core.specs.State.{PlainChain}
 use Rattle.ring_core.specs.Writes.{Wrote, scatter_writes, stores_of}
 use Rattle.request_intake.specs.declared.answer.ChainLengths.{ChainLengths}
 use Rattle.unit_model.specs.Endings.{answer_of}
-use Rattle.unit_history.specs.Endings.{ending_of}
+use Rattle.logical_unit.specs.Endings.{ending_of}
 use Rattle.device_model.specs.Parts.{lengths_of}
 use Rattle.phases.proofs.Answered.{both_lengths}
 use Rattle.phases.proofs.job_in_hand.JobInHand.write.Goals as goal

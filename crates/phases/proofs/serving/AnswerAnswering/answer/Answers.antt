@@ -1,5 +1,5 @@
 use Rattle.std.proofs.Common.{refl}
-use Rattle.unit_history.specs.Endings.{ending_of_run, plain_run}
+use Rattle.logical_unit.specs.Endings.{ending_of_run, plain_run}
 use Rattle.phases.proofs.AtOnce.{writes_whole, stores_whole}
 use Rattle.phases.proofs.serving.AnswerAnswering.answer.Goals as goal
 

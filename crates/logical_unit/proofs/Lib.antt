@@ -1,0 +1,17 @@
+pub mod KeepingSet
+pub mod Keeping
+pub mod Basing
+pub mod Fitting
+pub mod Handing
+pub mod Stepping
+pub mod Entering
+pub mod Noting
+pub mod Begun
+pub mod Durable
+pub mod Committing
+pub mod Losing
+pub mod Alone
+pub mod Opening
+pub mod Ranging
+pub mod Readied
+pub mod Running

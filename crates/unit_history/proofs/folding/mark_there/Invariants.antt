@@ -1,6 +1,0 @@
-use Rattle.std.proofs.Common.{◌≡◌, drop}
-use Rattle.unit_history.specs.Inner.Folding.{mark_at}
-use Rattle.unit_history.proofs.folding.mark_there.Given as goal
-
-abbrev pub invariant-loop-at : goal.invariant-loop-at
-invariant-loop-at l = mark_at l.place (drop l.at l.marks.items) ≡ mark_at l.place l.marks.items

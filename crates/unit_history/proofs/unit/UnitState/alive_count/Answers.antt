@@ -1,6 +1,0 @@
-use Rattle.std.proofs.Common.{◌∙◌}
-use Rattle.unit_history.proofs.Keeping.{length_alive}
-use Rattle.unit_history.proofs.unit.UnitState.alive_count.Goals as goal
-
-pub returns : goal.returns
-returns c = rw (← c.self.view_is) (c.len.ensures.value ∙ length_alive c.self.invariant.kept)

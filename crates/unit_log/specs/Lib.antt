@@ -1,0 +1,6 @@
+pub mod Kept
+pub mod Runs
+pub mod Folding
+pub mod Slots
+pub mod Recorded
+pub mod Inner
