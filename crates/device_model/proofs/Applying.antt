@@ -1,6 +1,5 @@
 -- Where a transition happens, its event applies.
-use Rattle.std.proofs.Common.{◌≡◌, ◌≤◌, ℕ, List, Option, Some, None, refl, sym, subst, zero, suc, inl, inr, arith}
-use Rattle.std.specs.Prelude.{◌⊎◌}
+use Rattle.std.proofs.Common.{◌≡◌, ◌≤◌, ℕ, List, Option, Some, None, refl, sym, subst, zero, suc, arith}
 use Rattle.ring_core.specs.State.{RingState}
 use Rattle.ring_core.specs.Offer.{Nothing, Found, Refused, OffersUnless}
 use Rattle.ring_core.specs.declared.descriptor.Part.{Part}
@@ -10,7 +9,7 @@ use Rattle.device_model.specs.World.{PlainWorld}
 use Rattle.device_model.specs.Parts.{PlainFetch}
 use Rattle.device_model.specs.Events.{Event}
 use Rattle.device_model.specs.Transitions.{Transition, event_of}
-use Rattle.device_model.specs.Happens.{Happens, Errs}
+use Rattle.device_model.specs.Happens.{Happens}
 use Rattle.device_model.specs.Event.Fetch.{IsOpenTo, Finds}
 use Rattle.device_model.specs.Applies.{Applies}
 use Rattle.device_model.specs.Event.Fetch.{MayFetch}
@@ -129,18 +128,6 @@ applies (Transition.Give e c xs) w h = (e, h.later, h.waits)
 applies (Transition.Miss e) w h = (e, h.later, h.waits)
 applies (Transition.Idle e) w h = absurd h
 
--- and so does that of a transition that finds parts that don't fit together
-errs_apply : (d : Transition) (w : PlainWorld) → Errs d w → Applies w (event_of d)
-errs_apply (Transition.CommitUnknown k x) w h = (x, (h.holds.out, h.holds.seat))
-errs_apply (Transition.EnterStale x) w h = (x, (h.comes.queue, h.comes.there, h.comes.arrived))
-errs_apply d w h = absurd h
-
--- both
-either : (d : Transition) (w : PlainWorld) → Happens d w ⊎ Errs d w → Applies w (event_of d)
-either d w (inl h) = applies d w h
-either d w (inr h) = errs_apply d w h
-
 -- where an event doesn't apply, no transition of it happens
-pub idles : (w : PlainWorld) (e : Event) → (Applies w e → ⊥) → (d : Transition) → event_of d ≡ e
-    → Happens d w ⊎ Errs d w → ⊥
-idles w e never d is h = never (subst (Applies w) is (either d w h))
+pub idles : (w : PlainWorld) (e : Event) → (Applies w e → ⊥) → (d : Transition) → event_of d ≡ e → Happens d w → ⊥
+idles w e never d is h = never (subst (Applies w) is (applies d w h))

@@ -1,5 +1,5 @@
 -- When a transition may happen, the world's step, and what is reached.
-use Rattle.std.specs.Prelude.{◌≡◌, ◌⊎◌, true, false, List, [], ◌∷◌, length, ⊤}
+use Rattle.std.specs.Prelude.{◌≡◌, true, false, List, [], ◌∷◌, length, ⊤}
 use Rattle.guest_mem.specs.Memory.{LiesIn}
 use Rattle.unit_model.specs.Steps.{Step}
 use Rattle.unit_model.specs.Unit.{PlainUnit}
@@ -63,15 +63,10 @@ Happens (Transition.Give e c xs) w = Gives w e c xs
 Happens (Transition.Miss e) w = Misses w e
 Happens (Transition.Idle e) w = ⊥
 
--- what a phase would do where the device's own parts don't fit together
-abbrev pub Errs : Transition → PlainWorld → Type 0
-Errs (Transition.CommitUnknown k x) w = CommitsUnknown w k x
-Errs (Transition.EnterStale x) w = EntersStale w x
-Errs d w = ⊥
-
--- an event that can do nothing does nothing
+-- or nothing does, where no transition of the event happens; or what a phase would do if the device's own parts didn't fit
+-- together, which a law refuses
 abbrev pub MayHappen : Transition → PlainWorld → Type 0
-MayHappen (Transition.Idle e) w = (d : Transition) → event_of d ≡ e → Happens d w ⊎ Errs d w → ⊥
+MayHappen (Transition.Idle e) w = (d : Transition) → event_of d ≡ e → Happens d w → ⊥
 MayHappen (Transition.CommitUnknown k x) w = CommitsUnknown w k x
 MayHappen (Transition.EnterStale x) w = EntersStale w x
 MayHappen d w = Happens d w
