@@ -36,7 +36,7 @@ abbrev pub first_ticket : Ticket
 first_ticket = record { queue = 0; number = 0 }
 
 -- own: which ticket is named where a report isn't of the host that was opened: the first of all, where the units aren't
--- those that were wanted; else that of the first queue out of its place
+-- those that were wanted; else that of the first queue that isn't at its index
 abbrev pub IsForeign : List UnitSpec → List PlainUnit → List BareQueue → Ticket → Type 0
 IsForeign specs units queues t =
     ((AreOpenedAs specs units → ⊥) × (t ≡ first_ticket))

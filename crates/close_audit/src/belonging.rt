@@ -67,7 +67,7 @@ fn first_misplaced(queues: &[Queue]) -> Option<Ticket>
 }
 
 /// Returns the ticket that is named where a report isn't of the host with these units. It is the first of all, if its
-/// units are others; else that of the first queue out of its place.
+/// units are others; else that of the first queue that isn't at its index.
 pub(crate) fn first_foreign(
     specs: &[UnitSpec],
     units: &[UnitState],

@@ -12,7 +12,7 @@ use Rattle.ring_core.proofs.Exists.{offers_some}
 use Rattle.unit_model.specs.Clearing.{is_clear}
 use Rattle.unit_model.specs.Jobs.{PlainJob}
 use Rattle.unit_model.specs.Unit.{PlainUnit}
-use Rattle.task_mgmt.specs.declared.function.Mark.{Mark as Place}
+use Rattle.task_mgmt.specs.declared.function.Mark.{Mark as MarkAt}
 use Rattle.device_model.specs.Parts.{Outcome, Slot, Hand}
 use Rattle.device_model.specs.World.{PlainQueue, Seat, Opened, PlainWorld}
 use Rattle.device_model.specs.Events.{Event}
@@ -275,7 +275,7 @@ resume_decided w k (Some s) at = resume_at w k s.hand s.out (below_or_not k w.wo
 no_unit : {k : ℕ} {ks : List ℕ} → [] ≡ k ∷ ks → ⊥
 no_unit e = cc
 
-no_mark : {m : Place} {ms : List Place} → [] ≡ m ∷ ms → ⊥
+no_mark : {m : MarkAt} {ms : List MarkAt} → [] ≡ m ∷ ms → ⊥
 no_mark e = cc
 
 left_of : (x y : Opened) → x ≡ y → x.function.left ≡ y.function.left
@@ -294,7 +294,7 @@ mark_decided : (w : PlainWorld) (o : Option Opened) → w.function ≡ o → Dec
 mark_decided w None at = inr (λ h. nothing (sym at ∙ h.there))
 mark_decided w (Some o) at = mark_at w o o.function.left at refl
 
-respond_at : (w : PlainWorld) (o : Opened) (left : List ℕ) (waits : List Place) → w.function ≡ Some o
+respond_at : (w : PlainWorld) (o : Opened) (left : List ℕ) (waits : List MarkAt) → w.function ≡ Some o
     → o.function.left ≡ left → o.function.waits ≡ waits → Decided w Event.AnswerTmf
 respond_at w o [] [] at e f = inl (record { opened = o; there = at; left = e; still = f })
 respond_at w o (unit_index ∷ later) waits at e f =
@@ -306,20 +306,20 @@ respond_decided : (w : PlainWorld) (o : Option Opened) → w.function ≡ o → 
 respond_decided w None at = inr (λ h. nothing (sym at ∙ h.there))
 respond_decided w (Some o) at = respond_at w o o.function.left o.function.waits at refl refl
 
-first_mark : {a b : Place} {more rest : List Place} → a ∷ more ≡ b ∷ rest → a ≡ b
+first_mark : {a b : MarkAt} {more rest : List MarkAt} → a ∷ more ≡ b ∷ rest → a ≡ b
 first_mark e = cc
 
 -- the mark that a function waits for first
-same_mark : (w : PlainWorld) (o : Opened) (m : Place) (later : List Place) → w.function ≡ Some o
+same_mark : (w : PlainWorld) (o : Opened) (m : MarkAt) (later : List MarkAt) → w.function ≡ Some o
     → o.function.waits ≡ m ∷ later → (h : MayCheck w) → h.mark ≡ m
 same_mark w o m later at e h = first_mark (sym h.still ∙ waits_of h.opened o (one_there h.there at) ∙ e)
 
-check_unit : (w : PlainWorld) (o : Opened) (m : Place) (later : List Place) (u : Option PlainUnit) → w.function ≡ Some o
+check_unit : (w : PlainWorld) (o : Opened) (m : MarkAt) (later : List MarkAt) (u : Option PlainUnit) → w.function ≡ Some o
     → o.function.left ≡ [] → o.function.waits ≡ m ∷ later → slice_get w.units m.unit ≡ u → Decided w Event.Check
 check_unit w o m later None at e f there =
     inr (λ h.
     let p = same_mark w o m later at f h in
-    nothing (sym there ∙ ap (λ (z : Place). slice_get w.units z.unit) (sym p) ∙ h.unit_there))
+    nothing (sym there ∙ ap (λ (z : MarkAt). slice_get w.units z.unit) (sym p) ∙ h.unit_there))
 check_unit w o m later (Some u) at e f there =
     (elim (is_clear m.place u.steps) as (λ b. is_clear m.place u.steps ≡ b → Decided w Event.Check) [
       | true ↦ λ c. inl (record {
@@ -335,13 +335,13 @@ check_unit w o m later (Some u) at e f there =
       })
       | false ↦ λ c. inr (λ h.
           let p = same_mark w o m later at f h in
-          let is = one_there (ap (λ (z : Place). slice_get w.units z.unit) (sym p) ∙ h.unit_there) there in
-          let a = ap (λ (z : Place). is_clear z.place u.steps) (sym p) in
+          let is = one_there (ap (λ (z : MarkAt). slice_get w.units z.unit) (sym p) ∙ h.unit_there) there in
+          let a = ap (λ (z : MarkAt). is_clear z.place u.steps) (sym p) in
           let b = ap (λ (z : PlainUnit). is_clear h.mark.place z.steps) (sym is) in
           false_true (sym c ∙ a ∙ b ∙ h.clear))
     ]) refl
 
-check_at : (w : PlainWorld) (o : Opened) (left : List ℕ) (waits : List Place) → w.function ≡ Some o
+check_at : (w : PlainWorld) (o : Opened) (left : List ℕ) (waits : List MarkAt) → w.function ≡ Some o
     → o.function.left ≡ left → o.function.waits ≡ waits → Decided w Event.Check
 check_at w o (unit_index ∷ later) waits at e f =
     inr (λ h. no_unit (sym h.left ∙ left_of h.opened o (one_there h.there at) ∙ e))

@@ -16,7 +16,7 @@ use Rattle.task_mgmt.specs.Functions.{step_by, response_of}
 use Rattle.task_mgmt.specs.declared.kind.Kind.{Kind}
 use Rattle.task_mgmt.specs.declared.kind.Kind.TheVariants.{Marking, Querying}
 use Rattle.task_mgmt.specs.declared.kind.MarkBy.{MarkBy}
-use Rattle.task_mgmt.specs.declared.function.Mark.{Mark as Place}
+use Rattle.task_mgmt.specs.declared.function.Mark.{Mark as MarkAt}
 use Rattle.device_model.specs.Parts.{Completion}
 use Rattle.device_model.specs.World.{PlainWorld, Opens}
 use Rattle.device_model.specs.Transitions.{Transition}
@@ -51,7 +51,7 @@ left_answered old ds unit_index t o l h =
     let few = (few_at old ds t o l).left in
     counted_told (answers (only t)) (IsAnswer t) (answer_is t) ds (omega (arith, n, few))
 
-clear_of : (old : PlainWorld) (ds : List Transition) (p : Place) → Opens old → Leads old ds
+clear_of : (old : PlainWorld) (ds : List Transition) (p : MarkAt) → Opens old → Leads old ds
     → AreGone p.place (history_of p.unit ds) → IsClear p ds
 clear_of old ds p o l h =
     let hist = history_of p.unit ds in
@@ -117,17 +117,17 @@ visits_own old ds t unit_index kind o l g =
     subst (λ z. IsFor old.inventory ds z kind unit_index) g.of is
 
 -- what the step at a place met, for good
-abbrev Met : Place → List Entry → List Transition → Type 0
+abbrev Met : MarkAt → List Entry → List Transition → Type 0
 Met p es ds = (p.place < length (history_of p.unit ds)) × (met_at p.place (history_of p.unit ds) ≡ es)
 
-met_since : (p : Place) (es : List Entry) (d : Transition) (ds : List Transition) → Met p es ds → Met p es (d ∷ ds)
+met_since : (p : MarkAt) (es : List Entry) (d : Transition) (ds : List Transition) → Met p es ds → Met p es (d ∷ ds)
 met_since p es d ds h =
     let o = step_of p.unit d in
     let more = length_on o (history_of p.unit ds) in
     let lt = h.0 in
     (omega (arith, lt, more), met_on p.place o (history_of p.unit ds) h.0 ∙ h.1)
 
-marks_so : (old : PlainWorld) (t : Ticket) (p : Place) (m : MarkBy) (jobs : List PlainJob) (past ds : List Transition)
+marks_so : (old : PlainWorld) (t : Ticket) (p : MarkAt) (m : MarkBy) (jobs : List PlainJob) (past ds : List Transition)
     → Opens old → Leads old (Transition.Mark t p m jobs ∷ past) → IsBeginning (Transition.Mark t p m jobs ∷ past) ds
     → IsMarkedSo old ds past t p m
 marks_so old t p m jobs past ds o l b =
@@ -159,7 +159,7 @@ looks_so old t unit_index rule b ds o l =
 none_left : (unit_index : ℕ) (left : List ℕ) → left ≡ [] → Among unit_index left → ⊥
 none_left unit_index left e h = subst (Among unit_index) e h
 
-none_waits : (p : Place) (waits : List Place) → waits ≡ [] → Listed p waits → ⊥
+none_waits : (p : MarkAt) (waits : List MarkAt) → waits ≡ [] → Listed p waits → ⊥
 none_waits p waits e h = subst (Listed p) e h
 
 responds_so : (old : PlainWorld) (c : PlainChain) (r : FunctionResponse) (xs : Completion) (ds : List Transition) → Opens old

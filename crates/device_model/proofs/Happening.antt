@@ -24,7 +24,7 @@ use Rattle.unit_model.specs.Jobs.{PlainJob}
 use Rattle.task_mgmt.specs.Functions.{step_by, response_of}
 use Rattle.task_mgmt.specs.declared.kind.Kind.{Kind}
 use Rattle.task_mgmt.specs.declared.kind.Kind.TheVariants.{Marking, Querying}
-use Rattle.task_mgmt.specs.declared.function.Mark.{Mark as Place}
+use Rattle.task_mgmt.specs.declared.function.Mark.{Mark as MarkAt}
 use Rattle.device_model.specs.Parts.{Outcome, as_left, Slot, Hand, bytes_of, lengths_of, answer_writes}
 use Rattle.device_model.specs.World.{PlainQueue, Opened, PlainWorld, owner}
 use Rattle.device_model.specs.Events.{Event}
@@ -306,7 +306,7 @@ marks w o unit_index later (Marking m) f at left kind =
     let lt = (subst (AllByRecursion (λ k. k < length w.units)) left (its_units w o f at).0).0 in
     let u = there w.units unit_index lt in
     let s = there w.seats 0 (let a = f.seated in omega (arith, a)) in
-    let p : Place = record { unit = unit_index; place = length u.0.steps } in (
+    let p : MarkAt = record { unit = unit_index; place = length u.0.steps } in (
       Transition.Mark o.chain.ticket p m (handed_out u.0 (step_by m)),
       refl,
       record {

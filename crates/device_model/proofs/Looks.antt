@@ -8,7 +8,7 @@ use Rattle.task_mgmt.specs.Functions.{PlainFunction, marking, next_look, asking,
 use Rattle.task_mgmt.specs.declared.kind.Kind.{Kind}
 use Rattle.task_mgmt.specs.declared.kind.Kind.TheVariants.{Marking, Querying}
 use Rattle.task_mgmt.specs.declared.kind.MarkBy.{MarkBy}
-use Rattle.task_mgmt.specs.declared.function.Mark.{Mark as Place}
+use Rattle.task_mgmt.specs.declared.function.Mark.{Mark as MarkAt}
 use Rattle.task_mgmt.proofs.Visits.{look_clear}
 use Rattle.device_model.specs.Parts.{lengths_of}
 use Rattle.device_model.specs.World.{Opened, PlainWorld, Opens}
@@ -31,20 +31,20 @@ abbrev AreFree : PlainFunction → Type 0
 AreFree f = AreLooks f.kind f.waits
 
 -- what waits for nothing waits for no step
-none_free : (kind : Kind) (waits : List Place) → waits ≡ [] → AreLooks kind waits
+none_free : (kind : Kind) (waits : List MarkAt) → waits ≡ [] → AreLooks kind waits
 none_free (Marking m) waits e = tt
-none_free (Querying rule) waits e = subst (AllByRecursion (λ (p : Place). p.place ≡ 0)) (sym e) tt
+none_free (Querying rule) waits e = subst (AllByRecursion (λ (p : MarkAt). p.place ≡ 0)) (sym e) tt
 
-push_free : (kind : Kind) (waits : List Place) (p : Place) → p.place ≡ 0 → AreLooks kind waits
+push_free : (kind : Kind) (waits : List MarkAt) (p : MarkAt) → p.place ≡ 0 → AreLooks kind waits
     → AreLooks kind (waits ++ p ∷ [])
 push_free (Marking m) waits p e h = tt
-push_free (Querying rule) waits p e h = all_push (λ (q : Place). q.place ≡ 0) waits p h e
+push_free (Querying rule) waits p e h = all_push (λ (q : MarkAt). q.place ≡ 0) waits p h e
 
-drop_free : (kind : Kind) (waits : List Place) → AreLooks kind waits → AreLooks kind (drop 1 waits)
+drop_free : (kind : Kind) (waits : List MarkAt) → AreLooks kind waits → AreLooks kind (drop 1 waits)
 drop_free (Marking m) waits h = tt
-drop_free (Querying rule) waits h = all_drop (λ (q : Place). q.place ≡ 0) waits h
+drop_free (Querying rule) waits h = all_drop (λ (q : MarkAt). q.place ≡ 0) waits h
 
-marks_free : (kind : Kind) (m : MarkBy) (waits : List Place) → kind ≡ Marking m → AreLooks kind waits
+marks_free : (kind : Kind) (m : MarkBy) (waits : List MarkAt) → kind ≡ Marking m → AreLooks kind waits
 marks_free kind m waits e = subst (λ k. AreLooks k waits) (sym e) tt
 
 -- the open function goes on
@@ -76,7 +76,7 @@ transition_looks (Transition.Check t p) w m h =
 transition_looks (Transition.Respond c r xs) w m h = tt
 transition_looks d w m h = h
 
-clear_at_none : (p : Place) (u : PlainUnit) → p.place ≡ 0 → is_clear p.place u.steps ≡ true
+clear_at_none : (p : MarkAt) (u : PlainUnit) → p.place ≡ 0 → is_clear p.place u.steps ≡ true
 clear_at_none p u e = ap (λ n. is_clear n u.steps) e ∙ look_clear u.steps
 
 -- so the next check applies
@@ -86,10 +86,10 @@ checks_next w finds free h =
     let f = h.opened.function in
     let all = subst (FunctionIsThere (length w.units)) h.there finds in
     let lt : h.mark.unit < length w.units =
-    (subst (AllByRecursion (λ (p : Place). p.unit < length w.units)) h.waits all.1).0 in
+    (subst (AllByRecursion (λ (p : MarkAt). p.unit < length w.units)) h.waits all.1).0 in
     let looks = subst LooksAreFree h.there free in
     let asked = subst (λ k. AreLooks k f.waits) h.asks looks in
-    let none : h.mark.place ≡ 0 = (subst (AllByRecursion (λ (p : Place). p.place ≡ 0)) h.waits asked).0 in
+    let none : h.mark.place ≡ 0 = (subst (AllByRecursion (λ (p : MarkAt). p.place ≡ 0)) h.waits asked).0 in
     let u = below_found w.units h.mark.unit lt in
     record {
       opened = h.opened;

@@ -26,7 +26,7 @@ use Rattle.unit_model.proofs.Weight.{weight_filter}
 use Rattle.unit_model.proofs.Fewer.{parked_fewer}
 use Rattle.unit_model.specs.Jobs.{PlainJob}
 use Rattle.unit_model.specs.Unit.{PlainUnit, tasks_of_jobs, IsUnit}
-use Rattle.task_mgmt.specs.declared.function.Mark.{Mark as Place}
+use Rattle.task_mgmt.specs.declared.function.Mark.{Mark as MarkAt}
 use Rattle.device_model.specs.Parts.{Slot, Hand}
 use Rattle.device_model.specs.World.{PlainQueue, Seat, Opened, PlainWorld, Everywhere, all_off}
 use Rattle.device_model.specs.Events.{Event}
@@ -223,7 +223,7 @@ AreIdle w = Everywhere (λ i u. (place : ℕ) → is_clear place u.steps ≡ tru
 -- The function
 
 -- the place of a mark is clear
-its_place : (w : PlainWorld) (m : Place) → AreIdle w → m.unit < length w.units
+its_place : (w : PlainWorld) (m : MarkAt) → AreIdle w → m.unit < length w.units
     → (u : PlainUnit) × (slice_get w.units m.unit ≡ Some u) × (is_clear m.place u.steps ≡ true)
 its_place w m idle lt =
     elim (slice_get_cases w.units m.unit).1 [
@@ -231,8 +231,8 @@ its_place w m idle lt =
       | inr q ↦ absurd (let le = q.0 in omega (arith, le, lt))
     ]
 
-stuck : (w : PlainWorld) (o : Opened) (left : List ℕ) (waits : List Place) → w.function ≡ Some o
-    → o.function.left ≡ left → o.function.waits ≡ waits → AllByRecursion (λ (m : Place). m.unit < length w.units) waits
+stuck : (w : PlainWorld) (o : Opened) (left : List ℕ) (waits : List MarkAt) → w.function ≡ Some o
+    → o.function.left ≡ left → o.function.waits ≡ waits → AllByRecursion (λ (m : MarkAt). m.unit < length w.units) waits
     → AreIdle w → Never w Event.Mark → Never w Event.Check → Never w Event.AnswerTmf → ⊥
 stuck w o (unit_index ∷ later) waits at a b there idle mark check answer =
     mark (record { opened = o; there = at; unit_index = unit_index; later = later; left = a })

@@ -14,7 +14,7 @@ use Rattle.task_mgmt.specs.declared.control.ControlDecision.TheVariants as manag
 use Rattle.task_mgmt.specs.declared.kind.Kind.{Kind}
 use Rattle.task_mgmt.specs.declared.kind.Kind.TheVariants.{Marking, Querying}
 use Rattle.task_mgmt.specs.declared.kind.MarkBy.{MarkBy}
-use Rattle.task_mgmt.specs.declared.function.Mark.{Mark as Place}
+use Rattle.task_mgmt.specs.declared.function.Mark.{Mark as MarkAt}
 use Rattle.device_model.specs.Parts.{PlainFetch, lengths_of}
 use Rattle.device_model.specs.World.{Opened, PlainWorld, Opens}
 use Rattle.device_model.specs.Transitions.{Transition}
@@ -37,7 +37,7 @@ use Rattle.device_model.proofs.Ordering.{fetch_one}
 use Rattle.device_model.proofs.Beginning.{opens_fresh}
 use Rattle.device_model.proofs.Gone.{gone_on}
 
-abbrev pub Listed : Place → List Place → Type 0
+abbrev pub Listed : MarkAt → List MarkAt → Type 0
 Listed p [] = ⊥
 Listed p (q ∷ qs) = (q ≡ p) ⊎ Listed p qs
 
@@ -57,7 +57,7 @@ pub record IsUnderWay (old : PlainWorld) (ds : List Transition) (x : Opened) : T
   pub among : (unit_index : ℕ) → Among unit_index x.function.left → Among unit_index begun.function.left
   pub visits : (unit_index : ℕ) → Among unit_index begun.function.left
       → Among unit_index x.function.left ⊎ (Happened (IsVisit x.chain.ticket unit_index) ds ⊎ Happened (IsFail x.chain.ticket) ds)
-  pub waits : (p : Place) → Happened (IsMark x.chain.ticket p) ds
+  pub waits : (p : MarkAt) → Happened (IsMark x.chain.ticket p) ds
       → Listed p x.function.waits ⊎ AreGone p.place (history_of p.unit ds)
   pub found : (x.function.found ≡ true) ↔ Happened (IsFound x.chain.ticket) ds
   pub failed : (x.function.refused ≡ true) ↔ Happened (IsFail x.chain.ticket) ds
@@ -74,7 +74,7 @@ WasFetched t ds = 1 ≤ sum_by (fetches (only t)) ds
 
 pub record FunctionsSay (old : PlainWorld) (ds : List Transition) (now : Option Opened) : Type 0 where
   pub function : FunctionSays old ds now
-  pub marks : (t : Ticket) (p : Place) → Happened (IsMark t p) ds
+  pub marks : (t : Ticket) (p : MarkAt) → Happened (IsMark t p) ds
       → WasFetched t ds × (p.place < length (history_of p.unit ds))
   pub finds : (t : Ticket) → Happened (IsFound t) ds → WasFetched t ds
   pub fails : (t : Ticket) → Happened (IsFail t) ds → WasFetched t ds
@@ -85,7 +85,7 @@ fetched_on : (t : Ticket) (d : Transition) (ds : List Transition) → WasFetched
 fetched_on t d ds h = let c = sum_by-cons (fetches (only t)) d ds in omega (arith, h, c)
 
 abbrev IsNoMark : Transition → Type 0
-IsNoMark d = (t : Ticket) (p : Place) → IsMark t p d → ⊥
+IsNoMark d = (t : Ticket) (p : MarkAt) → IsMark t p d → ⊥
 
 abbrev IsNoFind : Transition → Type 0
 IsNoFind d = (t : Ticket) → IsFound t d → ⊥
@@ -95,7 +95,7 @@ IsNoFail d = (t : Ticket) → IsFail t d → ⊥
 
 abbrev ArePlaced : List Transition → Type 0
 ArePlaced ds =
-    (t : Ticket) (p : Place) → Happened (IsMark t p) ds → WasFetched t ds × (p.place < length (history_of p.unit ds))
+    (t : Ticket) (p : MarkAt) → Happened (IsMark t p) ds → WasFetched t ds × (p.place < length (history_of p.unit ds))
 
 abbrev AreFetched : (Ticket → Transition → Type 0) → List Transition → Type 0
 AreFetched P ds = (t : Ticket) → Happened (P t) ds → WasFetched t ds
@@ -117,10 +117,10 @@ told_same : (P : Transition → Type 0) (d : Transition) (ds : List Transition) 
     → (b ≡ true) ↔ Happened P (d ∷ ds)
 told_same P d ds b other h = (λ e. inr (h.0 e), λ told. elim told [ inl q ↦ absurd (other q) | inr q ↦ h.1 q ])
 
-abbrev Waits : List Transition → List Place → Place → Type 0
+abbrev Waits : List Transition → List MarkAt → MarkAt → Type 0
 Waits ds waits p = Listed p waits ⊎ AreGone p.place (history_of p.unit ds)
 
-waits_on : (d : Transition) (ds : List Transition) (waits : List Place) (p : Place) → p.place < length (history_of p.unit ds)
+waits_on : (d : Transition) (ds : List Transition) (waits : List MarkAt) (p : MarkAt) → p.place < length (history_of p.unit ds)
     → Waits ds waits p → Waits (d ∷ ds) waits p
 waits_on d ds waits p lt (inl h) = inl h
 waits_on d ds waits p lt (inr h) = inr (gone_on p.place (step_of p.unit d) (history_of p.unit ds) lt h)
@@ -285,7 +285,7 @@ never_both : (kind : Kind) → IsAsking kind → IsMarking kind → ⊥
 never_both (Marking m) a b = a
 never_both (Querying rule) a b = b
 
-listed_push : (p q : Place) (ps : List Place) → Listed p ps → Listed p (ps ++ q ∷ [])
+listed_push : (p q : MarkAt) (ps : List MarkAt) → Listed p ps → Listed p (ps ++ q ∷ [])
 listed_push p q [] h = absurd h
 listed_push p q (x ∷ ps) (inl e) = inl e
 listed_push p q (x ∷ ps) (inr h) = inr (listed_push p q ps h)
@@ -333,11 +333,11 @@ functions_ask old t unit_index rule b ds w m s =
       fails = told_fetched_on IsFail d ds (λ v q. q) s.fails;
     }
 
-listed_last : (p q : Place) (ps : List Place) → q ≡ p → Listed p (ps ++ q ∷ [])
+listed_last : (p q : MarkAt) (ps : List MarkAt) → q ≡ p → Listed p (ps ++ q ∷ [])
 listed_last p q [] e = inl e
 listed_last p q (x ∷ ps) e = inr (listed_last p q ps e)
 
-functions_mark : (old : PlainWorld) (t : Ticket) (p : Place) (how : MarkBy) (jobs : List PlainJob) (ds : List Transition)
+functions_mark : (old : PlainWorld) (t : Ticket) (p : MarkAt) (how : MarkBy) (jobs : List PlainJob) (ds : List Transition)
     (w : PlainWorld) → Says old ds w → Marks w t p how jobs → FunctionsSay old ds w.function
     → FunctionsSay old (Transition.Mark t p how jobs ∷ ds) (on_function (marking p) w.function)
 functions_mark old t p how jobs ds w says m s =
@@ -379,7 +379,7 @@ functions_mark old t p how jobs ds w says m s =
       marks = λ v q told. elim told [
         | inl e ↦ (
           fetched_on v d ds (subst (λ z. WasFetched z ds) e.0 there),
-          subst (λ (y : Place). y.place < length (history_of y.unit (d ∷ ds))) e.1 (omega (arith, here, own)),
+          subst (λ (y : MarkAt). y.place < length (history_of y.unit (d ∷ ds))) e.1 (omega (arith, here, own)),
         )
         | inr k ↦
             let was_so = s.marks v q k in
@@ -427,7 +427,7 @@ functions_fail old t ds w m s =
       ];
     }
 
-functions_check : (old : PlainWorld) (t : Ticket) (p : Place) (ds : List Transition) (w : PlainWorld) → Says old ds w
+functions_check : (old : PlainWorld) (t : Ticket) (p : MarkAt) (ds : List Transition) (w : PlainWorld) → Says old ds w
     → Checks w t p → FunctionsSay old ds w.function
     → FunctionsSay old (Transition.Check t p ∷ ds) (on_function checking w.function)
 functions_check old t p ds w says m s =
@@ -451,7 +451,7 @@ functions_check old t p ds w says m s =
         | inl e ↦ absurd e
         | inr k ↦ elim (was.waits q k) [
           | inl i ↦ elim (subst (Listed q) g.still i) [
-            | inl e ↦ inr (subst (λ (y : Place). AreGone y.place (history_of y.unit ds)) e clear)
+            | inl e ↦ inr (subst (λ (y : MarkAt). AreGone y.place (history_of y.unit ds)) e clear)
             | inr later ↦ inl (subst (λ z. Listed q (drop 1 z)) (sym g.still) later)
           ]
           | inr gone ↦ inr gone

@@ -13,7 +13,7 @@ use Rattle.unit_model.specs.Clearing.{met_by, met_at, is_clear}
 use Rattle.unit_model.specs.Jobs.{PlainJob}
 use Rattle.unit_model.specs.Unit.{PlainUnit, after as stepped, parking, dealing}
 use Rattle.task_mgmt.specs.Functions.{PlainFunction, marking, next_look, asking, failing, checking}
-use Rattle.task_mgmt.specs.declared.function.Mark.{Mark as Place}
+use Rattle.task_mgmt.specs.declared.function.Mark.{Mark as MarkAt}
 use Rattle.device_model.specs.Parts.{Outcome, Slot, Hand, lengths_of}
 use Rattle.device_model.specs.World.{PlainQueue, Seat, Opened, PlainWorld, change, owner}
 use Rattle.device_model.specs.Events.{Event}
@@ -773,7 +773,7 @@ respond_same : (v w : PlainWorld) → v.function ≡ w.function → MayRespond v
 respond_same v w is h =
     record { opened = h.opened; there = sym is ∙ h.there; left = h.left; still = h.still }
 
-some_last : (xs : List Place) (x : Place) → xs ++ x ∷ [] ≡ [] → ⊥
+some_last : (xs : List MarkAt) (x : MarkAt) → xs ++ x ∷ [] ≡ [] → ⊥
 some_last [] x e = cc
 some_last (y ∷ xs) x e = cc
 
@@ -932,7 +932,7 @@ check_kept v w g k is units kept h =
           }
     ]
 
-none_waits : (xs : List Place) (x : Place) (later : List Place) → xs ≡ [] → xs ≡ x ∷ later → ⊥
+none_waits : (xs : List MarkAt) (x : MarkAt) (later : List MarkAt) → xs ≡ [] → xs ≡ x ∷ later → ⊥
 none_waits xs x later a b = cc
 
 check_wakes : (d : Transition) (w : PlainWorld) → Happens d w → Applies (after d w) Event.Check → Either w d Event.Check

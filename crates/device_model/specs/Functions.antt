@@ -18,7 +18,7 @@ use Rattle.task_mgmt.specs.declared.control.ControlDecision.TheVariants as manag
 use Rattle.task_mgmt.specs.declared.kind.Kind.{Kind}
 use Rattle.task_mgmt.specs.declared.kind.Kind.TheVariants.{Marking, Querying}
 use Rattle.task_mgmt.specs.declared.kind.MarkBy.{MarkBy}
-use Rattle.task_mgmt.specs.declared.function.Mark.{Mark as Place}
+use Rattle.task_mgmt.specs.declared.function.Mark.{Mark as MarkAt}
 use Rattle.device_model.specs.Parts.{Completion, PlainFetch, answer_writes}
 use Rattle.device_model.specs.World.{PlainQueue, PlainWorld}
 use Rattle.device_model.specs.Transitions.{Transition}
@@ -48,13 +48,13 @@ pub record IsFor (inventory : PlainInventory) (ds : List Transition) (t : Ticket
 
 -- the mark of a function stands at its place, of one of its units, and whichever transitions come, the step there met the
 -- tasks that were alive then and that the mark meets
-pub record IsMarkedSo (old : PlainWorld) (ds past : List Transition) (t : Ticket) (p : Place) (m : MarkBy) : Type 0 where
+pub record IsMarkedSo (old : PlainWorld) (ds past : List Transition) (t : Ticket) (p : MarkAt) (m : MarkBy) : Type 0 where
   pub before : p.place ≡ length (history_of p.unit past)
   pub meets : met_at p.place (history_of p.unit ds) ≡ met_by (step_by m) (history_of p.unit past)
   pub visit : IsFor old.inventory past t (Marking m) p.unit
 
 -- all tasks that a mark met have left, and were answered
-abbrev pub IsClear : Place → List Transition → Type 0
+abbrev pub IsClear : MarkAt → List Transition → Type 0
 IsClear p ds =
     AllByRecursion (λ (e : Entry). (has_left e.ticket (history_of p.unit ds) ≡ true) × Happened (IsAnswer e.ticket) ds)
     (met_at p.place (history_of p.unit ds))
@@ -70,7 +70,7 @@ pub record IsOver (old : PlainWorld) (past : List Transition) (c : PlainChain) (
   pub chain : begun.fetch.chain ≡ c
   pub visited : (unit_index : ℕ) → Among unit_index begun.function.left
       → Happened (IsVisit c.ticket unit_index) past ⊎ Happened (IsFail c.ticket) past
-  pub clear : (p : Place) → Happened (IsMark c.ticket p) past → IsClear p past
+  pub clear : (p : MarkAt) → Happened (IsMark c.ticket p) past → IsClear p past
   pub response : IsResponse r
   pub succeeds : (r ≡ Succeeded) ↔ Happened (IsFound c.ticket) past
   pub fails : (r ≡ Failure) ↔ Happened (IsFail c.ticket) past
@@ -81,7 +81,7 @@ pub record IsOver (old : PlainWorld) (past : List Transition) (c : PlainChain) (
 -- a look says whether a task is alive that its rule meets; marks and looks are of the kind and on the units that were
 -- decided of the function's Fetch; a function is answered once it is over
 pub record AreOver (old : PlainWorld) (ds : List Transition) : Type 0 where
-  pub marks : (t : Ticket) (p : Place) (m : MarkBy) (jobs : List PlainJob) (past : List Transition)
+  pub marks : (t : Ticket) (p : MarkAt) (m : MarkBy) (jobs : List PlainJob) (past : List Transition)
       → IsBeginning (Transition.Mark t p m jobs ∷ past) ds
       → IsMarkedSo old ds past t p m
   pub looks : (t : Ticket) (unit_index : ℕ) (rule : Rule) (b : Bool) (past : List Transition)

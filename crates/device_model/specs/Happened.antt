@@ -2,7 +2,7 @@
 use Rattle.std.specs.Prelude.{ℕ, ◌≡◌, ◌⊎◌, ⊤, true, List, [], ◌∷◌}
 use Rattle.ring_core.specs.declared.log.Ticket.{Ticket}
 use Rattle.unit_model.specs.Jobs.{PlainJob}
-use Rattle.task_mgmt.specs.declared.function.Mark.{Mark as Place}
+use Rattle.task_mgmt.specs.declared.function.Mark.{Mark as MarkAt}
 use Rattle.device_model.specs.Parts.{PlainFetch}
 use Rattle.device_model.specs.Transitions.{Transition}
 
@@ -41,7 +41,7 @@ IsAnswer t d = ⊥
 -- Of the function of a ticket
 
 -- it marks a unit, at a place of its history
-abbrev pub IsMark : Ticket → Place → Transition → Type 0
+abbrev pub IsMark : Ticket → MarkAt → Transition → Type 0
 IsMark t p (Transition.Mark u q m jobs) = (u ≡ t) × (q ≡ p)
 IsMark t p d = ⊥
 

@@ -23,7 +23,7 @@ use Rattle.task_mgmt.specs.Functions.{step_by, response_of}
 use Rattle.task_mgmt.specs.declared.control.ControlDecision.TheVariants as managed
 use Rattle.task_mgmt.specs.declared.kind.Kind.{Kind}
 use Rattle.task_mgmt.specs.declared.kind.Kind.TheVariants.{Marking, Querying}
-use Rattle.task_mgmt.specs.declared.function.Mark.{Mark as Place}
+use Rattle.task_mgmt.specs.declared.function.Mark.{Mark as MarkAt}
 use Rattle.device_model.specs.Parts.{PlainFetch, Outcome, IsSeen, Slot, Hand, lengths_of, request_of, bytes_of, answer_writes, is_short}
 use Rattle.device_model.specs.World.{PlainQueue, Opened, PlainWorld, owner}
 use Rattle.device_model.specs.Transitions.{Transition, action_of}
@@ -218,7 +218,7 @@ StandsFor (Transition.Leave k unit_index t jobs) w = HasHand w k (Hand.Answered 
 StandsFor (Transition.Mark t p m jobs) w = VisitsNext w t p.unit (Marking m) × HasSeat w 0
 StandsFor (Transition.Ask t unit_index rule b) w = VisitsNext w t unit_index (Querying rule)
 StandsFor (Transition.MarkRefused t) w = MarksRefused w t
-StandsFor (Transition.Check t p) w = (later : List Place) × IsWaiting w t (p ∷ later)
+StandsFor (Transition.Check t p) w = (later : List MarkAt) × IsWaiting w t (p ∷ later)
 StandsFor (Transition.Respond c r xs) w = (g : IsDone w c) × (r ≡ response_of g.waiting.opened.function)
 StandsFor (Transition.Hard p jobs) w = HasSeat w w.workers
 StandsFor (Transition.Resize unit_index blocks) w = ⊤

@@ -13,7 +13,7 @@ use Rattle.unit_model.specs.Unit.{PlainUnit, is_backed}
 use Rattle.unit_model.specs.Asking.{IsNamed}
 use Rattle.unit_model.specs.declared.rule.Rule.{Rule}
 use Rattle.task_mgmt.specs.declared.kind.Kind.TheVariants.{Querying}
-use Rattle.task_mgmt.specs.declared.function.Mark.{Mark as Place}
+use Rattle.task_mgmt.specs.declared.function.Mark.{Mark as MarkAt}
 use Rattle.device_model.specs.Parts.{Slot, Hand}
 use Rattle.device_model.specs.World.{PlainQueue, Opened, PlainWorld, Everywhere, all_off}
 use Rattle.device_model.specs.Found.{QueueIs, UnitIs}
@@ -158,7 +158,7 @@ abbrev pub FunctionIsThere : ℕ → Option Opened → Type 0
 FunctionIsThere units None = ⊤
 FunctionIsThere units (Some o) =
     AllByRecursion (λ unit_index. unit_index < units) o.function.left
-    × AllByRecursion (λ (p : Place). p.unit < units) o.function.waits
+    × AllByRecursion (λ (p : MarkAt). p.unit < units) o.function.waits
 
 -- the open function is a query that has looked at all its units, and has not checked all of them
 pub record IsToCheck (w : PlainWorld) : Type 0 where
@@ -167,6 +167,6 @@ pub record IsToCheck (w : PlainWorld) : Type 0 where
   pub rule : Rule
   pub asks : opened.function.kind ≡ Querying rule
   pub left : opened.function.left ≡ []
-  pub mark : Place
-  pub later : List Place
+  pub mark : MarkAt
+  pub later : List MarkAt
   pub waits : opened.function.waits ≡ mark ∷ later

@@ -13,7 +13,7 @@ use Rattle.unit_model.specs.declared.reason.Reason.{Reason}
 use Rattle.unit_model.specs.Jobs.{PlainJob}
 use Rattle.task_mgmt.specs.Functions.{PlainFunction}
 use Rattle.task_mgmt.specs.declared.kind.MarkBy.{MarkBy}
-use Rattle.task_mgmt.specs.declared.function.Mark.{Mark as Place}
+use Rattle.task_mgmt.specs.declared.function.Mark.{Mark as MarkAt}
 use Rattle.device_model.specs.Parts.{PlainFetch, Outcome, Completion}
 use Rattle.device_model.specs.Events.{Event}
 
@@ -55,13 +55,13 @@ pub data Transition : Type 0 where
   Leave : ℕ → ℕ → Ticket → List PlainJob → Transition
   -- Mark, by the function's ticket: the place of its step, what marks, and the jobs that are handed out; or a look at a
   -- unit, and whether a task was found; or no memory
-  Mark : Ticket → Place → MarkBy → List PlainJob → Transition
+  Mark : Ticket → MarkAt → MarkBy → List PlainJob → Transition
   Ask : Ticket → ℕ → Rule → Bool → Transition
   MarkRefused : Ticket → Transition
-  Check : Ticket → Place → Transition
+  Check : Ticket → MarkAt → Transition
   -- AnswerTmf
   Respond : PlainChain → FunctionResponse → Completion → Transition
-  Hard : Place → List PlainJob → Transition
+  Hard : MarkAt → List PlainJob → Transition
   -- the unit, and its blocks from now on
   Resize : ℕ → ℕ → Transition
   -- the unit, and what the host takes of its disk or says that it wrote

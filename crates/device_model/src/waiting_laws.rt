@@ -9,7 +9,7 @@ ghost use Rattle.unit_model.specs.Marks.{mark_of};
 ghost use Rattle.unit_model.specs.Jobs.{PlainJob};
 ghost use Rattle.unit_model.specs.Unit.{PlainUnit};
 ghost use Rattle.task_mgmt.specs.declared.kind.MarkBy.{MarkBy};
-ghost use Rattle.task_mgmt.specs.declared.function.Mark.{Mark as Place};
+ghost use Rattle.task_mgmt.specs.declared.function.Mark.{Mark as MarkAt};
 ghost use Rattle.device_model.specs.Parts.{Hand};
 ghost use Rattle.device_model.specs.World.{PlainWorld};
 ghost use Rattle.device_model.specs.Events.{Event};
@@ -60,9 +60,9 @@ pub fn each_wake_tries_again_once()
 /// A task that is marked ends without its pages. Its job is woken by what marks it, and when a seat has it in hand, all that a
 /// Commit may do is to end it as aborted.
 pub fn what_is_marked_waits_no_more()
-    ensures mark { (w : PlainWorld) (t : Ticket) (p : Place) (m : MarkBy) (jobs : List PlainJob) →
+    ensures mark { (w : PlainWorld) (t : Ticket) (p : MarkAt) (m : MarkBy) (jobs : List PlainJob) →
         rouses w (Transition.Mark t p m jobs) ≡ w.aside }
-    ensures reset { (w : PlainWorld) (p : Place) (jobs : List PlainJob) → rouses w (Transition.Hard p jobs) ≡ w.aside }
+    ensures reset { (w : PlainWorld) (p : MarkAt) (jobs : List PlainJob) → rouses w (Transition.Hard p jobs) ≡ w.aside }
     ensures ends { (w : PlainWorld) (k : ℕ) (x : PlainJob) (u : PlainUnit) (why : Reason) (d : Transition) →
         HasHand w k (Hand.Taken x) → UnitIs w x.unit u → mark_of x.entry.ticket u.steps ≡ Some why → Happens d w →
         event_of d ≡ Event.Commit k → d ≡ Transition.CommitAborted k x why }

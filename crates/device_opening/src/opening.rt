@@ -135,7 +135,7 @@ pub fn open_parts<M: Memory, B: Drop, F: Fn(Queue) -> B>(
 pub fn open_port(alloc: Global) -> Result<EventPort, NoMemory>
     ensures { IfOk result (λ port. port ≡ opening_port 1025) }
 {
-    // One place more than a queue may have chains outstanding, so that a full port keeps no fault from being found.
+    // Room for one more than a queue may have chains outstanding, so that a full port keeps no fault from being found.
     match EventPort::new(alloc, MOST_DESCRIPTORS as usize + 1) {
         Ok(port) => Ok(port),
         Err(_) => Err(NoMemory),

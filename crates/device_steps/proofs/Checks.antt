@@ -4,7 +4,7 @@ use Rattle.std.specs.Prelude.{slice_get}
 use Rattle.unit_model.specs.Clearing.{is_clear}
 use Rattle.unit_model.specs.Unit.{PlainUnit}
 use Rattle.task_mgmt.specs.Functions.{checking}
-use Rattle.task_mgmt.specs.declared.function.Mark.{Mark as Place}
+use Rattle.task_mgmt.specs.declared.function.Mark.{Mark as MarkAt}
 use Rattle.device_model.specs.World.{Opened, PlainWorld, AreAddressed}
 use Rattle.device_model.specs.Events.{Event}
 use Rattle.device_model.specs.Transitions.{Transition}
@@ -37,20 +37,20 @@ not_both : {b : Bool} → b ≡ false → b ≡ true → ⊥
 not_both e h = cc
 
 -- a mark that isn't clear keeps its function from going on
-not_clear : (w : PlainWorld) (f : Opened) (p : Place) (later : List Place) (u : PlainUnit) → w.function ≡ Some f
+not_clear : (w : PlainWorld) (f : Opened) (p : MarkAt) (later : List MarkAt) (u : PlainUnit) → w.function ≡ Some f
     → f.function.waits ≡ p ∷ later → slice_get w.units p.unit ≡ Some u → is_clear p.place u.steps ≡ false
     → MayCheck w → ⊥
 not_clear w f p later u there waits at unclear h =
     let opened : f ≡ h.opened = same (sym there ∙ h.there) in
     let mark : p ≡ h.mark =
     same_first (sym waits ∙ ap (λ (o : Opened). o.function.waits) opened ∙ h.still) in
-    let unit : u ≡ h.unit = same (sym at ∙ ap (λ (m : Place). slice_get w.units m.unit) mark ∙ h.unit_there) in
+    let unit : u ≡ h.unit = same (sym at ∙ ap (λ (m : MarkAt). slice_get w.units m.unit) mark ∙ h.unit_there) in
     not_both unclear
-    (ap (λ (m : Place). is_clear m.place u.steps) mark
+    (ap (λ (m : MarkAt). is_clear m.place u.steps) mark
     ∙ ap (λ (v : PlainUnit). is_clear h.mark.place v.steps) unit ∙ h.clear)
 
 -- a mark that is clear
-mark_turns : (w : PlainWorld) (f f' : Opened) (p : Place) (later : List Place) (u : PlainUnit) → AreAddressed w
+mark_turns : (w : PlainWorld) (f f' : Opened) (p : MarkAt) (later : List MarkAt) (u : PlainUnit) → AreAddressed w
     → w.function ≡ Some f → f.function.left ≡ [] → f.function.waits ≡ p ∷ later → slice_get w.units p.unit ≡ Some u
     → ChecksMark w.inventory f p u f' → Turns w Event.Check true (with_function (Some f') w)
 mark_turns w f f' p later u addressed there left waits here (inr h) = absurd (h.0 (addressed p.unit u here))
@@ -65,15 +65,15 @@ mark_turns w f f' p later u addressed there left waits here (inl h) =
     )
 
 -- by what is left to visit, and what is waited for
-first_turns : (w : PlainWorld) (f f' : Opened) (left : List ℕ) (waits : List Place) (mark : Place) (u : PlainUnit)
+first_turns : (w : PlainWorld) (f f' : Opened) (left : List ℕ) (waits : List MarkAt) (mark : MarkAt) (u : PlainUnit)
     (r : Bool) → AreAddressed w → w.function ≡ Some f → f.function.left ≡ left → f.function.waits ≡ waits
     → slice_get waits 0 ≡ Some mark → slice_get w.units mark.unit ≡ Some u → ChecksFirst w.inventory f left waits u r f'
     → Turns w Event.Check r (with_function (Some f') w)
 first_turns w f f' [] (p ∷ later) mark u true addressed there left waits first at h =
-    let here = ap (λ (m : Place). slice_get w.units m.unit) (same first) ∙ at in
+    let here = ap (λ (m : MarkAt). slice_get w.units m.unit) (same first) ∙ at in
     mark_turns w f f' p later u addressed there left waits here h
 first_turns w f f' [] (p ∷ later) mark u false addressed there left waits first at h =
-    let here = ap (λ (m : Place). slice_get w.units m.unit) (same first) ∙ at in (
+    let here = ap (λ (m : MarkAt). slice_get w.units m.unit) (same first) ∙ at in (
       ap (λ o. with_function o w) (ap (λ o. Some o) h.2 ∙ sym there),
       not_clear w f p later u there waits here h.1,
     )
@@ -93,7 +93,7 @@ first_turns w f f' (unit_index ∷ more) waits mark u false addressed there left
 )
 
 -- what a check does is a turn of its event
-pub check_turns : (w : PlainWorld) (f f' : Opened) (mark : Place) (u : PlainUnit) (r : Bool) → AreAddressed w
+pub check_turns : (w : PlainWorld) (f f' : Opened) (mark : MarkAt) (u : PlainUnit) (r : Bool) → AreAddressed w
     → w.function ≡ Some f → slice_get f.function.waits 0 ≡ Some mark → slice_get w.units mark.unit ≡ Some u
     → Checks w.inventory f u r f' → Turns w Event.Check r (with_function (Some f') w)
 check_turns w f f' mark u r addressed there first at h =

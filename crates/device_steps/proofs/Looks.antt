@@ -7,7 +7,7 @@ use Rattle.scsi_codec.specs.declared.event_queue.Event.{Event as EventRecord}
 use Rattle.unit_model.specs.Clearing.{is_clear}
 use Rattle.unit_model.specs.Jobs.{PlainJob}
 use Rattle.unit_model.specs.Unit.{PlainUnit}
-use Rattle.task_mgmt.specs.declared.function.Mark.{Mark as Place}
+use Rattle.task_mgmt.specs.declared.function.Mark.{Mark as MarkAt}
 use Rattle.virtqueue.specs.Looking.{IsIdle}
 use Rattle.phases.specs.Slots.{arrived_unit, is_direct}
 use Rattle.device_model.specs.Parts.{Slot, Hand}
@@ -99,7 +99,7 @@ one_open : (w : PlainWorld) (o p : Opened) → w.function ≡ Some o → w.funct
 one_open w o p a b = same (sym a ∙ b)
 
 -- none is left, and a mark is waited for: its check alone may apply
-only_check : (w : PlainWorld) (o : Opened) (mark : Place) → w.function ≡ Some o → slice_get o.function.left 0 ≡ None
+only_check : (w : PlainWorld) (o : Opened) (mark : MarkAt) → w.function ≡ Some o → slice_get o.function.left 0 ≡ None
     → slice_get o.function.waits 0 ≡ Some mark → (MayCheck w → ⊥) → NoneApplies w of_function
 only_check w o mark there left waits never =
     let l = none_there o.function.left left in
@@ -117,24 +117,24 @@ only_check w o mark there left waits never =
     )
 
 -- its unit is the one that is waited for
-waited : (w : PlainWorld) (o : Opened) (mark : Place) → w.function ≡ Some o → slice_get o.function.waits 0 ≡ Some mark
+waited : (w : PlainWorld) (o : Opened) (mark : MarkAt) → w.function ≡ Some o → slice_get o.function.waits 0 ≡ Some mark
     → (c : MayCheck w) → c.mark ≡ mark
 waited w o mark there waits c =
     let m = first_there o.function.waits mark waits in
     same_first (sym c.still ∙ ap (λ (z : Opened). z.function.waits) (one_open w c.opened o c.there there) ∙ m.1)
 
 -- that unit isn't there
-pub unit_absent : (w : PlainWorld) (o : Opened) (mark : Place) → w.function ≡ Some o → slice_get o.function.left 0 ≡ None
+pub unit_absent : (w : PlainWorld) (o : Opened) (mark : MarkAt) → w.function ≡ Some o → slice_get o.function.left 0 ≡ None
     → slice_get o.function.waits 0 ≡ Some mark → length w.units ≤ mark.unit → NoneApplies w of_function
 unit_absent w o mark there left waits far =
     only_check w o mark there left waits
     (λ c.
     let at : slice_get w.units mark.unit ≡ Some c.unit =
-    ap (λ (m : Place). slice_get w.units m.unit) (sym (waited w o mark there waits c)) ∙ c.unit_there in
+    ap (λ (m : MarkAt). slice_get w.units m.unit) (sym (waited w o mark there waits c)) ∙ c.unit_there in
     omega (arith, far, slice_get_within w.units mark.unit c.unit at))
 
 -- or it is, and the mark is clear or not
-pub checks : (w : PlainWorld) (o : Opened) (mark : Place) (u : PlainUnit) (b : Bool) → w.function ≡ Some o
+pub checks : (w : PlainWorld) (o : Opened) (mark : MarkAt) (u : PlainUnit) (b : Bool) → w.function ≡ Some o
     → slice_get o.function.left 0 ≡ None → slice_get o.function.waits 0 ≡ Some mark
     → slice_get w.units mark.unit ≡ Some u → b ≡ is_clear mark.place u.steps → Denies (NoneApplies w of_function) b
 checks w o mark u true there left waits at is =
@@ -155,9 +155,9 @@ checks w o mark u false there left waits at is =
     (λ c.
     let it = waited w o mark there waits c in
     let unit : c.unit ≡ u =
-    same (sym c.unit_there ∙ ap (λ (m : Place). slice_get w.units m.unit) it ∙ at) in
+    same (sym c.unit_there ∙ ap (λ (m : MarkAt). slice_get w.units m.unit) it ∙ at) in
     let clear : is_clear mark.place u.steps ≡ true =
-    ap (λ (m : Place). is_clear m.place u.steps) (sym it) ∙ ap (λ (v : PlainUnit). is_clear c.mark.place v.steps) (sym unit)
+    ap (λ (m : MarkAt). is_clear m.place u.steps) (sym it) ∙ ap (λ (v : PlainUnit). is_clear c.mark.place v.steps) (sym unit)
     ∙ c.clear in
     false_true (is ∙ clear))
 

@@ -10,7 +10,7 @@ use Rattle.ring_core.specs.declared.log.Ticket.{Ticket}
 use Rattle.request_intake.specs.declared.decision.Decision.TheVariants as decision
 use Rattle.task_mgmt.specs.declared.control.ControlDecision.TheVariants as managed
 use Rattle.task_mgmt.specs.declared.kind.Kind.{Kind}
-use Rattle.task_mgmt.specs.declared.function.Mark.{Mark as Place}
+use Rattle.task_mgmt.specs.declared.function.Mark.{Mark as MarkAt}
 use Rattle.unit_model.specs.Jobs.{PlainJob}
 use Rattle.device_model.specs.Parts.{PlainFetch, Completion, IsSeen, Hand, answer_writes, is_short, request_of}
 use Rattle.device_model.specs.World.{PlainQueue, PlainWorld, owner}
@@ -116,7 +116,7 @@ marking_at w v t unit_index kind e u h =
       unit_there = sym u ∙ h.unit_there;
     }
 
-waiting_at : (w v : PlainWorld) (t : Ticket) (marks : List Place) → w.function ≡ v.function → IsWaiting w t marks
+waiting_at : (w v : PlainWorld) (t : Ticket) (marks : List MarkAt) → w.function ≡ v.function → IsWaiting w t marks
     → IsWaiting v t marks
 waiting_at w v t marks e h =
     record { opened = h.opened; there = sym e ∙ h.there; of = h.of; left = h.left; still = h.still }

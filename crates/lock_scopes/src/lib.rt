@@ -1,6 +1,6 @@
 //! Lends the phases what they work on, where threads share a device: a unit, or a queue with the memory, each under a
-//! lock. Beside this stands a function for each phase, and for a few that follow one another, which runs it in one hold
-//! of what it works on.
+//! lock. Beside this stand functions that run a phase, or a few that follow one another, in one hold of what they
+//! work on.
 //!
 //! # Proved
 //!

@@ -99,9 +99,9 @@ impl Changes {
         self.ranges.as_slice()
     }
 
-    /// Makes place for so many ranges, at most 64. Where there is none, all that was noted before this place of the
+    /// Makes room for so many ranges, at most 64. Where there is none, all that was noted before this place of the
     /// history is forgotten.
-    fn make_place(&mut self, count: usize, place: u64)
+    fn make_room(&mut self, count: usize, place: u64)
         requires { count ≤ 64 }
         ensures notes { (capacity : ℕ) → Notes (λ b. false) capacity place self.old self.new }
         ensures free { length self.new.ranges + count ≤ 64 }
@@ -113,7 +113,7 @@ impl Changes {
         }
     }
 
-    /// Notes a range, for which there is place: joined with the last where they meet.
+    /// Notes a range, for which there is room: joined with the last where they meet.
     fn add(&mut self, range: Range)
         requires { length self.old.ranges < 64 }
         ensures since { self.new.since ≡ self.old.since }
@@ -134,7 +134,7 @@ impl Changes {
         }
     }
 
-    /// Notes those of a range's blocks that lie below the capacity, for which there is place.
+    /// Notes those of a range's blocks that lie below the capacity, for which there is room.
     fn add_below(&mut self, first: u64, count: u64, capacity: u64)
         requires { length self.old.ranges < 64 }
         ensures since { self.new.since ≡ self.old.since }
@@ -155,7 +155,7 @@ impl Changes {
         ensures notes { Notes (is_within first count) capacity place self.old self.new }
         ensures same { length self.old.ranges < 64 → self.new.since ≡ self.old.since }
     {
-        self.make_place(1, place);
+        self.make_room(1, place);
         self.add_below(first, count, capacity);
     }
 
@@ -182,11 +182,11 @@ impl Changes {
             self.note(0, capacity, capacity, place);
             return;
         }
-        self.make_place(count, place);
+        self.make_room(count, place);
         self.add_extents(taken, count, capacity);
     }
 
-    /// Notes the blocks below the capacity of each descriptor, for which there is place.
+    /// Notes the blocks below the capacity of each descriptor, for which there is room.
     fn add_extents(&mut self, taken: &[u8], count: usize, capacity: u64)
         requires fits { 16 * count ≤ length taken.now }
         requires place { length self.old.ranges + count ≤ 64 }

@@ -36,8 +36,8 @@ fn lost_page(
     ensures reply { IfSome result (λ found. plain_of found.1
         ≡ unread (facts_of facts.now (⟦<Disk as Store>⟧.size store.now)) command.now found.0) }
 {
-    for place in 0..MOST_LOST {
-        let page = store.lost_page(place)?;
+    for index in 0..MOST_LOST {
+        let page = store.lost_page(index)?;
         if let Some(reply) = unread(alloc, facts, store.capacity(), command, bytes, page) {
             return Some((page, reply));
         }

@@ -275,7 +275,7 @@ impl UnitState {
     }
 
     /// Marks each task that the rule meets and that neither ran nor was answered BUSY, and hands out those of them
-    /// that were parked, which then end as aborted. Answers the place of the Abort. The list has 64 places free, which
+    /// that were parked, which then end as aborted. Answers the place of the Abort. The list has room for 64 jobs, which
     /// the caller sees to. `NoMemory` where room for the step was refused, or 2^63 steps stand: all is as before then.
     pub fn abort(&mut self, rule: Rule, out: &mut JobList) -> Result<Place, NoMemory>
         requires { length out.old.jobs + 64 ≤ out.old.limit }
@@ -292,7 +292,7 @@ impl UnitState {
     }
 
     /// Resets the unit: marks all tasks as `abort` does, with the reason of a reset, and raises the code, which is one
-    /// of the constants of [`Code`]. Answers the place of the Reset. The list has 64 places free, which the caller sees
+    /// of the constants of [`Code`]. Answers the place of the Reset. The list has room for 64 jobs, which the caller sees
     /// to. `NoMemory` as of `abort`.
     pub fn reset(&mut self, code: Code, out: &mut JobList) -> Result<Place, NoMemory>
         requires known { IsKnown code }
@@ -336,7 +336,7 @@ impl UnitState {
     }
 
     /// Has the task of a completed chain leave, and hands out what it alone blocked. It takes no memory. The list has
-    /// 64 places free, which the caller sees to. `Unknown`, with nothing changed, where no task of the ticket is alive,
+    /// room for 64 jobs, which the caller sees to. `Unknown`, with nothing changed, where no task of the ticket is alive,
     /// or it neither ran, nor was answered BUSY, nor was marked.
     // Apart, so that the registers of its caller aren't spilled for it.
     #[inline(never)]

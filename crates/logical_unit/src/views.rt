@@ -88,7 +88,7 @@ impl UnitState {
         self.tasks.len()
     }
 
-    /// Returns the ticket of a task that is alive, by its place in the order of entry; `None` where fewer are alive.
+    /// Returns the ticket of a task that is alive, by its index in the order of entry; `None` where fewer are alive.
     pub fn alive_ticket(&self, index: usize) -> Option<Ticket>
         ensures { result ≡ option_map (λ e. e.ticket) (slice_get (alive self.now.steps) index) }
     {

@@ -14,7 +14,7 @@ use Rattle.task_mgmt.specs.Functions.{marking, asking, failing, checking, step_b
 use Rattle.task_mgmt.specs.declared.kind.Kind.{Kind}
 use Rattle.task_mgmt.specs.declared.kind.Kind.TheVariants.{Marking, Querying}
 use Rattle.task_mgmt.specs.declared.kind.MarkBy.{MarkBy}
-use Rattle.task_mgmt.specs.declared.function.Mark.{Mark as Place}
+use Rattle.task_mgmt.specs.declared.function.Mark.{Mark as MarkAt}
 use Rattle.device_model.specs.Parts.{Outcome, Slot, Hand}
 use Rattle.device_model.specs.World.{Opened}
 use Rattle.device_model.specs.Addressed.{IsAddressed}
@@ -114,7 +114,7 @@ pub record StaysMark (u u' : PlainUnit) (f f' : Opened) (out out' : Jobs) : Type
   pub jobs : out' ≡ out
 
 -- a mark of a unit stands behind all its steps
-abbrev pub mark_at : ℕ → PlainUnit → Place
+abbrev pub mark_at : ℕ → PlainUnit → MarkAt
 mark_at unit_index u = record { unit = unit_index; place = length u.steps }
 
 -- the function fails, and nothing else changed
@@ -156,13 +156,13 @@ Marks inventory f u out result u' f' out' = MarksNext inventory f f.function.lef
 -- Check
 
 -- the first mark is clear at its unit; or the unit is another: the function fails, and waits for this mark no more
-abbrev pub ChecksMark : PlainInventory → Opened → Place → PlainUnit → Opened → Type 0
+abbrev pub ChecksMark : PlainInventory → Opened → MarkAt → PlainUnit → Opened → Type 0
 ChecksMark inventory f p u f' =
     (IsAddressed inventory p.unit u × DoesUnit (Transition.Check f.chain.ticket p) u u
     × (f' ≡ record f { function = checking f.function }))
     ⊎ ((IsAddressed inventory p.unit u → ⊥) × (f' ≡ record f { function = checking (failing f.function) }))
 
-abbrev pub ChecksFirst : PlainInventory → Opened → List ℕ → List Place → PlainUnit → Bool → Opened → Type 0
+abbrev pub ChecksFirst : PlainInventory → Opened → List ℕ → List MarkAt → PlainUnit → Bool → Opened → Type 0
 ChecksFirst inventory f [] (p ∷ later) u true f' = ChecksMark inventory f p u f'
 ChecksFirst inventory f [] (p ∷ later) u false f' =
     IsAddressed inventory p.unit u × (is_clear p.place u.steps ≡ false) × (f' ≡ f)

@@ -200,7 +200,7 @@ fn serve_by_steps<M: WritableMemory>(
 /// do one after another, with its job in no list and no hand between them. Else the job of a command that waits for its
 /// unit's disk is appended to the list, to be committed later.
 ///
-/// The queue owns the chain, and the list has 64 places free, which the caller sees to. Where it uses the chain, it begins a
+/// The queue owns the chain, and the list has room for 64 jobs, which the caller sees to. Where it uses the chain, it begins a
 /// new phase of the memory behind that. What was stored are the bytes that answer the request, and then its used entry.
 /// Where it isn't answered, nothing was stored.
 #[inline(always)]

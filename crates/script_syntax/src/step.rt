@@ -40,7 +40,7 @@ pub enum Step {
 }
 
 /// Returns the number of a queue or a seat.
-fn place(values: &[&str]) -> Result<u16, LineFault> {
+fn number_of(values: &[&str]) -> Result<u16, LineFault> {
     number::<u16>(only(values)?)
 }
 
@@ -58,21 +58,21 @@ impl Step {
     /// `BadValue` where the others aren't what it takes.
     pub fn read(keyword: &str, values: &[&str]) -> Result<Option<Step>, LineFault> {
         let step = match keyword {
-            "fetch" => Step::Fetch(place(values)?),
-            "enter" => Step::Enter(place(values)?),
-            "direct" => Step::Direct(place(values)?),
-            "put" => Step::Put(place(values)?),
-            "take" => Step::Take(place(values)?),
-            "prepare" => Step::Prepare(place(values)?),
-            "commit" => Step::Commit(place(values)?),
-            "answer" => Step::Answer(place(values)?),
-            "leave" => Step::Leave(place(values)?),
+            "fetch" => Step::Fetch(number_of(values)?),
+            "enter" => Step::Enter(number_of(values)?),
+            "direct" => Step::Direct(number_of(values)?),
+            "put" => Step::Put(number_of(values)?),
+            "take" => Step::Take(number_of(values)?),
+            "prepare" => Step::Prepare(number_of(values)?),
+            "commit" => Step::Commit(number_of(values)?),
+            "answer" => Step::Answer(number_of(values)?),
+            "leave" => Step::Leave(number_of(values)?),
             "mark" => alone(values, Step::Mark)?,
             "check" => alone(values, Step::Check)?,
             "answertmf" => alone(values, Step::AnswerTmf)?,
             "raise" => alone(values, Step::Raise)?,
             "wake" => alone(values, Step::Wake)?,
-            "resume" => Step::Resume(place(values)?),
+            "resume" => Step::Resume(number_of(values)?),
             _ => return Ok(None),
         };
         Ok(Some(step))

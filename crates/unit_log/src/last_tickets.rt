@@ -42,7 +42,7 @@ impl LastTickets {
         }
     }
 
-    /// Makes a place for a queue, which takes memory the first time that the queue, or a higher one, comes:
+    /// Makes room for a queue, which takes memory the first time that the queue, or a higher one, comes:
     /// `AllocError` where that was refused. The unit calls it before a ticket of the queue comes.
     #[inline(always)]
     pub fn reserve(&mut self, queue: u16) -> Result<(), AllocError>
@@ -56,7 +56,7 @@ impl LastTickets {
         self.numbers.resize(wanted, None)
     }
 
-    /// Notes that the ticket came, of a queue for which a place was made. The unit calls it where the ticket's task
+    /// Notes that the ticket came, of a queue for which room was made. The unit calls it where the ticket's task
     /// enters, or is refused as TASK SET FULL.
     #[inline(always)]
     pub fn came(&mut self, ticket: Ticket)

@@ -7,7 +7,7 @@
 
 #include "bus.h"
 
-/* What `src/ranges.rt` tells of changes. */
+/* What `c_calls/src/ranges.rt` tells of changes. */
 struct told {
   uint64_t place;
   uint64_t count;

@@ -100,17 +100,17 @@ module _ (qs : List BareQueue) (fs : List (Record Slot)) (ns : List PlainNote) (
       by_place (inl e) =
           let o = g.decided j n e in
           record {
-            place = o.place;
+            queue_index = o.queue_index;
             queue = o.queue;
             fetches = o.fetches;
-            there = before qs (q ∷ []) o.queue o.place o.there;
-            left = before fs (f ∷ []) o.fetches o.place o.left;
+            there = before qs (q ∷ []) o.queue o.queue_index o.there;
+            left = before fs (f ∷ []) o.fetches o.queue_index o.left;
             of_queue = o.of_queue;
             decided = o.decided;
           }
       by_place (inr (i, e)) =
           record {
-            place = length qs;
+            queue_index = length qs;
             queue = q;
             fetches = f;
             there = push_here qs q;
@@ -185,8 +185,8 @@ module _ (qs : List BareQueue) (fs : List (Record Slot)) (ns : List PlainNote) (
   left_there : (n : PlainNote) → IsOfOne qs fs n → (s : Slot) × (left_at fs n.ticket ≡ Some s) × (note_in (slot_of s) ≡ Some n)
   left_there n o = by_slot (slice_get o.fetches.items n.ticket.number) refl o.decided.decided
     where
-      queue_index : n.ticket.queue ≡ o.place
-      queue_index = o.of_queue ∙ in_place o.place o.queue o.there
+      queue_index : n.ticket.queue ≡ o.queue_index
+      queue_index = o.of_queue ∙ in_place o.queue_index o.queue o.there
 
       by_slot : (l : Option Slot) → slice_get o.fetches.items n.ticket.number ≡ l → note_left l ≡ Some n
           → (s : Slot) × (left_at fs n.ticket ≡ Some s) × (note_in (slot_of s) ≡ Some n)

@@ -5,7 +5,7 @@ use Rattle.scsi_codec.specs.EventQueue.{transport_reset}
 use Rattle.unit_model.specs.Steps.{Step}
 use Rattle.unit_model.specs.Jobs.{PlainJob}
 use Rattle.unit_model.specs.Unit.{PlainUnit, after as stepped}
-use Rattle.task_mgmt.specs.declared.function.Mark.{Mark as Place}
+use Rattle.task_mgmt.specs.declared.function.Mark.{Mark as MarkAt}
 use Rattle.device_model.specs.World.{Seat, PlainWorld, change}
 use Rattle.unit_attention.specs.declared.code.Code.{Code}
 use Rattle.unit_attention.specs.Code.{code}
@@ -27,7 +27,7 @@ abbrev pub reports_of : Option PlainUnit → List EventRecord
 reports_of None = []
 reports_of (Some u) = hard_report u ∷ []
 
-pub record Resets (w : PlainWorld) (p : Place) (jobs : List PlainJob) : Type 0 where
+pub record Resets (w : PlainWorld) (p : MarkAt) (jobs : List PlainJob) : Type 0 where
   pub unit : PlainUnit
   pub there : UnitIs w p.unit unit
   pub before : p.place ≡ length unit.steps
@@ -37,7 +37,7 @@ pub record Resets (w : PlainWorld) (p : Place) (jobs : List PlainJob) : Type 0 w
 
 -- the operator's seat has the jobs that may run now; the driver is to be told; each job that waits for pages is to be
 -- tried again, since a task that is marked ends without them
-abbrev pub after_hard : Place → List PlainJob → PlainWorld → PlainWorld
+abbrev pub after_hard : MarkAt → List PlainJob → PlainWorld → PlainWorld
 after_hard p jobs w =
     record w {
       units = change (stepped (Step.Reset hard_code)) p.unit w.units;

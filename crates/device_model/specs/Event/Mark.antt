@@ -10,7 +10,7 @@ use Rattle.task_mgmt.specs.Functions.{step_by, marking, asking, failing}
 use Rattle.task_mgmt.specs.declared.kind.Kind.{Kind}
 use Rattle.task_mgmt.specs.declared.kind.Kind.TheVariants.{Marking, Querying}
 use Rattle.task_mgmt.specs.declared.kind.MarkBy.{MarkBy}
-use Rattle.task_mgmt.specs.declared.function.Mark.{Mark as Place}
+use Rattle.task_mgmt.specs.declared.function.Mark.{Mark as MarkAt}
 use Rattle.device_model.specs.World.{Seat, Opened, PlainWorld, change}
 use Rattle.device_model.specs.Found.{UnitIs, handed_out}
 use Rattle.device_model.specs.Changing.{with_jobs, on_function}
@@ -27,7 +27,7 @@ pub record IsMarking (w : PlainWorld) (t : Ticket) (unit_index : ℕ) (kind : Ki
   pub unit : PlainUnit
   pub unit_there : UnitIs w unit_index unit
 
-pub record Marks (w : PlainWorld) (t : Ticket) (p : Place) (m : MarkBy) (jobs : List PlainJob) : Type 0 where
+pub record Marks (w : PlainWorld) (t : Ticket) (p : MarkAt) (m : MarkBy) (jobs : List PlainJob) : Type 0 where
   pub marking : IsMarking w t p.unit (Marking m)
   pub before : p.place ≡ length marking.unit.steps
   pub releases : jobs ≡ handed_out marking.unit (step_by m)
@@ -36,7 +36,7 @@ pub record Marks (w : PlainWorld) (t : Ticket) (p : Place) (m : MarkBy) (jobs : 
 
 -- the first worker's seat has the jobs that may run now; each job that waits for pages is to be tried again, since a
 -- task that is marked ends without them
-abbrev pub after_mark : Ticket → Place → MarkBy → List PlainJob → PlainWorld → PlainWorld
+abbrev pub after_mark : Ticket → MarkAt → MarkBy → List PlainJob → PlainWorld → PlainWorld
 after_mark t p m jobs w =
     record w {
       units = change (stepped (step_by m)) p.unit w.units;

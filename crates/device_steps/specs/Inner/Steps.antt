@@ -1,4 +1,4 @@
--- Rests on `specs/Steps.antt`; no promise rests on it.
+-- A turn that may be refused memory; no promise rests on it.
 use Rattle.std.specs.Prelude.{◌≡◌, Bool, Result, Ok, Err}
 use Rattle.foundation.specs.declared.NoMemory.{NoMemory}
 use Rattle.device_model.specs.World.{PlainWorld}

@@ -23,7 +23,7 @@ pub(crate) static ROWS: [Row; 2] = [
         ],
     },
     Row {
-        shows: "places of units",
+        shows: "indices of units",
         numbers: NUMBERS,
         units: &[
             THIRD,

@@ -10,11 +10,11 @@ use Rattle.lock_scopes.specs.Fetches.{ticket_left, ticket_of, IsDecided}
 
 -- own: a note is of one of these queues, and decided by a fetch of it
 pub record IsOfOne (queues : List BareQueue) (fetched : List (Record Slot)) (n : PlainNote) : Type 0 where
-  pub place : ℕ
+  pub queue_index : ℕ
   pub queue : BareQueue
   pub fetches : Record Slot
-  pub there : slice_get queues place ≡ Some queue
-  pub left : slice_get fetched place ≡ Some fetches
+  pub there : slice_get queues queue_index ≡ Some queue
+  pub left : slice_get fetched queue_index ≡ Some fetches
   pub of_queue : n.ticket.queue ≡ queue.ring.queue
   pub decided : IsDecided fetches.items n
 

@@ -4,4 +4,4 @@ use Rattle.logical_unit.proofs.changes.Changes.note.Goals as goal
 
 pub returns-clause-notes : goal.returns-clause-notes
 returns-clause-notes c =
-    notes_added (is_within c.args.first c.args.count) _ _ _ _ _ (c.make_place.ensures.notes c.args.capacity) c.add_below.ensures.since c.add_below.ensures.covers
+    notes_added (is_within c.args.first c.args.count) _ _ _ _ _ (c.make_room.ensures.notes c.args.capacity) c.add_below.ensures.since c.add_below.ensures.covers

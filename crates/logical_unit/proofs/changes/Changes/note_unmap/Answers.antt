@@ -9,4 +9,4 @@ returns-then-list-lt-UNMAP_HEADER_BYTES c =
 pub returns : goal.returns
 returns c =
     notes_named c.taken_descriptors-count.result c.args.list.now _ _ _ _ _ _ c.taken_descriptors-count.ensures.count c.split_at.ensures.back
-    (c.make_place.ensures.notes c.args.capacity) c.add_extents.ensures.since c.add_extents.ensures.covers
+    (c.make_room.ensures.notes c.args.capacity) c.add_extents.ensures.since c.add_extents.ensures.covers
