@@ -1,16 +1,17 @@
 //! Disks that outlive a device.
 
-use crate::guest::{READY, Sent, send};
+use crate::guest::{READY, send};
 use crate::opening::{NUMBERS, start_with};
 use crate::steps::{UNIT, settle};
 use backed_store::Disk;
 use block_store::{PagedStore, Store};
 use foundation::NoMemory;
 use std::alloc::Global;
+use test_guest::Chain;
 use world::{Event, StartFault, UnitSpec, World};
 
 /// WRITE (10) of block 2, of whose bytes the first is ab and the others are zeros.
-const WRITE: Sent = Sent {
+const WRITE: Chain = Chain {
     bytes: &[
         1, 0, 0x40, 0, 0, 0, 0, 0, 0, 0, 0, 0, 0, 0, 0, 0, 0, 0, 0, 0x2a, 0, 0, 0, 0, 2, 0, 0, 1,
         0, 0, 0, 0, 0, 0, 0, 0, 0, 0, 0, 0, 0, 0, 0, 0, 0, 0, 0, 0, 0, 0, 0, 0xab,

@@ -4,10 +4,11 @@ use backed_store::Disk;
 use foundation::NoMemory;
 use ring_core::Layout;
 use std::alloc::Global;
+use test_guest::layout;
 use world::{Config, StartFault, UnitSpec, VERSION_1, World};
 
-/// The addresses of four queues, each in 4,096 bytes of its own.
-static AREAS: [u64; 4] = [0, 4096, 8192, 12288];
+/// The control queue, the event queue and two request queues.
+const QUEUES: u16 = 4;
 
 /// The numbers of a configuration.
 #[derive(Clone, Copy)]
@@ -31,8 +32,11 @@ pub const NUMBERS: Numbers = Numbers {
 /// Returns queues of so many descriptors.
 fn layouts(alloc: Global, slots: u16) -> Result<Vec<Layout>, NoMemory> {
     let mut queues = Vec::new(alloc);
-    for area in AREAS {
-        let layout = Layout::fresh(slots, area, area + 1024, area + 2048);
+    for number in 0..QUEUES {
+        let layout = Layout {
+            size: slots,
+            ..layout(number)
+        };
         if queues.push(layout).is_err() {
             return Err(NoMemory);
         }

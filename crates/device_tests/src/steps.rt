@@ -1,10 +1,11 @@
 //! Steps of a driver and its device, one at a time, each with what must come of it.
 
-use crate::guest::{Sent, has, poke, send, was_answered};
+use crate::guest::{has, poke, send, was_answered};
 use crate::moves::{Move, run, step, step_all};
 use crate::opening::{Numbers, start};
 use foundation::NoMemory;
 use std::alloc::Global;
+use test_guest::Chain;
 use world::{Identity, Profile, StartFault, StepKind, UnitSpec, World};
 
 /// The unit 0:0 of 8 blocks, with nothing pending.
@@ -23,7 +24,7 @@ pub enum Step {
     /// The driver writes bytes at an address: whether they lie in memory.
     Poke(u64, &'static [u8], bool),
     /// The driver makes the chain of a number available.
-    Send(u8, Sent),
+    Send(u8, Chain),
     /// One event, and whether it changes something.
     Event(Move, bool),
     /// Takes these events one after another, of which so many change something.
@@ -118,7 +119,7 @@ fn shows(world: &World, step: Step) -> bool {
 fn takes(alloc: Global, world: &mut World, named: Step) -> Result<bool, NoMemory> {
     match named {
         Step::Poke(addr, bytes, fits) => Ok(poke(world, addr, bytes) == fits),
-        Step::Send(number, sent) => Ok(send(world, number, sent)),
+        Step::Send(number, chain) => Ok(send(world, number, chain)),
         Step::Event(event, changes) => Ok(step(alloc, world, event)? == changes),
         Step::Run(moves, count) => Ok(run(alloc, world, moves)? == count),
         Step::Idle(queue, seat, unit_index) => Ok(

@@ -1,6 +1,5 @@
 //! Reports of closed hosts with something amiss, and what is said of them.
 
-use crate::guest::Asked;
 use crate::runs::{ABSENT, FIRST, SECOND, closed, unit};
 use close_audit::examine;
 use config::UnitSpec;
@@ -10,6 +9,7 @@ use request_intake::Inventory;
 use std::alloc::Global;
 use std::sync::Wait;
 use std::thread::Threads;
+use test_guest::Chain;
 use workers::{CloseFault, Report};
 
 /// The address of the number of chains that the guest made available on the queue of the refused request.
@@ -56,14 +56,14 @@ pub enum Other {
 }
 
 /// Returns what is asked of another host, of which something is taken.
-fn asked_elsewhere(amiss: Amiss) -> Option<Asked> {
+fn asked_elsewhere(amiss: Amiss) -> Option<Chain> {
     match amiss {
         Amiss::ReceiptTwice => Some(FIRST),
-        Amiss::NoteOfAnother => Some(Asked {
+        Amiss::NoteOfAnother => Some(Chain {
             queue: FIRST.queue,
             ..ABSENT
         }),
-        Amiss::RunTwice => Some(Asked {
+        Amiss::RunTwice => Some(Chain {
             queue: FIRST.queue,
             ..SECOND
         }),

@@ -2,7 +2,7 @@
 
 ghost use Rattle.workers.specs.Ledgers.{Opens};
 
-use crate::guest::{Asked, are_answered, ask};
+use crate::guest::{are_answered, ask, fill};
 use crate::meeting::LONG;
 use crate::runs::{FIRST, start};
 use logical_unit::UnitState;
@@ -14,6 +14,7 @@ use std::sync::ledger::{Blank, Ledger};
 use std::sync::{Arc, Wait};
 use std::thread;
 use std::thread::Threads;
+use test_guest::Chain;
 use workers::{Gate, Host, Point, Weighing};
 
 /// The queues of the two WRITEs.
@@ -27,23 +28,21 @@ const EARLY_BYTE: u8 = 0xab;
 const LATE_BYTE: u8 = 0xcd;
 
 /// WRITE (10) of block 0, whose pages are made first, and which is committed last.
-const EARLY_WRITE: Asked = Asked {
+const EARLY_WRITE: Chain = Chain {
     queue: EARLY,
     bytes: &[
         1, 0, 0, 0, 0, 0, 0, 0, 0, 0, 0, 0, 0, 0, 0, 0, 0, 0, 0, 0x2a, 0, 0, 0, 0, 0, 0, 0, 1,
     ],
-    data: EARLY_BYTE,
     readable: 563,
     ..FIRST
 };
 
 /// WRITE (10) of block 1.
-const LATE_WRITE: Asked = Asked {
+const LATE_WRITE: Chain = Chain {
     queue: LATE,
     bytes: &[
         1, 0, 0, 0, 0, 0, 0, 0, 0, 0, 0, 0, 0, 0, 0, 0, 0, 0, 0, 0x2a, 0, 0, 0, 0, 1, 0, 0, 1,
     ],
-    data: LATE_BYTE,
     ..EARLY_WRITE
 };
 
@@ -178,6 +177,8 @@ where
         seen: Arc::try_clone(&seen).ok()?,
     };
     let host: Host<Crossing, C, D> = start(rt, alloc, gate, workers, 8, acts, receipts)?;
+    fill(&rt, &host, EARLY_WRITE, EARLY_BYTE);
+    fill(&rt, &host, LATE_WRITE, LATE_BYTE);
     ask(&rt, &host, EARLY_WRITE);
     ask(&rt, &host, LATE_WRITE);
     let answered = are_answered(&rt, &host, EARLY, 1) && are_answered(&rt, &host, LATE, 1);

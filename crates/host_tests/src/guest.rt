@@ -1,12 +1,11 @@
 //! The guest of a small device, beside its workers.
 
-ghost use Rattle.std.specs.Prelude.{◌<◌, ◌^◌};
-
 use ring_core::Layout;
 use std::alloc::Global;
 use std::sync::Wait;
 use std::sync::ledger::Ledger;
 use std::thread;
+use test_guest::{Buffers, Chain, Pokes, layout, send};
 use workers::{Gate, Host, Weighing};
 
 /// The control queue, the event queue, and three request queues, each in a page of its own.
@@ -15,95 +14,60 @@ const QUEUES: u16 = 5;
 /// The pages of its memory.
 pub(crate) const PAGES: u32 = 16;
 
-/// The bytes of a page.
-const PAGE: u64 = 4096;
-
-/// The address of the buffers of the first queue. Each queue has 8,192 bytes there, each chain 2,048 of them.
-const BUFFERS: u64 = 20480;
-
-/// The bytes from the start of a chain's readable part to its writable part.
-const RESPONSE: u64 = 1024;
+/// The place of the guest's buffers.
+const BUFFERS: Buffers = Buffers {
+    first: 20480,
+    of_queue: 8192,
+    of_chain: 2048,
+    response: 1024,
+};
 
 /// The bytes of a request before its data (VIRTIO 1.2 §5.6.6.1).
 const DATA: u64 = 51;
 
-/// VIRTQ_DESC_F_NEXT and VIRTQ_DESC_F_WRITE (VIRTIO 1.2, 2.7.5).
-const NEXT: u16 = 1;
-
-const WRITE: u16 = 2;
-
 /// The number of looks that the guest takes for an answer.
 const LOOKS: u32 = 100_000_000;
-
-/// A chain: its queue, its number among that queue's chains, from 0 to 3, and the bytes that the device reads of it,
-/// with a block of equal bytes behind the 51 of a request. It has so many readable bytes, and so many writable ones.
-#[derive(Clone, Copy)]
-pub(crate) struct Asked {
-    pub(crate) queue: u16,
-    pub(crate) number: u8,
-    pub(crate) bytes: &'static [u8],
-    pub(crate) data: u8,
-    pub(crate) readable: u32,
-    pub(crate) writable: u32,
-}
 
 /// Returns the layouts of the queues.
 pub(crate) fn layouts(alloc: Global) -> Option<Vec<Layout>> {
     let mut layouts = Vec::new(alloc);
     for number in 0..QUEUES {
-        let page = PAGE * u64::from(number);
-        let layout = Layout::fresh(8, page, page + 1024, page + 2048);
-        layouts.push(layout).ok()?;
+        layouts.push(layout(number)).ok()?;
     }
     Some(layouts)
 }
 
-/// Writes as the guest. It has no contract, so that what `poke` promises is read once.
-fn poke<R: Wait, G: Gate + Drop, C: Ledger + Weighing, D: Ledger>(
+/// The guest of a host.
+#[derive(Drop)]
+struct Guest<'a, R: Wait, G: Gate + Drop, C: Ledger + Weighing, D: Ledger> {
+    rt: &'a R,
+    host: &'a Host<G, C, D>,
+}
+
+impl<'a, R: Wait, G: Gate + Drop, C: Ledger + Weighing, D: Ledger> Pokes for Guest<'a, R, G, C, D> {
+    fn poke(&mut self, addr: u64, bytes: &[u8]) -> bool {
+        self.host.poke(self.rt, addr, bytes).is_ok()
+    }
+}
+
+/// Writes a block of equal bytes, as the guest, where a chain that is a WRITE has its data.
+pub(crate) fn fill<R: Wait, G: Gate + Drop, C: Ledger + Weighing, D: Ledger>(
     rt: &R,
     host: &Host<G, C, D>,
-    addr: u64,
-    bytes: &[u8],
+    chain: Chain,
+    byte: u8,
 ) {
-    let _ = host.poke(rt, addr, bytes);
+    let data = BUFFERS.readable_at(chain.queue, chain.number) + DATA;
+    let _ = Guest { rt, host }.poke(data, &[byte; 512]);
 }
 
-/// Returns the address of the bytes of a queue's chain.
-fn place_of(queue: u16, number: u8) -> u64
-    ensures { result < 2 ^ 32 }
-{
-    BUFFERS + 8192 * u64::from(queue) + 2048 * u64::from(number)
-}
-
-/// Returns the bytes of a descriptor. Its chain goes on, where it does, with the odd one of its pair.
-fn descriptor(addr: u64, len: u32, flags: u16, slot: u8) -> [u8; 16] {
-    let mut bytes = [0; 16];
-    bytes[..8].copy_from_slice(&addr.to_le_bytes());
-    bytes[8..12].copy_from_slice(&len.to_le_bytes());
-    bytes[12..14].copy_from_slice(&flags.to_le_bytes());
-    bytes[14] = slot | 1;
-    bytes
-}
-
-/// Makes a chain available, as the guest. The chain takes the pair of descriptors of its number, or the second alone if
-/// the device reads nothing of it.
+/// Makes a chain available, as the guest.
 pub(crate) fn ask<R: Wait, G: Gate + Drop, C: Ledger + Weighing, D: Ledger>(
     rt: &R,
     host: &Host<G, C, D>,
-    asked: Asked,
+    chain: Chain,
 ) {
-    let page = PAGE * u64::from(asked.queue);
-    let addr = place_of(asked.queue, asked.number);
-    let slot = 2 * (asked.number % 4);
-    let head = if asked.readable == 0 { slot + 1 } else { slot };
-    let read = descriptor(addr, asked.readable, NEXT, slot);
-    let written = descriptor(addr + RESPONSE, asked.writable, WRITE, slot);
-    poke(rt, host, addr, asked.bytes);
-    poke(rt, host, addr + DATA, &[asked.data; 512]);
-    poke(rt, host, page + 16 * u64::from(slot), &read);
-    poke(rt, host, page + 16 * u64::from(slot) + 16, &written);
-    poke(rt, host, page + 1028 + u64::from(slot), &[head]);
-    poke(rt, host, page + 1026, &[slot / 2 + 1]);
+    let _ = send(&mut Guest { rt, host }, BUFFERS, chain);
     host.kick(rt);
 }
 
@@ -126,7 +90,7 @@ pub(crate) fn are_answered<R: Wait, G: Gate + Drop, C: Ledger + Weighing, D: Led
     count: u8,
 ) -> bool {
     for _ in 0..LOOKS {
-        if bytes(rt, host, PAGE * u64::from(queue) + 2050) == Some([count]) {
+        if bytes(rt, host, layout(queue).device + 2) == Some([count]) {
             return true;
         }
         thread::yield_now();
@@ -141,5 +105,5 @@ pub(crate) fn written<R: Wait, G: Gate + Drop, C: Ledger + Weighing, D: Ledger, 
     queue: u16,
     number: u8,
 ) -> Option<[u8; N]> {
-    bytes(rt, host, place_of(queue, number) + RESPONSE)
+    bytes(rt, host, BUFFERS.writable_at(queue, number))
 }

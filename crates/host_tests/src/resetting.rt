@@ -2,17 +2,18 @@
 
 ghost use Rattle.workers.specs.Ledgers.{Opens};
 
-use crate::guest::{Asked, are_answered, ask, written};
+use crate::guest::{are_answered, ask, written};
 use crate::runs::{FIRST, Left, start, summed};
 use std::alloc::Global;
 use std::marker::Brand;
 use std::sync::Wait;
 use std::sync::ledger::{Blank, Ledger};
 use std::thread::Threads;
+use test_guest::Chain;
 use workers::{Host, Open, Weighing};
 
 /// An event buffer.
-const BUFFER: Asked = Asked {
+const BUFFER: Chain = Chain {
     queue: 1,
     bytes: &[],
     readable: 0,

@@ -3,13 +3,14 @@
 ghost use Rattle.workers.specs.Ledgers.{Opens};
 ghost use Rattle.std.specs.Prelude.{◌≡◌};
 
-use crate::guest::{Asked, PAGES, are_answered, ask, layouts};
+use crate::guest::{PAGES, are_answered, ask, layouts};
 use config::{Identity, Profile, UnitSpec, VERSION_1};
 use std::alloc::Global;
 use std::marker::Brand;
 use std::sync::Wait;
 use std::sync::ledger::{Blank, Ledger};
 use std::thread::Threads;
+use test_guest::Chain;
 use workers::{CloseFault, Config, Gate, Host, Open, Report, StartFault, Weighing};
 
 /// The numbers of receipts and notes that a closed host left.
@@ -22,22 +23,21 @@ pub struct Left {
 }
 
 /// TEST UNIT READY for each of two units, and for a target that isn't there, each on a queue of its own.
-pub(crate) const FIRST: Asked = Asked {
+pub(crate) const FIRST: Chain = Chain {
     queue: 2,
     number: 0,
     bytes: &[1],
-    data: 0,
     readable: 51,
     writable: 108,
 };
 
-pub(crate) const SECOND: Asked = Asked {
+pub(crate) const SECOND: Chain = Chain {
     queue: 3,
     bytes: &[1, 0, 0, 1],
     ..FIRST
 };
 
-pub(crate) const ABSENT: Asked = Asked {
+pub(crate) const ABSENT: Chain = Chain {
     queue: 4,
     bytes: &[1, 7],
     ..FIRST
@@ -155,7 +155,7 @@ pub(crate) fn closed<R: Threads + Wait + Copy + Send + 'static>(
     rt: R,
     alloc: Global,
     workers: u16,
-    asked: &[Asked],
+    asked: &[Chain],
 ) -> Option<Result<Report, CloseFault>> {
     closed_with::<Brand, Brand, R>(rt, alloc, workers, asked, Blank::new(64), Blank::new(73))
 }
@@ -165,7 +165,7 @@ fn closed_with<C, D, R>(
     rt: R,
     alloc: Global,
     workers: u16,
-    asked: &[Asked],
+    asked: &[Chain],
     acts: Blank,
     receipts: Blank,
 ) -> Option<Result<Report, CloseFault>>

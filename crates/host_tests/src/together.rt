@@ -2,7 +2,7 @@
 
 ghost use Rattle.workers.specs.Ledgers.{Opens};
 
-use crate::guest::{Asked, are_answered, ask};
+use crate::guest::{are_answered, ask, fill};
 use crate::meeting::{LONG, Meeting, SHORT, Seen};
 use crate::runs::{FIRST, Left, start};
 use logical_unit::{StepKind, UnitState};
@@ -11,6 +11,7 @@ use std::marker::Brand;
 use std::sync::ledger::{Blank, Ledger};
 use std::sync::{Arc, Wait};
 use std::thread::Threads;
+use test_guest::Chain;
 use workers::{Host, Point, Report, Weighing};
 
 /// The byte of which the block is that is written.
@@ -20,17 +21,16 @@ const WRITTEN: u8 = 0xab;
 const BLOCK: u64 = 3;
 
 /// WRITE (10) of block 3 of LUN 0.
-const WRITE: Asked = Asked {
+const WRITE: Chain = Chain {
     bytes: &[
         1, 0, 0, 0, 0, 0, 0, 0, 0, 0, 0, 0, 0, 0, 0, 0, 0, 0, 0, 0x2a, 0, 0, 0, 0, 3, 0, 0, 1,
     ],
-    data: WRITTEN,
     readable: 563,
     ..FIRST
 };
 
 /// READ (10) of block 5 of LUN 0.
-const READ: Asked = Asked {
+const READ: Chain = Chain {
     bytes: &[
         1, 0, 0, 0, 0, 0, 0, 0, 0, 0, 0, 0, 0, 0, 0, 0, 0, 0, 0, 0x28, 0, 0, 0, 0, 5, 0, 0, 1,
     ],
@@ -39,7 +39,7 @@ const READ: Asked = Asked {
 };
 
 /// The same of LUN 1.
-const OTHER_READ: Asked = Asked {
+const OTHER_READ: Chain = Chain {
     bytes: &[
         1, 0, 0, 1, 0, 0, 0, 0, 0, 0, 0, 0, 0, 0, 0, 0, 0, 0, 0, 0x28, 0, 0, 0, 0, 5, 0, 0, 1,
     ],
@@ -47,15 +47,15 @@ const OTHER_READ: Asked = Asked {
 };
 
 /// Three requests on a queue, and two on another, for two units.
-const FIVE: [Asked; 5] = [
+const FIVE: [Chain; 5] = [
     WRITE,
-    Asked { number: 1, ..READ },
-    Asked {
+    Chain { number: 1, ..READ },
+    Chain {
         number: 2,
         ..OTHER_READ
     },
-    Asked { queue: 3, ..READ },
-    Asked {
+    Chain { queue: 3, ..READ },
+    Chain {
         queue: 3,
         number: 1,
         ..OTHER_READ
@@ -63,16 +63,16 @@ const FIVE: [Asked; 5] = [
 ];
 
 /// A request for each unit, each on a queue of its own.
-const TWO: [Asked; 2] = [
+const TWO: [Chain; 2] = [
     READ,
-    Asked {
+    Chain {
         queue: 3,
         ..OTHER_READ
     },
 ];
 
 /// Two requests for one unit, each on a queue of its own.
-const ONE: [Asked; 2] = [READ, Asked { queue: 3, ..READ }];
+const ONE: [Chain; 2] = [READ, Chain { queue: 3, ..READ }];
 
 /// The outcome of two workers that served at once.
 #[derive(Clone, Copy, PartialEq, Eq)]
@@ -128,15 +128,17 @@ fn told(alloc: Global, report: &Report, missed: Option<u64>, answered: bool) -> 
     })
 }
 
-/// Asks for all, as the guest, and returns true if so many of two queues are answered.
+/// Asks for all, as the guest, and returns true if so many of two queues are answered. The WRITE, if it is asked for, has
+/// its data.
 fn ask_all<R: Wait, C: Ledger + Weighing, D: Ledger>(
     rt: &R,
     host: &Host<Meeting, C, D>,
-    all: &[Asked],
+    all: &[Chain],
     counts: (u8, u8),
 ) -> bool {
-    for asked in all {
-        ask(rt, host, *asked);
+    fill(rt, host, WRITE, WRITTEN);
+    for chain in all {
+        ask(rt, host, *chain);
     }
     are_answered(rt, host, 2, counts.0) && are_answered(rt, host, 3, counts.1)
 }
@@ -148,7 +150,7 @@ fn serve_all<R: Threads + Wait + Copy + Send + 'static>(
     rt: R,
     alloc: Global,
     workers: u16,
-    all: &[Asked],
+    all: &[Chain],
     counts: (u8, u8),
     points: &'static [Point],
     turns: u32,
@@ -171,7 +173,7 @@ fn serve_all_with<C, D, R>(
     rt: R,
     alloc: Global,
     workers: u16,
-    all: &[Asked],
+    all: &[Chain],
     counts: (u8, u8),
     points: &'static [Point],
     turns: u32,

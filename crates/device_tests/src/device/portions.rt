@@ -1,8 +1,9 @@
 //! Serving in portions: a guest whose requests make further requests available, and the queues beside it.
 
-use crate::guest::{READY, Sent};
+use crate::guest::READY;
 use crate::opening::{NUMBERS, Numbers};
 use crate::steps::{Row, Step, UNIT};
+use test_guest::Chain;
 use world::{RING_PACKED, VERSION_1};
 
 /// A chain of a packed ring of 4 descriptors at its beginning: a READ of block 0 whose data go over that ring, behind
@@ -45,7 +46,7 @@ pub(crate) static ROWS: [Row; 2] = [
         steps: &[
             Step::Serve(u32::MAX, 0, 0, false),
             Step::Send(0, READY),
-            Step::Send(0, Sent { queue: 3, ..READY }),
+            Step::Send(0, Chain { queue: 3, ..READY }),
             Step::Serve(0, 100, 0, false),
             Step::Serve(SECOND, 0, 0, true),
             Step::Serve(SECOND, 3, 3, true),

@@ -1,12 +1,13 @@
 //! Steps of the device: how many there are, and what they leave in the rings and in a unit's history.
 
 use crate::guest::{
-    ABSENT, BUFFER, NEXUS_RESET, ORDERED, QUERY, READ, READY, REJECTED, Sent, UNIT_RESET,
+    ABSENT, BUFFER, NEXUS_RESET, ORDERED, QUERY, READ, READY, REJECTED, UNIT_RESET,
 };
 use crate::moves::Move;
 use crate::opening::{NUMBERS, Numbers};
 use crate::steps::{Row, Step, UNIT};
 use ring_core::Ticket;
+use test_guest::Chain;
 use world::{RING_PACKED, StepKind, UnitSpec, VERSION_1};
 
 /// The units 0:0 and 0:1.
@@ -47,7 +48,7 @@ const C: Ticket = Ticket {
 };
 
 /// TEST UNIT READY on the other request queue.
-const OTHER: Sent = Sent { queue: 3, ..READY };
+const OTHER: Chain = Chain { queue: 3, ..READY };
 
 pub(crate) static ROWS: [Row; 11] = [
     Row {
@@ -102,7 +103,7 @@ pub(crate) static ROWS: [Row; 11] = [
             Step::Poke(24640, &[0xee; 108], true),
             Step::Send(
                 0,
-                Sent {
+                Chain {
                     writable: 107,
                     ..READY
                 },
@@ -217,7 +218,7 @@ pub(crate) static ROWS: [Row; 11] = [
             Step::Settle(1),
             Step::Send(
                 1,
-                Sent {
+                Chain {
                     writable: 15,
                     ..BUFFER
                 },

@@ -1,0 +1,1 @@
+pub use Rattle.ring_core.specs.State
