@@ -113,7 +113,7 @@ static bool make(struct backend *backend, char *why, size_t room) {
   // What is under way at a disk that doesn't answer is waited for with messages and signals in between.
   bool is_free = paging_end_rest(backend->disks, clock_now() + BRIEF) || !paging_is_under_way(backend->disks);
   if (is_free && !blocks_are_lost(backend->disks) && backend_is_left_behind(backend))
-    return snprintf(why, room, "the guest goes on, and what it wrote may have gone with another daemon: reset it"), false;
+    return snprintf(why, room, "the guest goes on, and what it wrote may have gone with another daemon: reset the machine"), false;
   if (!is_free) {
     snprintf(why, room, "pages of disks are under way");
     // It is tried again soon.

@@ -25,8 +25,8 @@
 #define CAPABILITIES_OF "{\"type\": \"scsi\", \"features\": []}\n"
 
 static const char usage[] =
-    "vscsi-vhost-user --socket PATH|--fd N --disk T:L=SIZE[,file=PATH|,nbd=URI|,rbd=IMAGE][,grow][,snapshot][,detect-zeroes=unmap]"
-    "[,write-cache=on][,cache-size=SIZE][,direct=on][,rerror=stop][,read-only=on][,profile=narrow|wide][,NAMES] ..\n"
+    "vscsi-vhost-user --socket PATH|--fd N --disk T:L=SIZE[,file=PATH|,nbd=URI|,rbd=IMAGE][,rbd-conf=PATH][,rbd-user=NAME][,grow][,snapshot]"
+    "[,detect-zeroes=unmap][,write-cache=on][,cache-size=SIZE][,direct=on][,rerror=stop][,read-only=on][,profile=narrow|wide][,NAMES] ..\n"
     "A virtio SCSI device for a vhost-user front end.\n"
     "\n"
     "  --socket PATH        listen there (also --socket-path)\n"
@@ -39,7 +39,7 @@ static const char usage[] =
     "      snapshot         never write the file; what the guest writes is lost at the end\n"
     "      detect-zeroes=unmap  zeros that the guest writes become holes of the file\n"
     "      write-cache=on   read and write the file while the guest runs, and have a part of it in memory alone.\n"
-    "                       What the guest hasn't flushed is lost where the daemon is killed\n"
+    "                       What the guest hasn't flushed may be lost where the daemon is killed\n"
     "      nbd=URI          keep it on an NBD server in place of a file, with a write cache: nbd://HOST[:PORT]/EXPORT, or\n"
     "                       nbd+unix:///EXPORT?socket=PATH; a comma is written twice\n"
     "      rbd=IMAGE        keep it on an image of a Ceph cluster, with a write cache: POOL/IMAGE or POOL/NAMESPACE/IMAGE\n"
@@ -53,6 +53,7 @@ static const char usage[] =
     "      serial=TEXT, naa=HEX, vendor=TEXT, product=TEXT, revision=TEXT, physical-block-exp=N, rotation-rate=N,\n"
     "      sense=fixed or sense=descriptor\n"
     "                       name a disk of the wide profile. Without naa= a random one is kept in PATH.naa\n"
+    "                       write-cache=, direct= and read-only= take off, too\n"
     "  --queues N           at most N request queues, 1 to 16\n"
     "  --poll               look at the rings of a busy guest all the time, which takes a processor\n"
     "  --poll-max-ns N      look at them for at most N nanoseconds before waiting for a guest, as long as that pays:\n"

@@ -1925,7 +1925,7 @@ def test_left_behind(room):
                     wait_for(lambda: front.answered() == 2, "a READ behind another daemon")  # noqa: B023
                 else:
                     assert is_over(front.connection, LATE)
-            assert ("reset it" in log.read_text()) != may, words
+            assert ("reset the machine" in log.read_text()) != may, words
             with FrontEnd(connected(room.socket)) as front:
                 front.read(0, 512)
                 wait_for(lambda: front.answered() == 1, "a READ of a guest that was reset")  # noqa: B023
