@@ -185,7 +185,7 @@ static json_t *attach(const struct controlled *controlled, json_t *arguments, in
   if (json_unpack(arguments, "{s:s,s?s}", "disk", &words, "naa", &naa))
     return error("BadRequest", "its argument disk is T:L=SIZE[,..], and naa digits");
   if (controlled->session) return error("InUse", "a front end is there");
-  // Those that are there get other places.
+  // Those that are there get other indices.
   if (paging_is_under_way(disks)) return wait_or(is_late, under_way);
   if (!end_rest(disks, is_late, &came)) return came;
   if (!disks_add(disks, words, why, sizeof why)) return error("BadDisk", why);

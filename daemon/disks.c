@@ -168,13 +168,13 @@ bool disks_add(struct disks *disks, const char *words, char *why, size_t room) {
   }
   stands = stands && names_suit(disks, &disk, why, room) && caches_suit(&disk, why, room);
   if (!stands) return free_words(&disk), false;
-  size_t place = disks->count;
-  for (const struct disk *it = disks->disks; place; place--)
-    if (it[place - 1].target < disk.target || (it[place - 1].target == disk.target && it[place - 1].lun < disk.lun)) break;
-  memmove(disks->disks + place + 1, disks->disks + place, (disks->count - place) * sizeof disk);
-  memmove(disks->stores + place + 1, disks->stores + place, (disks->count - place) * sizeof *disks->stores);
-  disks->disks[place] = disk;
-  disks->stores[place] = (struct vscsi_disk){0};
+  size_t index = disks->count;
+  for (const struct disk *it = disks->disks; index; index--)
+    if (it[index - 1].target < disk.target || (it[index - 1].target == disk.target && it[index - 1].lun < disk.lun)) break;
+  memmove(disks->disks + index + 1, disks->disks + index, (disks->count - index) * sizeof disk);
+  memmove(disks->stores + index + 1, disks->stores + index, (disks->count - index) * sizeof *disks->stores);
+  disks->disks[index] = disk;
+  disks->stores[index] = (struct vscsi_disk){0};
   disks->count++;
   return true;
 }

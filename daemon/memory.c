@@ -43,8 +43,8 @@ static bool map(struct region *region, uint64_t offset, int descriptor) {
   return true;
 }
 
-// Returns the place of the first region that ends behind an address of the guest's.
-static size_t place_of(const struct memory *memory, uint64_t guest) {
+// Returns the index of the first region that ends behind an address of the guest's.
+static size_t index_of(const struct memory *memory, uint64_t guest) {
   size_t low = 0, high = memory->count;
   while (low < high) {
     size_t middle = (low + high) / 2;
@@ -70,20 +70,20 @@ bool memory_add(struct memory *memory, uint64_t guest, uint64_t size, uint64_t u
     if (overlap(guest, other->guest, size, other->size) || overlap(user, other->user, size, other->size)) return false;
   }
   if (!map(&region, offset, descriptor)) return false;
-  size_t place = place_of(memory, guest);
-  memmove(memory->regions + place + 1, memory->regions + place, (memory->count - place) * sizeof region);
-  memory->regions[place] = region;
+  size_t index = index_of(memory, guest);
+  memmove(memory->regions + index + 1, memory->regions + index, (memory->count - index) * sizeof region);
+  memory->regions[index] = region;
   memory->count++;
   return true;
 }
 
 bool memory_remove(struct memory *memory, uint64_t guest, uint64_t size, uint64_t user) {
-  size_t place = place_of(memory, guest);
-  struct region *region = memory->regions + place;
-  if (place == memory->count || region->guest != guest || region->size != size || region->user != user) return false;
+  size_t index = index_of(memory, guest);
+  struct region *region = memory->regions + index;
+  if (index == memory->count || region->guest != guest || region->size != size || region->user != user) return false;
   munmap(region->map, region->mapped);
   memory->count--;
-  memmove(region, region + 1, (memory->count - place) * sizeof *region);
+  memmove(region, region + 1, (memory->count - index) * sizeof *region);
   return true;
 }
 
@@ -124,7 +124,7 @@ bool memory_blank(const struct memory *memory, const void *at) {
 }
 
 uint8_t *memory_at(const struct memory *memory, uint64_t guest, uint64_t count) {
-  const struct region *region = memory->regions + place_of(memory, guest);
+  const struct region *region = memory->regions + index_of(memory, guest);
   if (region == memory->regions + memory->count || guest < region->guest) return NULL;
   uint64_t before = guest - region->guest;
   return count <= region->size - before ? region->at + before : NULL;

@@ -19,7 +19,7 @@ enum transfer_kind { TRANSFER_READ, TRANSFER_WRITE, TRANSFER_HOLE, TRANSFER_SYNC
 
 struct transfer {
   enum transfer_kind kind;
-  size_t disk;                       // whose it is, by its place among the daemon's
+  size_t disk;                       // whose it is, by its index among the daemon's
   int file;
   struct server *server;             // in place of the file, or NULL
   uint64_t first;                    // page, and how many

@@ -87,8 +87,8 @@ static size_t ahead_in_split(struct bus_map *map, struct bus_ring *it)
 		return 0;
 	count = count < MOST_AHEAD ? count : MOST_AHEAD;
 	for (size_t i = 0; i < count; i++) {
-		size_t place = (uint16_t)(next + i) % it->size;
-		uint16_t head = __atomic_load_n((const uint16_t *)(driver + 4 + 2 * place), __ATOMIC_RELAXED);
+		size_t index = (uint16_t)(next + i) % it->size;
+		uint16_t head = __atomic_load_n((const uint16_t *)(driver + 4 + 2 * index), __ATOMIC_RELAXED);
 
 		chains[i] = desc + 16 * (size_t)(head % it->size);
 		__builtin_prefetch(chains[i]);

@@ -149,7 +149,7 @@ static bool name(struct wanted_unit *unit, const struct vscsi_identity *said) {
   return true;
 }
 
-/* What a configuration may say of each unit beside its place, as far as its header knows: null is nothing of any. */
+/* What a configuration may say of each unit beside its index, as far as its header knows: null is nothing of any. */
 struct said {
   const uint8_t *profiles;
   const struct vscsi_identity *identities;
@@ -167,14 +167,14 @@ static bool protect(struct wanted_unit *unit, bool read_only) {
 static bool read_units(struct wanted_units *wanted, const struct vscsi_unit *units, size_t count, struct said said,
                        struct vscsi_fault *fault) {
   wanted->count = count < UNITS_READ ? count : UNITS_READ;
-  for (size_t place = 0; place < wanted->count; place++) {
-    const struct vscsi_unit *unit = &units[place];
-    uint8_t profile = said.profiles ? said.profiles[place] : VSCSI_PROFILE_NARROW;
+  for (size_t index = 0; index < wanted->count; index++) {
+    const struct vscsi_unit *unit = &units[index];
+    uint8_t profile = said.profiles ? said.profiles[index] : VSCSI_PROFILE_NARROW;
     if (profile > VSCSI_PROFILE_WIDE) {
-      *fault = (struct vscsi_fault){.place = place, .cause = VSCSI_CAUSE_UNIT_PROFILE, .detail = 0};
+      *fault = (struct vscsi_fault){.place = index, .cause = VSCSI_CAUSE_UNIT_PROFILE, .detail = 0};
       return false;
     }
-    struct wanted_unit *item = &wanted->items[place];
+    struct wanted_unit *item = &wanted->items[index];
     *item = plain;
     item->blocks = unit->blocks;
     item->lun = unit->lun;
@@ -182,11 +182,11 @@ static bool read_units(struct wanted_units *wanted, const struct vscsi_unit *uni
     item->calm = unit->calm;
     item->profile = profile;
   }
-  for (size_t place = 0; place < wanted->count; place++) {
-    struct wanted_unit *item = &wanted->items[place];
-    bool is_named = !said.identities || name(item, &said.identities[place]);
-    if (is_named && (!said.read_only || protect(item, said.read_only[place]))) continue;
-    *fault = (struct vscsi_fault){.place = place, .cause = VSCSI_CAUSE_UNIT_IDENTITY, .detail = 0};
+  for (size_t index = 0; index < wanted->count; index++) {
+    struct wanted_unit *item = &wanted->items[index];
+    bool is_named = !said.identities || name(item, &said.identities[index]);
+    if (is_named && (!said.read_only || protect(item, said.read_only[index]))) continue;
+    *fault = (struct vscsi_fault){.place = index, .cause = VSCSI_CAUSE_UNIT_IDENTITY, .detail = 0};
     return false;
   }
   return true;
@@ -194,7 +194,7 @@ static bool read_units(struct wanted_units *wanted, const struct vscsi_unit *uni
 
 /* Has each unit tell of a write cache whose disk is backed. */
 static void tell_caches(struct wanted_units *wanted, struct vscsi_disk *disks) {
-  for (size_t place = 0; place < wanted->count; place++) wanted->items[place].write_cache = vscsi_raw_disk_is_backed(&disks[place]);
+  for (size_t index = 0; index < wanted->count; index++) wanted->items[index].write_cache = vscsi_raw_disk_is_backed(&disks[index]);
 }
 
 /* The sizes of configurations in older headers: without `read_only`, `identities`, `profiles`, and without `asks`. */
