@@ -64,8 +64,9 @@ def plays():
             trial.fail("write_read.c prints something else")
     if done("pkg-config", "--modversion", "vscsi").strip() != versions.version():
         trial.fail("vscsi.pc has another version")
-    done("man", "--warnings", "-P", "cat", "vscsi_counts")
-    print("the program, an example in C and a manual page: as they should be")
+    for page in ("vscsi_counts", "vscsi-script"):
+        done("man", "--warnings", "-P", "cat", page)
+    print("the program, an example in C and two manual pages: as they should be")
 
 
 def serves():

@@ -65,8 +65,10 @@ def put_program(root, name):
 
 
 def put_vscsi(root, facts):
-    """Puts the program vscsi with documents and examples."""
+    """Puts the program vscsi with the manual page of its scripts, documents and examples."""
     put_program(root, "vscsi")
+    page = ROOT / "docs/vscsi-script.5"
+    put_pages(root, 5, {page.name: page.read_text()})
     documents = "usr/share/doc/vscsi"
     put(root, documents, *(ROOT / page for page in ("README.md", "SECURITY.md", "CONTRIBUTING.md")))
     put(root, f"{documents}/docs", *(it for it in (ROOT / "docs").iterdir() if it.suffix in (".md", ".svg")))

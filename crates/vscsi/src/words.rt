@@ -48,7 +48,7 @@ SCSI requests, let the device run, and print what became of them:
 Where threads serve the device, `wait R` stands in the place of `settle`, and
 `close` before the first line that prints.
 
-docs/SCRIPT.md describes each line, and examples/ has scripts to begin with.
+docs/vscsi-script.5 describes each line, and examples/ has scripts to begin with.
 
 Exit status: 0 done; 1 a fault of the script, named with its line on standard
 error, a closed device that doesn't add up, or a standard output that fails;
