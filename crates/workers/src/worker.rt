@@ -142,6 +142,21 @@ fn nap<R: Wait, G: Gate + Drop, C: Ledger + Weighing, W: Ledger>(
     }
 }
 
+/// Counts the worker among those that wait for a job where its round found nothing, and no longer where one found
+/// something.
+fn count_waiting<G: Gate + Drop, C: Ledger + Weighing, W: Ledger>(
+    shared: &Shared<G, C, W>,
+    post: &mut Post<W>,
+    is_idle: bool,
+)
+    ensures seat { post.new.seat ≡ post.old.seat }
+{
+    if is_idle != post.waits {
+        shared.wait_for_job(is_idle);
+        post.waits = is_idle;
+    }
+}
+
 /// Returns how many rounds under load a worker has gone since it last looked at all queues, one more among them. An
 /// idle round begins them anew.
 fn rounds_behind(rounds: u8, is_idle: bool) -> u8 {
@@ -178,10 +193,7 @@ pub(crate) fn work<R: Wait, G: Gate + Drop, C: Ledger + Weighing, W: Ledger>(
             others = serve_others(rt, shared, &mut function, &mut post);
         }
         let is_idle = round(rt, shared, number, workers, &mut post).is_idle();
-        if is_idle != post.waits {
-            shared.wait_for_job(is_idle);
-            post.waits = is_idle;
-        }
+        count_waiting(shared, &mut post, is_idle);
         rounds = rounds_behind(rounds, is_idle);
         if is_idle && others.is_idle() && looks {
             if is_closing && function.is_none() && post.is_idle() {
