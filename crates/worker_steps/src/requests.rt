@@ -72,27 +72,29 @@ fn keep_note<W: Ledger>(post: &mut Post<W>, note: Note)
     }
 }
 
-/// Takes a request queue's next chain, and brings it to its unit or answers it. Returns true if there was one; `None`
-/// where memory was refused.
+/// Takes a request queue's next chain, and brings it to its unit or answers it. Idle where there was none. A refused growth
+/// counts as made.
 pub(crate) fn fetch_next<R: Wait, G: Gate + Drop, C: Ledger + Weighing, W: Ledger>(
     rt: &R,
     shared: &Shared<G, C, W>,
     at: usize,
     post: &mut Post<W>,
-) -> Option<bool>
+) -> Progress
     requires at { at < vec_len shared.now.queues }
     ensures seat { post.new.seat ≡ post.old.seat }
 {
     if !post.make_room() {
-        return None;
+        return Progress::Made;
     }
     let mut slot = Slot::Empty;
     let next = take_on(&shared.queues(rt), at, &mut slot, &shared.inventory);
-    let is_some = next.fetched.ok()?;
+    let Ok(is_there) = next.fetched else {
+        return Progress::Made;
+    };
     pass_answered(&shared.gate, next.answered);
     turn(rt, shared, &mut slot, post);
     direct(rt, shared, at, &mut slot, post);
-    Some(is_some)
+    Progress::of(is_there)
 }
 
 /// Takes a request queue's next chain, and brings it to its unit or answers it. Serves the job that it gives, where no
@@ -120,5 +122,5 @@ pub fn serve_queue<R: Wait, G: Gate + Drop, C: Ledger + Weighing, W: Ledger>(
         serve_and_fetch(rt, shared, at, post);
     }
     drain(rt, shared, post);
-    Progress::of(fetched != Some(false))
+    fetched
 }
