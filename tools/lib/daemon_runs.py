@@ -432,6 +432,8 @@ def test_unreadable(room):
     try:
         with disk.open("r+b") as file:
             wait_for(lambda: is_locked(file, 100 + RESIZES), "the lock")
+            # Else the daemon might see how long it is once it was cut.
+            wait_for((room.folder / "cut.waits").exists, "the first read")
             file.truncate(512)
         cut.touch()
         assert run.wait(LATE) == 1 and not room.socket.exists()
@@ -2945,6 +2947,7 @@ SHIM = r"""
 #include <errno.h>
 #include <fcntl.h>
 #include <stdbool.h>
+#include <stdio.h>
 #include <stdlib.h>
 #include <sys/epoll.h>
 #include <sys/mman.h>
@@ -3000,7 +3003,13 @@ int ftruncate(int fd, off_t length) {
 
 ssize_t pread(int fd, void *to, size_t count, off_t at) {
   const char *path = getenv("READS_BEHIND");
-  while (path && access(path, F_OK)) usleep(1000);
+  if (path && access(path, F_OK)) {
+    char waits[4096];
+    snprintf(waits, sizeof waits, "%s.waits", path);
+    int mark = open(waits, O_WRONLY | O_CREAT | O_CLOEXEC, 0600);
+    if (mark >= 0) close(mark);
+    while (access(path, F_OK)) usleep(1000);
+  }
   if (getenv("SLOW")) usleep(20000);
   return syscall(SYS_pread64, fd, to, count, at);
 }
