@@ -1,6 +1,13 @@
 /*
  * Guest memory, as the device reads and writes it; ahead.c and rounds.c read rings besides. The device (host_bus) calls `read` and
- * `write`, which are renamed to the two calls at the end.
+ * `write`: the library's build compiles the two calls at the end under these names, in one module with the device.
+ *
+ * So the compiler sees what the device does with bytes that were copied from guest memory. It takes memory to stay as it is while
+ * nobody writes whom it knows of. It might load a byte again in place of its copy, after the device tested the copy and the guest
+ * changed the byte; or build an answer in guest memory, and read it from there. So a barrier for the compiler stands behind each load of
+ * guest memory, and before and behind each store (`keep_apart`): to the compiler any of these bytes may change there. Then no load or
+ * store is moved across it, merged with another, or done again. An index, flags, a descriptor and a used entry are atomic accesses
+ * besides.
  *
  * A hole between regions reads as zeros and swallows writes. Another thread, the guest, may write any byte at any moment.
  * So the order of accesses matters where VIRTIO 1.2 has the device look at one place before another (2.7.13, 2.8.21):
@@ -107,7 +114,7 @@ static inline void load_from(const unsigned char *bytes, unsigned char *out, siz
 	else if (len == 16 && is_aligned(bytes, 8))
 		load_16(bytes, out);
 	else
-		memcpy(out, bytes, len);
+		load_bytes(bytes, out, len);
 }
 
 /* Loads bytes that may lie in several regions and holes. */
@@ -128,11 +135,14 @@ static __attribute__((noinline)) ssize_t load_runs(struct place at, unsigned cha
 	return 0;
 }
 
+/* The two halves by a load each, as they were stored: the processor gives a load of both at once only what has left its store buffer. */
 static inline struct place place_in(const void *bytes)
 {
 	struct place at;
 
-	memcpy(&at, bytes, sizeof at);
+	memcpy(&at.map, bytes, sizeof at.map);
+	keep_apart();
+	memcpy(&at.addr, (const unsigned char *)bytes + sizeof at.map, sizeof at.addr);
 	return at;
 }
 
@@ -157,7 +167,7 @@ static __attribute__((noinline)) ssize_t load_many(int what, void *room, size_t 
 
 	if (!is_whole(&map_of(at)->loaded, at.addr, len, &bytes))
 		return load_apart(what, room, size);
-	memcpy(room, bytes, len);
+	load_bytes(bytes, room, len);
 	return 0;
 }
 
@@ -170,21 +180,38 @@ static __attribute__((noinline)) void log_pages(const struct bus_map *map, uint6
 		__atomic_fetch_or(&map->log[page / 8], (uint8_t)(1 << page % 8), __ATOMIC_RELEASE);
 }
 
+/* Stores any bytes. */
+static inline void store_bytes(unsigned char *bytes, const unsigned char *in, size_t len)
+{
+	keep_apart();
+	memcpy(bytes, in, len);
+	keep_apart();
+}
+
 static inline void store_2(unsigned char *bytes, const unsigned char *in, int order)
 {
 	uint16_t all;
 
 	memcpy(&all, in, 2);
+	keep_apart();
 	__atomic_store_n((uint16_t *)bytes, all, order);
+	keep_apart();
+}
+
+static inline void store_4(unsigned char *bytes, const unsigned char *in, int order)
+{
+	uint32_t all;
+
+	memcpy(&all, in, 4);
+	keep_apart();
+	__atomic_store_n((uint32_t *)bytes, all, order);
+	keep_apart();
 }
 
 /* Stores a used entry: the last two bytes are the flags of a packed one. */
 static inline void store_8(unsigned char *bytes, const unsigned char *in)
 {
-	uint32_t first;
-
-	memcpy(&first, in, 4);
-	__atomic_store_n((uint32_t *)bytes, first, __ATOMIC_RELAXED);
+	store_4(bytes, in, __ATOMIC_RELAXED);
 	store_2(bytes + 4, in + 4, __ATOMIC_RELAXED);
 	store_2(bytes + 6, in + 6, __ATOMIC_RELEASE);
 }
@@ -197,7 +224,7 @@ static inline void store_into(unsigned char *bytes, const unsigned char *in, siz
 	else if (len == 8 && is_aligned(bytes, 4))
 		store_8(bytes, in);
 	else
-		memcpy(bytes, in, len);
+		store_bytes(bytes, in, len);
 }
 
 /* Stores bytes that may lie in several regions and holes, and logs them. */
@@ -241,14 +268,11 @@ static __attribute__((noinline)) ssize_t publish_apart(int what, const void *roo
 static __attribute__((noinline)) ssize_t store_wish(struct place at, const unsigned char *in)
 {
 	unsigned char *there;
-	uint32_t all;
 
-	if (is_short(&map_of(at)->stored, at.addr, &there) && is_aligned(there, WISH)) {
-		memcpy(&all, in, WISH);
-		__atomic_store_n((uint32_t *)there, all, __ATOMIC_RELEASE);
-	} else {
+	if (is_short(&map_of(at)->stored, at.addr, &there) && is_aligned(there, WISH))
+		store_4(there, in, __ATOMIC_RELEASE);
+	else
 		store_runs(at, in, WISH);
-	}
 	barrier(map_of(at));
 	return 0;
 }
@@ -267,7 +291,7 @@ static __attribute__((noinline)) ssize_t say_or_store(int what, const void *byte
 		return store_wish(at, bytes);
 	if (!is_whole(&map_of(at)->stored, at.addr, len, &there))
 		return store_runs(at, bytes, len);
-	memcpy(there, bytes, len);
+	store_bytes(there, bytes, len);
 	return 0;
 }
 

@@ -101,7 +101,7 @@ uint32_t bus_take_owed(struct bus_map *map);
 /* Frees a map, with which no device is served any more. Nothing is done for NULL. */
 void bus_unmap(struct bus_map *map);
 
-/* The device's calls of `read` and `write`, under their names in the library. */
+/* What the device calls as `read` and `write`, which are their names where they are compiled with it. */
 ssize_t vscsi_bus_read(int what, void *room, size_t len);
 ssize_t vscsi_bus_write(int what, const void *bytes, size_t len);
 

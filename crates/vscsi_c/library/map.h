@@ -109,12 +109,26 @@ static inline bool is_aligned(const unsigned char *bytes, size_t each)
 	return __builtin_expect((uintptr_t)bytes % each == 0, 1);
 }
 
+/* A barrier for the compiler alone: behind each load of guest memory, before and behind each store (bus.c says why). */
+static inline void keep_apart(void)
+{
+	__asm__ volatile("" ::: "memory");
+}
+
 /* Loads an index or flags. */
 static inline void load_2(const unsigned char *bytes, unsigned char *out)
 {
 	uint16_t all = __atomic_load_n((const uint16_t *)bytes, __ATOMIC_ACQUIRE);
 
+	keep_apart();
 	memcpy(out, &all, 2);
+}
+
+/* Loads any bytes. */
+static inline void load_bytes(const unsigned char *bytes, unsigned char *out, size_t len)
+{
+	memcpy(out, bytes, len);
+	keep_apart();
 }
 
 /* Loads a descriptor: its second half has the flags, so that what the first has is as new as they are. */
@@ -123,6 +137,7 @@ static inline void load_16(const unsigned char *bytes, unsigned char *out)
 	uint64_t second = __atomic_load_n((const uint64_t *)(bytes + 8), __ATOMIC_ACQUIRE);
 	uint64_t first = __atomic_load_n((const uint64_t *)bytes, __ATOMIC_RELAXED);
 
+	keep_apart();
 	memcpy(out, &first, 8);
 	memcpy(out + 8, &second, 8);
 }

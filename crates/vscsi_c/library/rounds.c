@@ -70,7 +70,7 @@ static uint16_t half_at(const struct bus_map *map, uint64_t addr)
 	if (bytes && is_aligned(bytes, 2))
 		load_2(bytes, (unsigned char *)&half);
 	else if (bytes)
-		memcpy(&half, bytes, 2);
+		load_bytes(bytes, (unsigned char *)&half, 2);
 	return half;
 }
 
