@@ -767,7 +767,7 @@ static void storage(struct vscsi_live *device) {
   no_page(__LINE__, device, 4);
 }
 
-// Which devices take a backed disk, here that of the second unit: those on live memory whose unit is wide.
+// Which devices take a backed disk, here that of the second unit: those on live memory.
 static void backed_refused(void) {
   struct vscsi_live device = {0};
   struct vscsi copies = {0};
@@ -794,11 +794,6 @@ static void backed_refused(void) {
     IS(fault.cause, VSCSI_CAUSE_PAGES);
     begin();
   }
-  fault = (struct vscsi_fault){77, 77, 77};
-  IS(vscsi_live_create(&device, &live, disks, &fault), VSCSI_BAD_CONFIG);
-  IS(fault.cause, VSCSI_CAUSE_UNIT_DISK);
-  IS(fault.place, 1);
-  IS(fault.detail, 0);
   live.profiles = wide, units[1].blocks = 2;
   fault = (struct vscsi_fault){77, 77, 77};
   IS(vscsi_live_create(&device, &live, disks, &fault), VSCSI_BAD_CONFIG);

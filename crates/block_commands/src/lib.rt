@@ -46,4 +46,5 @@ pub use facts::UnitFacts;
 pub use failing::unread;
 pub use in_place::read_in_place;
 pub use prepared::exec_prepared;
+pub use protection::changes_medium;
 pub use readiness::make_ready;

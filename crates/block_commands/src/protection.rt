@@ -19,8 +19,8 @@ fn changes_wide(command: &WideCommand) -> bool
     }
 }
 
-/// Returns true of each command that may change the medium, whatever it names.
-fn changes_medium(command: &Command) -> bool
+/// Returns true of each command that may change the medium, whatever it names (SBC-3 §4.12).
+pub fn changes_medium(command: &Command) -> bool
     ensures { result ≡ changes_medium command.now }
 {
     match *command {

@@ -1,12 +1,11 @@
 -- Each chain of a request queue that is used has one answer, which tells what is so.
-use Rattle.std.proofs.Common.{◌≡◌, ℕ, ◌+◌, ◌≤◌, List, ◌∷◌, Option, Some, None, refl, sym, ◌∙◌, ap, subst, arith, inl, inr, zero, suc}
+use Rattle.std.proofs.Common.{◌≡◌, ℕ, ◌+◌, ◌≤◌, List, ◌∷◌, Option, Some, None, refl, sym, ◌∙◌, subst, arith, inl, inr, zero, suc}
 use Rattle.std.specs.List.{sum_by}
 use Rattle.command_model.specs.PlainReply.{PlainReply}
 use Rattle.ring_core.specs.State.{PlainChain}
-use Rattle.ring_core.specs.Writes.{Write}
 use Rattle.ring_core.specs.declared.log.Ticket.{Ticket}
 use Rattle.unit_model.specs.declared.reason.Reason.{Reason}
-use Rattle.unit_model.specs.Tasks.{task_of}
+use Rattle.unit_model.specs.Tasks.{Entry, task_of}
 use Rattle.unit_model.specs.Steps.{Step, alive}
 use Rattle.unit_model.specs.Marks.{mark_of}
 use Rattle.unit_model.specs.Contents.{MayReply}
@@ -14,27 +13,28 @@ use Rattle.unit_model.specs.Lawful.{IsReady}
 use Rattle.unit_model.specs.Endings.{Ending}
 use Rattle.unit_model.proofs.Marking.{mark_on}
 use Rattle.unit_model.specs.Jobs.{PlainJob}
-use Rattle.unit_model.specs.Unit.{PlainUnit}
+use Rattle.unit_model.specs.Unit.{PlainUnit, Replies}
 use Rattle.device_model.specs.Parts.{PlainFetch, Completion, Outcome, Hand}
 use Rattle.device_model.specs.World.{PlainWorld, Opens}
 use Rattle.device_model.specs.Transitions.{Transition}
 use Rattle.device_model.specs.Happens.{world_of, Leads}
 use Rattle.device_model.specs.Places.{only}
 use Rattle.device_model.specs.Weights.{directs, answers}
-use Rattle.device_model.specs.Inner.Weights.{ends}
+use Rattle.device_model.specs.Found.{HandAtUnit}
 use Rattle.device_model.proofs.Lists.{same}
 use Rattle.device_model.proofs.Working.{all_work}
 use Rattle.device_model.specs.Happened.{Happened, IsBeginning, IsFetch, IsAnswer}
-use Rattle.device_model.specs.Inner.Happened.{IsCommit, IsAbort}
+use Rattle.device_model.specs.Inner.Happened.{IsEnter, IsCommit, IsAbort}
 use Rattle.device_model.specs.Histories.{step_of, pushed, history_of}
 use Rattle.unit_model.proofs.Failing.{weaker}
 use Rattle.device_model.specs.Entering.{IsSent}
 use Rattle.device_model.specs.Answering.{HasEnded, IsTrue, IsAnsweredSo, NeverRan, AreAnswered}
-use Rattle.device_model.proofs.Traces.{leads_beginning, beginning_tail, keeps_on, told_on, told_at, told_there}
-use Rattle.device_model.proofs.Steps.{at_own, stands_on, so_on, so_new, done_at, commit_of, enter_stands, busy_stands, full_stands}
+use Rattle.device_model.proofs.Traces.{leads_beginning, beginning_tail, keeps_on, told_on, told_at}
+use Rattle.device_model.proofs.Steps.{at_own, stands_on, so_on, so_new, enter_stands, busy_stands, full_stands}
 use Rattle.device_model.proofs.Saying.{IsRefused, IsEndedBy, SlotSays}
 use Rattle.device_model.proofs.Knowing.{works_at, says_at, entered_sent}
-use Rattle.device_model.proofs.Counts.{flows_at, few_at, only_one, one_is, told_two, counted_told, uses_all}
+use Rattle.device_model.proofs.Committed.{run_told, never_ran}
+use Rattle.device_model.proofs.Counts.{flows_at, few_at, one_is, counted_told, uses_all}
 
 -- how a request ended is still so after one more transition
 
@@ -63,38 +63,44 @@ ended_on old x Ending.Busy d ds (inr h) = inr (inr h)
 ended_on old x Ending.Lost d ds h = h
 
 -- A Commit replies to its job's very task
-committing : (old : PlainWorld) (k : ℕ) (x : PlainJob) (r : PlainReply) (ds : List Transition) → Opens old
-    → Leads old (Transition.Commit k x r ∷ ds) → HasEnded old x (Ending.Replied r) (Transition.Commit k x r ∷ ds)
-committing old k x r ds o l =
-    let d = Transition.Commit k x r in
+committing : (old : PlainWorld) (d : Transition) (k : ℕ) (x : PlainJob) (r : PlainReply) (ds : List Transition) → Opens old → Leads old ds
+    → (m : HandAtUnit (world_of old ds) k (Hand.Taken x) x.unit) (e : Entry) → IsReady x.entry.ticket e m.unit.steps
+    → Replies m.unit e r → step_of x.unit d ≡ Some (Step.Commit x.entry.ticket r)
+    → HasEnded old x (Ending.Replied r) (d ∷ ds)
+committing old d k x r ds o l m e may replies step =
     let w = world_of old ds in
-    let m = l.1 in
-    let v = m.holds.unit in
+    let v = m.unit in
     let t = x.entry.ticket in
-    let work = all_work w (works_at old ds o l.0).3 in
-    let c = (work.seats k (record { hand = Hand.Taken x; out = m.holds.out }) m.holds.seat).0 in
-    let is : c.unit ≡ v = same (sym c.there ∙ m.holds.there) in
+    let work = all_work w (works_at old ds o l).3 in
+    let c = (work.seats k (record { hand = Hand.Taken x; out = m.out }) m.seat).0 in
+    let is : c.unit ≡ v = same (sym c.there ∙ m.there) in
     let there = subst (λ (z : PlainUnit). task_of t (alive z.steps) ≡ Some x.entry) is c.alive in
-    let one : m.may.0 ≡ x.entry = same (sym m.may.1.is_there ∙ there) in
-    let told = ((says_at old ds o l.0).units x.unit v m.holds.there).0 in
+    let one : e ≡ x.entry = same (sym may.is_there ∙ there) in
+    let told = ((says_at old ds o l).units x.unit v m.there).0 in
     let so : List Step → Type 0 =
     λ past. IsReady t x.entry past × MayReply told.opened.opening x.entry past r in
-    let ready = subst (λ z. IsReady t z v.steps) one m.may.1 in
+    let ready = subst (λ z. IsReady t z v.steps) one may in
     let reply = subst (λ z. MayReply z x.entry v.steps r) told.opening
-    (subst (λ z. MayReply v.opening z v.steps r) one (weaker v m.may.0 r m.may.2)) in
-    let before = subst so told.steps (ready, reply) in (
-      told.opened,
-      told.there,
-      so_new (step_of x.unit d) (Step.Commit t r) so (history_of x.unit ds)
-          (at_own x.unit x.unit (Step.Commit t r) refl) before,
-    )
+    (subst (λ z. MayReply v.opening z v.steps r) one (weaker v e r replies)) in
+    let before = subst so told.steps (ready, reply) in
+    (told.opened, told.there, so_new (step_of x.unit d) (Step.Commit t r) so (history_of x.unit ds) step before)
 
 commits : (old : PlainWorld) (x : PlainJob) (r : PlainReply) (d : Transition) (ds : List Transition) → Opens old
     → Leads old (d ∷ ds) → IsCommit x r d → HasEnded old x (Ending.Replied r) (d ∷ ds)
 commits old x r (Transition.Commit k y q) ds o l e =
     let d = Transition.Commit k y q in
+    let m = l.1 in
+    let step = at_own y.unit y.unit (Step.Commit y.entry.ticket q) refl in
     subst (λ z. HasEnded old z (Ending.Replied r) (d ∷ ds)) e.0
-    (subst (λ z. HasEnded old y (Ending.Replied z) (d ∷ ds)) e.1 (committing old k y q ds o l))
+    (subst (λ z. HasEnded old y (Ending.Replied z) (d ∷ ds)) e.1
+    (committing old d k y q ds o l.0 m.holds m.may.0 m.may.1 m.may.2 step))
+commits old x r (Transition.Withhold k y q) ds o l e =
+    let d = Transition.Withhold k y q in
+    let m = l.1 in
+    let step = at_own y.unit y.unit (Step.Commit y.entry.ticket q) refl in
+    subst (λ z. HasEnded old z (Ending.Replied r) (d ∷ ds)) e.0
+    (subst (λ z. HasEnded old y (Ending.Replied z) (d ∷ ds)) e.1
+    (committing old d k y q ds o l.0 m.holds m.may.0 m.may.1 m.may.2 step))
 commits old x r d ds o l e = absurd e
 
 -- what was aborted had entered, and its first mark is the reason
@@ -126,18 +132,19 @@ from_then old x e P ds l f h =
 
 -- the outcome in a hand is true of its job
 hand_true : (old : PlainWorld) (x : PlainJob) (out : Outcome) (ds : List Transition) → Opens old → Leads old ds
-    → (sent : IsSent old.inventory ds x) → IsEndedBy x out ds → IsTrue old sent.fetch out ds
-hand_true old x (Outcome.Ended (Ending.Replied r)) ds o l sent h =
-    let now = from_then old x (Ending.Replied r) (IsCommit x r) ds l (λ d past b e. commits old x r d past o b e) h in
+    → (sent : IsSent old.inventory ds x) → Happened (IsEnter x) ds → IsEndedBy x out ds → IsTrue old sent.fetch out ds
+hand_true old x (Outcome.Ended (Ending.Replied r)) ds o l sent entered h =
+    let told = run_told old ds x r o l entered h in
+    let now = from_then old x (Ending.Replied r) (IsCommit x r) ds l (λ d past b e. commits old x r d past o b e) told in
     (x, sent.job, now)
-hand_true old x (Outcome.Ended (Ending.Aborted why)) ds o l sent h =
+hand_true old x (Outcome.Ended (Ending.Aborted why)) ds o l sent entered h =
     let e = Ending.Aborted why in
     let now = from_then old x e (IsAbort x why) ds l (λ d past b p. aborts old x why d past o b p) h in
     (x, sent.job, now)
-hand_true old x (Outcome.Ended Ending.Busy) ds o l sent h = (x, sent.job, inl (busy_stands x ds h))
-hand_true old x (Outcome.Ended Ending.Full) ds o l sent h = absurd h
-hand_true old x (Outcome.Ended Ending.Lost) ds o l sent h = absurd h
-hand_true old x (Outcome.Decided a) ds o l sent h = absurd h
+hand_true old x (Outcome.Ended Ending.Busy) ds o l sent entered h = (x, sent.job, inl (busy_stands x ds h))
+hand_true old x (Outcome.Ended Ending.Full) ds o l sent entered h = absurd h
+hand_true old x (Outcome.Ended Ending.Lost) ds o l sent entered h = absurd h
+hand_true old x (Outcome.Decided a) ds o l sent entered h = absurd h
 
 -- an outcome is true of the Fetch of a chain
 abbrev IsTrueOf : PlainWorld → PlainChain → Outcome → List Transition → Type 0
@@ -186,64 +193,10 @@ answers_so old k x out xs ds o l =
       queue = m.queue;
       there = m.there;
       writes = m.writes;
-      truth = hand_true old x out ds o l.0 sent says.1;
+      truth = hand_true old x out ds o l.0 sent says.0 says.1;
     }
 
 -- Who was told that its task was aborted never ran
-
-one_abort : (x : PlainJob) (why : Reason) (d : Transition) → IsAbort x why d → 1 ≤ ends (only x.chain.ticket) d
-one_abort x why (Transition.CommitAborted k y q) e =
-    let n = only_one x.chain.ticket y.chain.ticket (ap (λ z. z.chain.ticket) e.0) in
-    omega (arith, n)
-one_abort x why d e = absurd e
-
-pub one_commit : (t : Ticket) (x : PlainJob) (r : PlainReply) (d : Transition) → x.chain.ticket ≡ t → IsCommit x r d
-    → 1 ≤ ends (only t) d
-one_commit t x r (Transition.Commit k y q) is e =
-    let n = only_one t y.chain.ticket (ap (λ z. z.chain.ticket) e.0 ∙ is) in
-    omega (arith, n)
-one_commit t x r d is e = absurd e
-
-not_both : (x y : PlainJob) (why : Reason) (r : PlainReply) (d : Transition) → IsAbort x why d → IsCommit y r d → ⊥
-not_both x y why r (Transition.CommitAborted k z q) a c = c
-not_both x y why r d a c = a
-
--- a Commit's job goes by its chain's ticket
-pub commit_named : (old : PlainWorld) (d : Transition) (ds : List Transition) (x : PlainJob) (r : PlainReply) → Opens old
-    → Leads old (d ∷ ds) → IsCommit x r d → x.entry.ticket ≡ x.chain.ticket
-commit_named old (Transition.Commit k y q) ds x r o l e =
-    let m = l.1 in
-    let says = ((says_at old ds o l.0).seats k (record { hand = Hand.Taken y; out = m.holds.out }) m.holds.seat).0 in
-    let sent = entered_sent old ds y o l.0 says in
-    subst (λ (z : PlainJob). z.entry.ticket ≡ z.chain.ticket) e.0 (sent.job.ticket ∙ ap (λ c. c.ticket) sent.job.chain)
-commit_named old d ds x r o l e = absurd e
-
--- the transition of a Commit in a history
-pub record IsRun (t : Ticket) (unit_index : ℕ) (r : PlainReply) (d : Transition) : Type 0 where
-  pub job : PlainJob
-  pub chain : job.chain.ticket ≡ t
-  pub commit : IsCommit job r d
-
-pub runs_by : (old : PlainWorld) (d : Transition) (ds : List Transition) (unit_index : ℕ) (t : Ticket) (r : PlainReply) → Opens old
-    → Leads old (d ∷ ds) → step_of unit_index d ≡ Some (Step.Commit t r) → IsRun t unit_index r d
-runs_by old d ds unit_index t r o l e =
-    let x = commit_of d unit_index t r e in
-    record { job = x.0; chain = sym (commit_named old d ds x.0 r o l x.3) ∙ x.2; commit = x.3 }
-
-never_ran : (old : PlainWorld) (x : PlainJob) (why : Reason) (ds : List Transition) → Opens old → Leads old ds
-    → Happened (IsAbort x why) ds → NeverRan x.chain.ticket ds
-never_ran old x why ds o l a unit_index r h =
-    let t = x.chain.ticket in
-    let q = done_at unit_index (Step.Commit t r) ds h in
-    let run = runs_by old q.0 q.1 unit_index t r o (leads_beginning old (q.0 ∷ q.1) ds q.2 l) q.3 in
-    let told = told_there (IsCommit run.job r) q.0 q.1 ds q.2 run.commit in
-    let two = told_two (IsAbort x why) (IsCommit run.job r) (ends (only t)) (one_abort x why)
-    (λ d e. one_commit t run.job r d run.chain e) (not_both x run.job why r) ds a told in
-    let n = few_at old ds t o l in
-    let a = n.ended in
-    let b = n.entered in
-    let c = n.fetched in
-    omega (arith, two, a, b, c)
 
 aborted_never : (old : PlainWorld) (k : ℕ) (x : PlainJob) (why : Reason) (xs : Completion) (past ds : List Transition)
     → Opens old → Leads old ds → IsBeginning (Transition.Answer k x (Outcome.Ended (Ending.Aborted why)) xs ∷ past) ds

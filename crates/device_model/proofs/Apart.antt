@@ -2,7 +2,6 @@
 use Rattle.std.proofs.Common.{◌≡◌, ℕ, List, Some, None, refl, sym, ◌∙◌, ap, inl, inr}
 use Rattle.std.specs.Prelude.{slice_get}
 use Rattle.unit_model.specs.Endings.{Ending}
-use Rattle.ring_core.specs.Writes.{all_written}
 use Rattle.ring_core.specs.declared.fault.RingFault.{RingFault}
 use Rattle.device_model.specs.Parts.{Outcome, Slot}
 use Rattle.device_model.specs.World.{PlainQueue, PlainWorld, change}

@@ -91,6 +91,8 @@ applies (Transition.CommitBusy k x) w h = (x, (h.holds.out, h.holds.seat))
 applies (Transition.CommitAborted k x why) w h = (x, (h.holds.out, h.holds.seat))
 applies (Transition.CommitUnknown k x) w h = absurd h
 applies (Transition.Defer k x) w h = (x, (h.holds.out, h.holds.seat))
+applies (Transition.Withhold k x r) w h = (x, (h.holds.out, h.holds.seat))
+applies (Transition.Conclude k x r) w h = (x, (h.holds.out, h.holds.seat))
 applies Transition.Wake w h = h
 applies (Transition.Resume k x) w h =
     record { worker = h.worker; free = h.free; job = x; rest = h.rest; first = h.first }

@@ -316,6 +316,20 @@ places v (Transition.Defer k x) w m b h =
       h.4,
       h.5,
     )
+places v (Transition.Withhold k x r) w m b h =
+    let j = (h.2 k (record { hand = Hand.Taken x; out = m.holds.out }) m.holds.seat).0 in
+    let a = between_parts (IsJob v) (all_off w) w.aside w.woken h.3 in (
+      h.0,
+      steps v (Step.Commit x.entry.ticket r) x.unit w.units h.1,
+      turns v Hand.Empty k w.seats tt h.2,
+      between_all (IsJob v) (all_off w) (w.aside ++ x ∷ []) w.woken a.0 (each_push (IsJob v) w.aside x a.1 j) a.2,
+      h.4,
+      h.5,
+    )
+places v (Transition.Conclude k x r) w m b h =
+    let j = (h.2 k (record { hand = Hand.Taken x; out = m.holds.out }) m.holds.seat).0 in
+    let new = Hand.Done x (Outcome.Ended (Ending.Replied r)) in
+    (h.0, h.1, turns v new k w.seats j h.2, h.3, h.4, h.5)
 places v Transition.Wake w m b h =
     (h.0, h.1, h.2, each_woken (IsJob v) (all_off w) w.aside w.woken h.3, h.4, h.5)
 places v (Transition.Resume k x) w m b h =

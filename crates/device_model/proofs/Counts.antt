@@ -1,5 +1,5 @@
 -- How often transitions of some kind were done.
-use Rattle.std.proofs.Common.{◌≡◌, ℕ, ◌+◌, ◌≤◌, Bool, true, false, List, [], ◌∷◌, Some, map, refl, sym, ap, subst, arith, inl, inr, zero, suc}
+use Rattle.std.proofs.Common.{◌≡◌, ℕ, ◌+◌, ◌≤◌, Bool, true, false, List, [], ◌∷◌, Some, map, refl, sym, ◌∙◌, ap, subst, arith, inl, inr, zero, suc}
 use Rattle.std.specs.Prelude.{◌⊎◌}
 use Rattle.std.specs.List.{AllByRecursion, sum_by}
 use Rattle.std.proofs.lemmas.List.Sums.{sum_by-cons}
@@ -7,6 +7,7 @@ use Rattle.ring_core.specs.State.{PlainChain}
 use Rattle.ring_core.specs.declared.log.Ticket.{Ticket}
 use Rattle.unit_model.specs.Tasks.{same_ticket}
 use Rattle.unit_model.proofs.Tickets.{eq-same, same-true}
+use Rattle.unit_model.specs.Jobs.{PlainJob}
 use Rattle.device_model.specs.World.{Opened, PlainWorld, Opens}
 use Rattle.device_model.specs.Transitions.{Transition}
 use Rattle.device_model.specs.Changing.{bit}
@@ -18,6 +19,7 @@ use Rattle.device_model.specs.Inner.Weights.{enters, ends, leaves, IsFlowing}
 use Rattle.device_model.proofs.Owning.{owned}
 use Rattle.device_model.proofs.Flowing.{run_flows, tallies, fetched_once}
 use Rattle.device_model.specs.Happened.{Happened, IsBeginning}
+use Rattle.device_model.specs.Inner.Happened.{IsEnter}
 use Rattle.device_model.proofs.Traces.{leads_run, run_transitions}
 
 pub flows_at : (old : PlainWorld) (ds : List Transition) → Opens old → Leads old ds → IsFlowing ds (world_of old ds)
@@ -85,25 +87,50 @@ told_counts P f one (d ∷ ds) (inr h) =
     let c = sum_by-cons f d ds in
     omega (arith, q, c)
 
--- two transitions of different kinds count twice
-pub told_two : (P Q : Transition → Type 0) (f : Transition → ℕ) → ((d : Transition) → P d → 1 ≤ f d) → ((d : Transition) → Q d → 1 ≤ f d)
-    → ((d : Transition) → P d → Q d → ⊥) → (ds : List Transition) → Happened P ds → Happened Q ds → 2 ≤ sum_by f ds
-told_two P Q f a b apart [] h k = absurd h
-told_two P Q f a b apart (d ∷ ds) (inl p) (inl q) = absurd (apart d p q)
-told_two P Q f a b apart (d ∷ ds) (inl p) (inr k) =
+-- what counts once is one transition
+pub told_one : (P Q : Transition → Type 0) (f : Transition → ℕ) → ((d : Transition) → P d → 1 ≤ f d) → ((d : Transition) → Q d → 1 ≤ f d)
+    → (ds : List Transition) → sum_by f ds ≤ 1 → Happened P ds → Happened Q ds → (d : Transition) × P d × Q d
+told_one P Q f a b [] few h k = absurd h
+told_one P Q f a b (d ∷ ds) few (inl p) (inl q) = (d, p, q)
+told_one P Q f a b (d ∷ ds) few (inl p) (inr k) =
     let x = a d p in
     let y = told_counts Q f b ds k in
     let c = sum_by-cons f d ds in
-    omega (arith, x, y, c)
-told_two P Q f a b apart (d ∷ ds) (inr h) (inl q) =
+    absurd (omega (arith, x, y, c, few))
+told_one P Q f a b (d ∷ ds) few (inr h) (inl q) =
     let x = b d q in
     let y = told_counts P f a ds h in
     let c = sum_by-cons f d ds in
-    omega (arith, x, y, c)
-told_two P Q f a b apart (d ∷ ds) (inr h) (inr k) =
-    let y = told_two P Q f a b apart ds h k in
+    absurd (omega (arith, x, y, c, few))
+told_one P Q f a b (d ∷ ds) few (inr h) (inr k) =
     let c = sum_by-cons f d ds in
-    omega (arith, y, c)
+    told_one P Q f a b ds (omega (arith, c, few)) h k
+
+pub enter_counts : (t : Ticket) (x : PlainJob) → x.chain.ticket ≡ t → (d : Transition) → IsEnter x d → 1 ≤ enters (only t) d
+enter_counts t x is (Transition.Run y) e =
+    let n = only_one t y.chain.ticket (ap (λ (z : PlainJob). z.chain.ticket) e ∙ is) in
+    omega (arith, n)
+enter_counts t x is (Transition.Park y) e =
+    let n = only_one t y.chain.ticket (ap (λ (z : PlainJob). z.chain.ticket) e ∙ is) in
+    omega (arith, n)
+enter_counts t x is d e = absurd e
+
+same_enter : (x y : PlainJob) (d : Transition) → IsEnter x d → IsEnter y d → x ≡ y
+same_enter x y (Transition.Run z) a b = sym a ∙ b
+same_enter x y (Transition.Park z) a b = sym a ∙ b
+same_enter x y d a b = absurd a
+
+-- two jobs of one ticket that entered are one
+pub one_entered : (old : PlainWorld) (x y : PlainJob) (ds : List Transition) → Opens old → Leads old ds
+    → y.chain.ticket ≡ x.chain.ticket → Happened (IsEnter x) ds → Happened (IsEnter y) ds → x ≡ y
+one_entered old x y ds o l is h k =
+    let t = x.chain.ticket in
+    let few = few_at old ds t o l in
+    let a = few.entered in
+    let b = few.fetched in
+    let d = told_one (IsEnter x) (IsEnter y) (enters (only t)) (λ d e. enter_counts t x refl d e)
+    (λ d e. enter_counts t y is d e) ds (omega (arith, a, b)) h k in
+    same_enter x y d.0 d.1 d.2
 
 -- and what counts was told
 pub counted_told : (f : Transition → ℕ) (P : Transition → Type 0) → ((d : Transition) → 1 ≤ f d → P d) → (ds : List Transition)

@@ -11,7 +11,7 @@ use Rattle.device_model.specs.Parts.{is_short}
 use Rattle.device_model.specs.World.{PlainWorld, Opens}
 use Rattle.device_model.specs.Transitions.{Transition}
 use Rattle.device_model.specs.Event.Hard.{hard_report, reports_of}
-use Rattle.device_model.specs.Event.Resize.{change_report, change_reports}
+use Rattle.device_model.specs.Event.Resize.{change_reports}
 use Rattle.device_model.specs.After.{after}
 use Rattle.device_model.specs.Happens.{MayHappen, Leads, world_of}
 use Rattle.device_model.proofs.Staying.{tells_after}

@@ -3,7 +3,6 @@ use Rattle.std.proofs.Common.{◌≡◌, ℕ, ◌+◌, ◌<◌, ◌≤◌, Bool,
 use Rattle.std.specs.Prelude.{slice_get}
 use Rattle.std.proofs.lemmas.List.{length-append}
 use Rattle.ring_core.specs.State.{PlainChain, next_ticket}
-use Rattle.ring_core.specs.Writes.{all_written}
 use Rattle.ring_core.specs.declared.log.Ticket.{Ticket}
 use Rattle.unit_model.specs.Endings.{Ending}
 use Rattle.unit_model.specs.Steps.{Step, next_number}
@@ -331,6 +330,8 @@ transition_orders (Transition.Give e c xs) w m h =
     let g = completing xs.seen c in
     keeps (length w.inventory.addresses) g c.ticket.queue w.units w.queues (λ q. refl) (λ q. refl) h
 transition_orders (Transition.Commit k x r) w m h =
+    units_on (length w.inventory.addresses) (Step.Commit x.entry.ticket r) x.unit w.units w.queues (λ i l. refl) h
+transition_orders (Transition.Withhold k x r) w m h =
     units_on (length w.inventory.addresses) (Step.Commit x.entry.ticket r) x.unit w.units w.queues (λ i l. refl) h
 transition_orders (Transition.CommitBusy k x) w m h =
     units_on (length w.inventory.addresses) (Step.Busy x.entry.ticket) x.unit w.units w.queues (λ i l. refl) h

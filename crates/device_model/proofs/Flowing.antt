@@ -236,6 +236,15 @@ held_transition f w (Transition.Defer k x) h =
     let s = turns f k w.seats (Hand.Taken x) Hand.Empty h.holds.out h.holds.seat in
     let a = sum_by_push (of_job f.aside) w.aside x in
     omega (arith, s, a)
+held_transition f w (Transition.Withhold k x r) h =
+    let s = turns f k w.seats (Hand.Taken x) Hand.Empty h.holds.out h.holds.seat in
+    let a = sum_by_push (of_job f.aside) w.aside x in
+    let u = stays f.kept (Step.Commit x.entry.ticket r) x.unit w.units h.holds.unit h.holds.there refl in
+    omega (arith, s, a, u)
+held_transition f w (Transition.Conclude k x r) h =
+    let new = Hand.Done x (Outcome.Ended (Ending.Replied r)) in
+    let s = turns f k w.seats (Hand.Taken x) new h.holds.out h.holds.seat in
+    omega (arith, s)
 held_transition f w Transition.Wake h =
     let a = sum_by-append (of_job f.aside) w.woken w.aside in
     omega (arith, a)
@@ -327,6 +336,9 @@ entered_transition p (Transition.EnterFull x) w a h =
 entered_transition p (Transition.Commit k x r) w a h =
     let u = same_sum (entered_count p) (stepped (Step.Commit x.entry.ticket r)) x.unit w.units (λ v. refl) in
     omega (arith, u)
+entered_transition p (Transition.Withhold k x r) w a h =
+    let u = same_sum (entered_count p) (stepped (Step.Commit x.entry.ticket r)) x.unit w.units (λ v. refl) in
+    omega (arith, u)
 entered_transition p (Transition.CommitBusy k x) w a h =
     let u = same_sum (entered_count p) (stepped (Step.Busy x.entry.ticket)) x.unit w.units (λ v. refl) in
     omega (arith, u)
@@ -365,6 +377,9 @@ alive_transition p (Transition.EnterFull x) w a h =
     let u = same_sum (living_count p) (stepped (Step.Full x.entry.ticket)) x.unit w.units (λ v. refl) in
     omega (arith, u)
 alive_transition p (Transition.Commit k x r) w a h =
+    let u = same_sum (living_count p) (stepped (Step.Commit x.entry.ticket r)) x.unit w.units (λ v. refl) in
+    omega (arith, u)
+alive_transition p (Transition.Withhold k x r) w a h =
     let u = same_sum (living_count p) (stepped (Step.Commit x.entry.ticket r)) x.unit w.units (λ v. refl) in
     omega (arith, u)
 alive_transition p (Transition.CommitBusy k x) w a h =

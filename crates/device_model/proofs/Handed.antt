@@ -15,7 +15,7 @@ use Rattle.unit_model.proofs.Fresh.{fresh, none_of, above_fresh, fresh_undone}
 use Rattle.unit_model.proofs.Clearing.{Each, each_filter}
 use Rattle.unit_model.proofs.Distinct.{task_without_other, alive_distinct}
 use Rattle.unit_model.proofs.Filtered.{filter_found, each_passes}
-use Rattle.unit_model.proofs.Blocking.{enabled_entering, enabled_lasts}
+use Rattle.unit_model.proofs.Blocking.{enabled_entering}
 use Rattle.unit_model.proofs.Leaving.{done_enabled, leaves_handed}
 use Rattle.unit_model.proofs.Keeping.{all_own}
 use Rattle.unit_model.proofs.Marking.{done_on, marked_lasts}
@@ -52,7 +52,7 @@ found_push t f (x ∷ es) e h =
       | false ↦ λ k. found_push t f es e k
     ]) h
 
-alive_on : (s : Step) (t : Ticket) (past : List Step) (e : Entry) → Spares s t → task_of t (alive past) ≡ Some e
+pub alive_on : (s : Step) (t : Ticket) (past : List Step) (e : Entry) → Spares s t → task_of t (alive past) ≡ Some e
     → task_of t (alive (s ∷ past)) ≡ Some e
 alive_on (Step.Enter f) t past e sp h = found_push t f (alive past) e h
 alive_on (Step.Leave u) t past e sp h = task_without_other t u (alive past) sp ∙ h
@@ -63,7 +63,7 @@ alive_on (Step.Busy u) t past e sp h = h
 alive_on (Step.Abort rule) t past e sp h = h
 alive_on (Step.Reset c) t past e sp h = h
 
-undone_on : (s : Step) (t : Ticket) (past : List Step) → Spares s t → done t past ≡ false → done t (s ∷ past) ≡ false
+pub undone_on : (s : Step) (t : Ticket) (past : List Step) → Spares s t → done t past ≡ false → done t (s ∷ past) ≡ false
 undone_on (Step.Commit u r) t past sp h = ap (λ b. b || done t past) sp ∙ h
 undone_on (Step.Busy u) t past sp h = ap (λ b. b || done t past) sp ∙ h
 undone_on (Step.Enter f) t past sp h = h
@@ -73,19 +73,11 @@ undone_on (Step.Leave u) t past sp h = h
 undone_on (Step.Abort rule) t past sp h = h
 undone_on (Step.Reset c) t past sp h = h
 
-either : (a b c d : Bool) → (a ≡ true → c ≡ true) → (b ≡ true → d ≡ true) → (a || b) ≡ true → (c || d) ≡ true
+pub either : (a b c d : Bool) → (a ≡ true → c ≡ true) → (b ≡ true → d ≡ true) → (a || b) ≡ true → (c || d) ≡ true
 either true b c d f g h = ap (λ x. x || d) (f refl)
 either false b c d f g h = or_right c d (g h)
 
 -- a task that the step spares stays as it is
-pub open_on : (s : Step) (e : Entry) (past : List Step) → Spares s e.ticket → IsOpen e past → IsOpen e (s ∷ past)
-open_on s e past sp h = (
-  alive_on s e.ticket past e sp h.0,
-  either (enabled e past) (marked e.ticket past) (enabled e (s ∷ past)) (marked e.ticket (s ∷ past))
-      (enabled_lasts e (s ∷ []) past) (marked_lasts e.ticket (s ∷ []) past) h.1,
-  undone_on s e.ticket past sp h.2,
-)
-
 pub ended_on : (s : Step) (t : Ticket) (past : List Step) → Spares s t → IsEnded t past → IsEnded t (s ∷ past)
 ended_on s t past sp h = (
   h.0,

@@ -1,6 +1,6 @@
 -- What applies happens.
 use Rattle.std.proofs.Common.{◌≡◌, ℕ, ◌<◌, ◌≤◌, ◌+◌, ◌-◌, ◌||◌, Bool, true, false, List, [], ◌∷◌, length, mod-lt, Option, Some, None, is_some, IfSome, ◌&&◌, refl, sym, ◌∙◌, ap, subst, arith, inl, inr}
-use Rattle.std.specs.Prelude.{slice_get, ◌⊎◌}
+use Rattle.std.specs.Prelude.{slice_get, ◌⊎◌, ◌==◌}
 use Rattle.std.specs.List.{AllByRecursion}
 use Rattle.std.proofs.lemmas.Option.{slice_get_cases, slice_get_within}
 use Rattle.scsi_codec.specs.declared.event_queue.Event.{Event as EventRecord}
@@ -15,9 +15,11 @@ use Rattle.unit_model.specs.Marks.{mark_of, marked}
 use Rattle.unit_model.specs.Enabling.{enabled}
 use Rattle.unit_model.specs.Lawful.{IsReady}
 use Rattle.block_store.specs.Storage.{Ledger}
-use Rattle.command_model.specs.Waiting.{needs}
+use Rattle.command_model.specs.Effects.{changes_medium}
+use Rattle.command_model.specs.Statuses.{good}
+use Rattle.command_model.specs.Waiting.{needs, waits_at}
 use Rattle.unit_model.specs.Contents.{capacity_of, reply_after}
-use Rattle.unit_model.specs.Unit.{may_wait}
+use Rattle.unit_model.specs.Unit.{is_backed, tells_no_cache, may_wait}
 use Rattle.unit_model.specs.Seen.{any_met}
 use Rattle.unit_model.proofs.Few.{alive_few}
 use Rattle.unit_model.specs.Jobs.{PlainJob}
@@ -218,17 +220,26 @@ or_true true = refl
 or_true false = refl
 
 -- a command that doesn't wait promises nothing of a storage
-nothing_promised : (backed : Bool) (needed flush : Bool) (storage : Option Ledger) (P : Ledger → Type 0) → is_some storage ≡ backed
-    → (backed && (needed || flush)) ≡ false → flush ≡ true → IfSome storage P
-nothing_promised backed needed flush None P is calm flushes = tt
-nothing_promised backed needed flush (Some l) P is calm flushes =
+nothing_promised : (backed : Bool) (needed flush through : Bool) (storage : Option Ledger) (P : Ledger → Type 0) → is_some storage ≡ backed
+    → (backed && ((needed || flush) || through)) ≡ false → flush ≡ true → IfSome storage P
+nothing_promised backed needed flush through None P is calm flushes = tt
+nothing_promised backed needed flush through (Some l) P is calm flushes =
     let never : true ≡ false = rw (sym is, flushes, or_true needed) at calm in absurd (cc)
+
+-- nor is its answer withheld
+answers_at_once : (backed calm tells changes well : Bool) → (backed && (calm || (tells && changes))) ≡ false
+    → (backed && (tells && (changes && well))) ≡ true → ⊥
+answers_at_once true true tells changes well a b = cc
+answers_at_once true false true true well a b = cc
+answers_at_once true false true false well a b = cc
+answers_at_once true false false changes well a b = cc
+answers_at_once false calm tells changes well a b = cc
 
 -- a command that may run does, or waits for the storage
 run_or_wait : (w : PlainWorld) (k : ℕ) (x : PlainJob) (holds : HandAtUnit w k (Hand.Taken x) x.unit)
     → IsReady x.entry.ticket x.entry holds.unit.steps → (b : Bool) → may_wait holds.unit x.entry.command ≡ b → Does w (Event.Commit k)
 run_or_wait w k x holds ready true waits =
-    (Transition.Defer k x, refl, record { holds = holds; entry = x.entry; ready = ready; waits = waits })
+    (Transition.Defer k x, refl, record { holds = holds; entry = x.entry; waits = inl (ready, waits) })
 run_or_wait w k x holds ready false calm = (
   Transition.Commit k x (reply_after holds.unit.opening x.entry holds.unit.steps),
   refl,
@@ -240,8 +251,12 @@ run_or_wait w k x holds ready false calm = (
       inl (
         refl,
         λ ends flush.
-            nothing_promised _ (needs (capacity_of holds.unit.opening holds.unit.steps) x.entry.command) _ holds.unit.storage _ refl calm flush,
+            nothing_promised _ (needs (capacity_of holds.unit.opening holds.unit.steps) x.entry.command) _ _ holds.unit.storage _ refl calm flush,
       ),
+      λ waits.
+          absurd (answers_at_once (is_backed holds.unit) (waits_at (capacity_of holds.unit.opening holds.unit.steps) x.entry.command)
+          (tells_no_cache holds.unit) (changes_medium x.entry.command)
+          ((reply_after holds.unit.opening x.entry holds.unit.steps).status == good) calm waits),
     );
   },
 )
@@ -253,17 +268,21 @@ commits w k x out c at =
     let h = c.unit.steps in
     let holds : HandAtUnit w k (Hand.Taken x) x.unit =
     record { out = out; seat = at; unit = c.unit; there = c.there } in
-    (elim (marked t h) as (λ b. marked t h ≡ b → Does w (Event.Commit k)) [
-      | true ↦ λ m.
-          let why = some_reason (mark_of t h) m in
-          let alive = ap (λ o. is_some o) c.alive in
-          (Transition.CommitAborted k x why.0, refl, record { holds = holds; alive = alive; marked = why.1 })
-      | false ↦ λ m.
-          let on = or_left (enabled x.entry h) (marked t h) c.handed_out m in
-          let ready : IsReady t x.entry h =
-          record { is_there = c.alive; is_enabled = on; is_unmarked = m; is_undone = c.undone } in
-          run_or_wait w k x holds ready (may_wait c.unit x.entry.command) refl
-    ]) refl
+    elim c.undone [
+      | inl undone ↦
+          (elim (marked t h) as (λ b. marked t h ≡ b → Does w (Event.Commit k)) [
+            | true ↦ λ m.
+                let why = some_reason (mark_of t h) m in
+                let alive = ap (λ o. is_some o) c.alive in
+                (Transition.CommitAborted k x why.0, refl, record { holds = holds; alive = alive; marked = why.1 })
+            | false ↦ λ m.
+                let on = or_left (enabled x.entry h) (marked t h) c.handed_out m in
+                let ready : IsReady t x.entry h =
+                record { is_there = c.alive; is_enabled = on; is_unmarked = m; is_undone = undone } in
+                run_or_wait w k x holds ready (may_wait c.unit x.entry.command) refl
+          ]) refl
+      | inr withheld ↦ (Transition.Defer k x, refl, record { holds = holds; entry = x.entry; waits = inr withheld })
+    ]
 
 -- Answer and Leave
 

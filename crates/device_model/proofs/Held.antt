@@ -7,7 +7,6 @@ use Rattle.std.proofs.lemmas.Bool.{eq-eqb}
 use Rattle.std.proofs.Math.Dec.{eqb-suc-zero, eqb-zero-suc, eqb-suc-suc}
 use Rattle.unit_model.specs.Endings.{Ending}
 use Rattle.ring_core.specs.State.{PlainChain, tickets}
-use Rattle.ring_core.specs.Writes.{all_written}
 use Rattle.ring_core.specs.declared.log.Ticket.{Ticket}
 use Rattle.device_model.specs.Parts.{Outcome, Slot}
 use Rattle.device_model.specs.World.{PlainQueue, PlainWorld, Opens, change, Everywhere}

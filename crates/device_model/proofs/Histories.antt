@@ -18,7 +18,7 @@ use Rattle.device_model.specs.Lawful.{AreUnits}
 use Rattle.device_model.proofs.Lists.{same}
 use Rattle.device_model.proofs.Staying.{everywhere}
 use Rattle.device_model.proofs.Holding.{IsFree, unit_goes, unit_parks}
-use Rattle.unit_model.proofs.Failing.{commit_steps}
+use Rattle.unit_model.proofs.Failing.{commit_steps, withhold_steps}
 
 abbrev All : List PlainUnit → Type 0
 All us = Everywhere (λ i u. IsUnit u) us
@@ -68,6 +68,9 @@ transition_units (Transition.EnterFull x) w m h =
 transition_units (Transition.Commit k x r) w m h =
     one_goes (Step.Commit x.entry.ticket r) x.unit w.units m.holds.unit m.holds.there
     (commit_steps m.holds.unit x.entry.ticket r m.may) tt h
+transition_units (Transition.Withhold k x r) w m h =
+    one_goes (Step.Commit x.entry.ticket r) x.unit w.units m.holds.unit m.holds.there
+    (withhold_steps m.holds.unit x.entry.ticket r m.may) tt h
 transition_units (Transition.CommitBusy k x) w m h =
     one_goes (Step.Busy x.entry.ticket) x.unit w.units m.holds.unit m.holds.there m.may tt h
 transition_units (Transition.Leave k unit_index t jobs) w m h =

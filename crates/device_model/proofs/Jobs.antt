@@ -102,6 +102,14 @@ kept p (Transition.Defer k x) w h =
     let t = turns p k w.seats (Hand.Taken x) Hand.Empty h.holds.out h.holds.seat in
     let a = sum_by_push p w.aside x in
     omega (arith, t, a)
+kept p (Transition.Withhold k x r) w h =
+    let t = turns p k w.seats (Hand.Taken x) Hand.Empty h.holds.out h.holds.seat in
+    let a = sum_by_push p w.aside x in
+    omega (arith, t, a)
+kept p (Transition.Conclude k x r) w h =
+    let new = Hand.Done x (Outcome.Ended (Ending.Replied r)) in
+    let t = turns p k w.seats (Hand.Taken x) new h.holds.out h.holds.seat in
+    omega (arith, t)
 kept p Transition.Wake w h = let a = sum_by-append p w.woken w.aside in omega (arith, a)
 kept p (Transition.Resume k x) w h =
     let t = turns p k w.seats Hand.Empty (Hand.Taken x) h.free.0 h.free.1 in

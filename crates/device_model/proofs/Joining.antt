@@ -109,12 +109,11 @@ joins (Transition.CommitBusy k x) w s u q =
 joins (Transition.CommitAborted k x why) w s u q =
     record { holds = holds w k (Hand.Taken x) x.unit u.0 s u.1; alive = u.2.0; marked = u.2.1 }
 joins (Transition.Defer k x) w s u q =
-    record {
-      holds = holds w k (Hand.Taken x) x.unit u.0 s u.1;
-      entry = u.2.0;
-      ready = u.2.1;
-      waits = u.2.2;
-    }
+    record { holds = holds w k (Hand.Taken x) x.unit u.0 s u.1; entry = u.2.0; waits = u.2.1 }
+joins (Transition.Withhold k x r) w s u q =
+    record { holds = holds w k (Hand.Taken x) x.unit u.0 s u.1; may = u.2 }
+joins (Transition.Conclude k x r) w s u q =
+    record { holds = holds w k (Hand.Taken x) x.unit u.0 s u.1; may = u.2 }
 joins Transition.Wake w s u q = s
 joins (Transition.Resume k x) w s u q = s
 joins (Transition.Answer k x o xs) w s u q =

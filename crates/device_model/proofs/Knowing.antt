@@ -8,12 +8,12 @@ use Rattle.unit_model.specs.Steps.{Step, alive, done, next_number}
 use Rattle.unit_model.specs.Marks.{mark_of, marked}
 use Rattle.unit_model.specs.Enabling.{enabled}
 use Rattle.unit_model.specs.Jobs.{PlainJob}
-use Rattle.unit_model.specs.Unit.{PlainUnit}
+use Rattle.unit_model.specs.Unit.{PlainUnit, IsWithheld}
 use Rattle.unit_model.specs.Receipts.{unit_address}
 use Rattle.unit_model.specs.Asking.{IsOf}
 use Rattle.task_mgmt.specs.declared.kind.MarkBy.TheVariants.{Abort, Reset}
-use Rattle.device_model.specs.Parts.{Hand, Slot}
-use Rattle.device_model.specs.World.{PlainQueue, PlainWorld, Opens, AreAddressed}
+use Rattle.device_model.specs.Parts.{Hand}
+use Rattle.device_model.specs.World.{PlainWorld, Opens, AreAddressed}
 use Rattle.command_model.specs.Identity.{told_by}
 use Rattle.device_model.specs.Addressed.{IsAddressed}
 use Rattle.device_model.specs.Transitions.{Transition}
@@ -61,19 +61,22 @@ never_lost k x w m h =
     let is : c.unit ≡ u = same (sym c.there ∙ m.holds.there) in
     let there = subst (λ (z : PlainUnit). task_of t (alive z.steps) ≡ Some x.entry) is c.alive in
     let out = subst (λ (z : PlainUnit). (enabled x.entry z.steps || marked t z.steps) ≡ true) is c.handed_out in
-    let undone = subst (λ (z : PlainUnit). done t z.steps ≡ false) is c.undone in
     let of : IsOf x x.entry u.steps = record { is_there = there; as_asked = refl } in
-    (elim (mark_of t u.steps) as (λ o. mark_of t u.steps ≡ o → ⊥) [
-      | Some why ↦ λ q. m.not_marked x.entry why of q
-      | None ↦ λ q.
-          let off = ap (λ (o : Option Reason). is_some o) q in
-          m.not_ready x.entry of (record {
-            is_there = there;
-            is_enabled = left_on (enabled x.entry u.steps) (marked t u.steps) off out;
-            is_unmarked = off;
-            is_undone = undone;
-          })
-    ]) refl
+    elim c.undone [
+      | inl undone ↦
+          (elim (mark_of t u.steps) as (λ o. mark_of t u.steps ≡ o → ⊥) [
+            | Some why ↦ λ q. m.not_marked x.entry why of q
+            | None ↦ λ q.
+                let off = ap (λ (o : Option Reason). is_some o) q in
+                m.not_ready x.entry of (record {
+                  is_there = there;
+                  is_enabled = left_on (enabled x.entry u.steps) (marked t u.steps) off out;
+                  is_unmarked = off;
+                  is_undone = subst (λ (z : PlainUnit). done t z.steps ≡ false) is undone;
+                })
+          ]) refl
+      | inr r ↦ m.not_withheld x.entry r.0 of (subst (λ (z : PlainUnit). IsWithheld z t x.entry r.0) is r.1)
+    ]
 
 -- each unit has what stands in the inventory at its index
 addressed_where : (old : PlainWorld) (ds : List Transition) (w : PlainWorld) → Opens old → w.inventory ≡ old.inventory → Says old ds w
@@ -162,6 +165,7 @@ unit_in (Transition.Run x) w s m e = (m.comes.unit, m.comes.unit_there)
 unit_in (Transition.Park x) w s m e = (m.comes.unit, m.comes.unit_there)
 unit_in (Transition.EnterFull x) w s m e = (m.comes.unit, m.comes.unit_there)
 unit_in (Transition.Commit k x r) w s m e = (m.holds.unit, m.holds.there)
+unit_in (Transition.Withhold k x r) w s m e = (m.holds.unit, m.holds.there)
 unit_in (Transition.CommitBusy k x) w s m e = (m.holds.unit, m.holds.there)
 unit_in (Transition.Leave k unit_index t jobs) w s m e = (m.holds.unit, m.holds.there)
 unit_in (Transition.Mark t p (Abort rule) jobs) w s m e = (m.marking.unit, m.marking.unit_there)

@@ -24,6 +24,7 @@ pub mod Outstanding
 pub mod Chains
 pub mod Owning
 pub mod Handed
+pub mod Withheld
 pub mod Sums
 pub mod Named
 pub mod Tasks
@@ -52,6 +53,7 @@ pub mod Saying
 pub mod Knowing
 pub mod Counts
 pub mod Entering
+pub mod Committed
 pub mod Answering
 pub mod Ordering
 pub mod Events

@@ -117,6 +117,8 @@ lowers (Transition.Commit k x r) w h = let a = held_transition owed w (Transitio
 lowers (Transition.CommitBusy k x) w h = let a = held_transition owed w (Transition.CommitBusy k x) h in omega (arith, a)
 lowers (Transition.CommitAborted k x why) w h = let a = held_transition owed w (Transition.CommitAborted k x why) h in omega (arith, a)
 lowers (Transition.Defer k x) w h = let a = held_transition owed w (Transition.Defer k x) h in omega (arith, a)
+lowers (Transition.Withhold k x r) w h = let a = held_transition owed w (Transition.Withhold k x r) h in omega (arith, a)
+lowers (Transition.Conclude k x r) w h = let a = held_transition owed w (Transition.Conclude k x r) h in omega (arith, a)
 lowers Transition.Wake w h =
     let a = held_transition owed w Transition.Wake h in
     let n = length-append w.woken w.aside in

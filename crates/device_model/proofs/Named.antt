@@ -158,6 +158,7 @@ units_after (Transition.Park x) w m h =
     (λ u at n. all_push (IsFor x.unit) u.parked (x ∷ []) n ((refl, e), tt)) h.1
 units_after (Transition.EnterFull x) w m h = steps (Step.Full x.entry.ticket) x.unit w.units h.1
 units_after (Transition.Commit k x r) w m h = steps (Step.Commit x.entry.ticket r) x.unit w.units h.1
+units_after (Transition.Withhold k x r) w m h = steps (Step.Commit x.entry.ticket r) x.unit w.units h.1
 units_after (Transition.CommitBusy k x) w m h = steps (Step.Busy x.entry.ticket) x.unit w.units h.1
 units_after (Transition.Leave k unit_index t jobs) w m h = steps (Step.Leave t) unit_index w.units h.1
 units_after (Transition.Mark t p s jobs) w m h = steps (step_by s) p.unit w.units h.1
@@ -203,6 +204,8 @@ outs_after (Transition.CommitUnknown i x) w m h =
     let t = turns misnamed i w.seats (Hand.Taken x) new m.holds.out m.holds.seat in
     omega (arith, t, h.2)
 outs_after (Transition.Defer i x) w m h = let k = kept misnamed (Transition.Defer i x) w m in omega (arith, k, h.2)
+outs_after (Transition.Withhold i x r) w m h = let k = kept misnamed (Transition.Withhold i x r) w m in omega (arith, k, h.2)
+outs_after (Transition.Conclude i x r) w m h = let k = kept misnamed (Transition.Conclude i x r) w m in omega (arith, k, h.2)
 outs_after Transition.Wake w m h = let k = kept misnamed Transition.Wake w m in omega (arith, k, h.2)
 outs_after (Transition.Resume i x) w m h = let k = kept misnamed (Transition.Resume i x) w m in omega (arith, k, h.2)
 outs_after (Transition.Answer i x o xs) w m h =

@@ -4,7 +4,6 @@ use Rattle.std.specs.Prelude.{length}
 use Rattle.std.proofs.lemmas.List.{length-append}
 use Rattle.unit_model.specs.Endings.{Ending}
 use Rattle.ring_core.specs.State.{tickets}
-use Rattle.ring_core.specs.Writes.{all_written}
 use Rattle.ring_core.specs.declared.log.Ticket.{Ticket}
 use Rattle.device_model.specs.Parts.{Outcome, Slot}
 use Rattle.device_model.specs.World.{PlainQueue, PlainWorld, Opens, IsNewQueue, change, Everywhere}

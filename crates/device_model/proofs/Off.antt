@@ -104,7 +104,7 @@ none_off (l ∷ ls) h =
 
 -- Jobs that no seat has
 
--- those of the hand-off, those that wait for pages, and those that are to be tried again
+-- those of the hand-off, those that wait, and those that are to be tried again
 abbrev pub between : PlainWorld → List PlainJob
 between w = all_of w.handed_off ++ (w.aside ++ w.woken)
 

@@ -38,8 +38,11 @@ unit_part (Transition.CommitBusy k x) w h =
     let u = h.holds.unit in let at = h.holds.there in
     (u, at, (h.may, h.wants), get_change (stepped (Step.Busy x.entry.ticket)) x.unit w.units u at)
 unit_part (Transition.CommitAborted k x why) w h = (h.holds.unit, h.holds.there, (h.alive, h.marked), h.holds.there)
-unit_part (Transition.Defer k x) w h =
-    (h.holds.unit, h.holds.there, (h.entry, h.ready, h.waits), h.holds.there)
+unit_part (Transition.Defer k x) w h = (h.holds.unit, h.holds.there, (h.entry, h.waits), h.holds.there)
+unit_part (Transition.Withhold k x r) w h =
+    let u = h.holds.unit in let at = h.holds.there in
+    (u, at, h.may, get_change (stepped (Step.Commit x.entry.ticket r)) x.unit w.units u at)
+unit_part (Transition.Conclude k x r) w h = (h.holds.unit, h.holds.there, h.may, h.holds.there)
 unit_part (Transition.Leave k unit_index t jobs) w h =
     let u = h.holds.unit in let at = h.holds.there in
     (u, at, (h.may, h.enables), get_change (stepped (Step.Leave t)) unit_index w.units u at)

@@ -229,6 +229,13 @@ moves p (Transition.CommitUnknown k x) w h =
 moves p (Transition.Defer k x) w h =
     let k = kept (of_job p) (Transition.Defer k x) w h in
     record { accepted = omega (arith); used = omega (arith); standing = omega (arith, k) }
+moves p (Transition.Withhold k x r) w h =
+    let s = stays p (Step.Commit x.entry.ticket r) x.unit w.units h.holds.unit h.holds.there refl in
+    let k = kept (of_job p) (Transition.Withhold k x r) w h in
+    record { accepted = omega (arith); used = omega (arith); standing = omega (arith, s, k) }
+moves p (Transition.Conclude k x r) w h =
+    let k = kept (of_job p) (Transition.Conclude k x r) w h in
+    record { accepted = omega (arith); used = omega (arith); standing = omega (arith, k) }
 moves p Transition.Wake w h =
     let k = kept (of_job p) Transition.Wake w h in
     record { accepted = omega (arith); used = omega (arith); standing = omega (arith, k) }

@@ -1,5 +1,5 @@
 -- Where no event of the order applies, nothing is outstanding.
-use Rattle.std.proofs.Common.{◌≡◌, ℕ, ◌<◌, ◌≤◌, Bool, true, false, not, ◌&&◌, ◌||◌, eqb, cond, List, [], ◌∷◌, filter, length, Option, Some, None, refl, sym, ◌∙◌, ap, subst, arith, inl, inr, zero, suc}
+use Rattle.std.proofs.Common.{◌≡◌, ℕ, ◌<◌, ◌≤◌, Bool, true, false, not, ◌&&◌, ◌||◌, eqb, cond, List, [], ◌∷◌, filter, length, Option, Some, None, refl, sym, ◌∙◌, ap, subst, arith, inl, inr}
 use Rattle.std.specs.Prelude.{slice_get}
 use Rattle.std.specs.List.{sum_by, AllByRecursion}
 use Rattle.std.proofs.lemmas.Bool.{eqb-true}
@@ -42,14 +42,16 @@ use Rattle.device_model.proofs.Owning.{owned}
 use Rattle.device_model.proofs.Tasks.{own, hand_count, seat_count, of_index, out_count}
 use Rattle.device_model.proofs.Working.{run_works, one, no_bit}
 use Rattle.device_model.proofs.Functions.{FindsUnits, new_finds, transition_finds}
-use Rattle.device_model.specs.Order.{IsNext, IsQuiet, IsAtRest, IsQuietOf, IsAtRestOf, AreBehindAside, waiting_count}
+use Rattle.device_model.specs.Order.{IsNext, IsQuiet, IsAtRest, IsQuietOf, IsAtRestOf, AreBehindAside, NoneIsWithheld, waiting_count}
 use Rattle.device_model.proofs.Choosing.{next_or_quiet}
 use Rattle.device_model.proofs.Quiet.{Never, QuietQueue, QuietSeat, quiet_of_all, all_quiet}
 use Rattle.device_model.proofs.Off.{none_off, between, between_sum}
 use Rattle.device_model.proofs.Lists.{same}
 use Rattle.device_model.proofs.Handed.{IsParked, all_parked, parked_undone}
 use Rattle.device_model.proofs.Meeting.{ended, clear_there}
+use Rattle.device_model.proofs.Withheld.{ran_done}
 use Rattle.device_model.proofs.Aside.{run_aside}
+use Rattle.device_model.specs.Found.{UnitIs}
 
 -- the first of both holds of all
 all_first : (P : PlainChain → Type 0) (cs : List PlainChain)
@@ -137,7 +139,7 @@ no_jobs_left (j ∷ jobs) h = absurd (cc)
 none_parked : (u : PlainUnit) → IsUnit u → alive u.steps ≡ [] → u.parked ≡ []
 none_parked u is e = no_jobs_left u.parked (is.holds ∙ ap (filter (is_parked u.steps)) e)
 
--- A task that is done or was marked isn't parked, and doesn't wait for pages
+-- A task that is done or was marked isn't parked, and doesn't wait, where no reply is withheld
 
 -- no task of the ticket
 none_found : (t : Ticket) (es : List Entry) → weight (one t) es ≡ 0 → task_of t es ≡ None
@@ -182,23 +184,33 @@ parked_goes_on o h (j ∷ jobs) l p = (
   parked_goes_on o h jobs l p.1,
 )
 
--- so does one that waits for pages
+-- so does one that waits, and whose command didn't run
+aside_ready : (w : PlainWorld) (x : PlainJob) (h : IsAside w x)
+    → ((u : PlainUnit) → UnitIs w x.unit u → done x.entry.ticket u.steps ≡ false) → ended x.entry.ticket h.unit.steps ≡ false
+aside_ready w x h none =
+    let t = x.entry.ticket in
+    let v = h.unit.steps in
+    elim h.waits [
+      | inl r ↦ or_off (done t v) (marked t v) r.is_undone r.is_unmarked
+      | inr q ↦ absurd (clash (sym (ran_done t q.0 v q.1.ran) ∙ none h.unit h.there))
+    ]
+
 aside_count : (w : PlainWorld) (n : ℕ) (u : PlainUnit) (t : Ticket) (xs : List PlainJob) → slice_get w.units n ≡ Some u
-    → ended t u.steps ≡ true → AllByRecursion (IsAside w) xs → sum_by (of_index n (one t)) xs ≡ 0
-aside_count w n u t [] at on h = refl
-aside_count w n u t (x ∷ xs) at on h =
+    → ended t u.steps ≡ true → AllByRecursion (IsAside w) xs
+    → AllByRecursion (λ (x : PlainJob). (v : PlainUnit) → UnitIs w x.unit v → done x.entry.ticket v.steps ≡ false) xs
+    → sum_by (of_index n (one t)) xs ≡ 0
+aside_count w n u t [] at on h none = refl
+aside_count w n u t (x ∷ xs) at on h none =
     let here : of_index n (one t) x ≡ 0 =
     (elim (eqb x.unit n) as (λ b. eqb x.unit n ≡ b → cond b (one t x.entry.ticket) 0 ≡ 0) [
       | true ↦ λ k.
           let is : h.0.unit ≡ u = same (sym h.0.there ∙ ap (λ i. slice_get w.units i) (eqb-true x.unit n k) ∙ at) in
-          let r = h.0.ready in
-          let v = h.0.unit.steps in
-          let off = or_off (done x.entry.ticket v) (marked x.entry.ticket v) r.is_undone r.is_unmarked in
+          let off = aside_ready w x h.0 none.0 in
           other_ticket t x.entry.ticket u.steps on
           (ap (λ (z : PlainUnit). ended x.entry.ticket z.steps) (sym is) ∙ off)
       | false ↦ λ k. refl
     ]) refl in
-    let rest = aside_count w n u t xs at on h.1 in
+    let rest = aside_count w n u t xs at on h.1 none.1 in
     let c = sum_by-cons (of_index n (one t)) x xs in
     omega (arith, here, rest, c)
 
@@ -282,19 +294,15 @@ nothing_offered s m (Found id slots parts) h never =
 nothing_offered s m (Refused f) h never =
     absurd (never (λ n. refused_or_nothing (offers_once s m (Refused f) Nothing h n)))
 
-open_to : (w : PlainWorld) (i : ℕ) → w.function ≡ None → IsOpenTo w i
-open_to w zero e = e
-open_to w (suc i) e = tt
-
 nothing_there : (w : PlainWorld) (i : ℕ) (q : PlainQueue) → slice_get w.queues i ≡ Some q → q.slot ≡ Slot.Empty
-    → w.function ≡ None → Never w (Event.Fetch i) → q.ring.broken ≡ None → Offers q.ring w.memory Nothing
-nothing_there w i q at empty closed never unbroken =
+    → Never w (Event.Fetch i) → IsOpenTo w i → q.ring.broken ≡ None → Offers q.ring w.memory Nothing
+nothing_there w i q at empty never opened unbroken =
     let o = offers_some q.ring w.memory in
     nothing_offered q.ring w.memory o.0 o.1 (λ some. never (record {
       queue = q;
       there = at;
       empty = empty;
-      opened = open_to w i closed;
+      opened = opened;
       whole = unbroken;
       has_some = some;
     }))
@@ -354,28 +362,26 @@ quiet_rests_of asked old trace w r h =
     let c = ap (λ l. sum_by (of_index n p) l) off in
     let d = ap (λ l. sum_by (of_index n p) l) woken in
     omega (arith, a, b, c, d) in
-    let idle : AreIdle w = λ i u at place.
+    let idle : NoneIsWithheld w → AreIdle w = λ none i u at place.
     let is = working.0 i u at in
     clear_there u.opening place u.steps is.lawful (λ t on.
     let a = working.2 i (one t) u at in
     let b = under_way i (one t) in
-    let c = aside_count w i u t w.aside at on aside in
+    let c = aside_count w i u t w.aside at on aside none in
     let parked = all_parked u.opening u.steps u.parked is.lawful is.holds in
     let d = none_of_parked t u.steps u.parked on (parked_goes_on u.opening u.steps u.parked is.lawful parked) in
     none_found t (alive u.steps) (omega (arith, a, b, c, d))) in
     let slots : (i : ℕ) (q : PlainQueue) → slice_get w.queues i ≡ Some q → q.slot ≡ Slot.Empty = λ i q at.
     empty_slot asked w i q q.slot at refl (quiet.queues i (slice_get_within w.queues i q at)) in
     let there = units_there old trace w r in
-    let closed = no_function w w.function refl there idle quiet.mark quiet.check quiet.answer_tmf in
     record {
       chains = λ p.
           let a = nothing_counts (at_queue p) w.queues (λ i q at. ap (of_slot p) (slots i q at)) in
           let b = nothing_counts (at_seat (of_job p)) w.seats (λ k s at. bare p s (seats k s at)) in
           let c = ap (λ l. sum_by (of_job p) l) woken in
           let d = ap (λ l. sum_by (of_job p) l) off in
-          let e = ap (of_function p) closed in
           let f = balanced p old trace w r.opens r.runs in
-          omega (arith, a, b, c, d, e, f);
+          omega (arith, a, b, c, d, f);
       parked = λ i u at none.
           let a = working.2 i each_one u at in
           let b = under_way i each_one in
@@ -384,11 +390,11 @@ quiet_rests_of asked old trace w r h =
           none_parked u is (none_alive u is (omega (arith, a, b, c)));
       woken = woken;
       buffers = all_first (IsOwned w) w.buffers own.buffers;
-      closed = closed;
+      closed = λ none. no_function w w.function refl there (idle none) quiet.mark quiet.check quiet.answer_tmf;
       waiting = no_report w w.waiting refl quiet.raise;
-      queues = λ i q at is unbroken.
+      queues = λ i q at is opened unbroken.
           let lt = slice_get_within w.queues i q at in
-          nothing_there w i q at (slots i q at) closed ((quiet.queues i lt).fetch is) unbroken;
+          nothing_there w i q at (slots i q at) ((quiet.queues i lt).fetch is) opened unbroken;
     }
 
 pub quiet_rests : (old : PlainWorld) (trace : List Occurrence) (w : PlainWorld) → Reached old trace w → IsQuiet w
@@ -402,22 +408,41 @@ quiet_rests old trace w r h =
       buffers = rest.buffers;
       closed = rest.closed;
       waiting = rest.waiting;
-      queues = λ i q at unbroken. rest.queues i q at refl unbroken;
+      queues = λ i q at opened unbroken. rest.queues i q at refl opened unbroken;
     }
 
 -- where a chain is outstanding that is no event buffer, an event is next
 pub next_there : (old : PlainWorld) (trace : List Occurrence) (w : PlainWorld) (t : Ticket) → Reached old trace w
     → used_count (only t) w < accepted_count (only t) w → sum_by (of_chain (only t)) w.buffers ≡ 0
-    → waiting_count (only t) w ≡ 0 → (e : Event) × IsNext w e
-next_there old trace w t r out no_buffer none_waits =
+    → waiting_count (only t) w ≡ 0 → of_function (only t) w.function ≡ 0 → (e : Event) × IsNext w e
+next_there old trace w t r out no_buffer none_waits no_function =
     elim (next_or_quiet w) [
       | inl next ↦ next
       | inr quiet ↦
           let c = (quiet_rests old trace w r quiet).chains (only t) in
-          absurd (omega (arith, out, no_buffer, none_waits, c))
+          absurd (omega (arith, out, no_buffer, none_waits, no_function, c))
     ]
 
--- where no job waits for pages, no chain is left over
+-- that of a function too, where no reply is withheld
+pub next_there_told : (old : PlainWorld) (trace : List Occurrence) (w : PlainWorld) (t : Ticket) → Reached old trace w
+    → used_count (only t) w < accepted_count (only t) w → sum_by (of_chain (only t)) w.buffers ≡ 0
+    → waiting_count (only t) w ≡ 0 → NoneIsWithheld w → (e : Event) × IsNext w e
+next_there_told old trace w t r out no_buffer none_waits none =
+    elim (next_or_quiet w) [
+      | inl next ↦ next
+      | inr quiet ↦
+          let rest = quiet_rests old trace w r quiet in
+          let c = rest.chains (only t) in
+          let f = ap (of_function (only t)) (rest.closed none) in
+          absurd (omega (arith, out, no_buffer, none_waits, c, f))
+    ]
+
+pub none_withheld : (w : PlainWorld) → w.aside ≡ [] → NoneIsWithheld w
+none_withheld w e =
+    subst (λ xs. AllByRecursion (λ (x : PlainJob). (u : PlainUnit) → UnitIs w x.unit u → done x.entry.ticket u.steps ≡ false) xs)
+    (sym e) tt
+
+-- where no job waits, no chain is left over
 all_at : (i : ℕ) (xs : List PlainJob) → xs ≡ [] → AllByRecursion (λ (x : PlainJob). x.unit ≡ i → ⊥) xs
 all_at i [] e = tt
 all_at i (x ∷ xs) e = absurd (cc)
@@ -439,5 +464,6 @@ next_there_bare old trace w t r out no_buffer none =
           let rest = quiet_rests old trace w r quiet in
           let c = rest.chains (only t) in
           let z = none_waiting (only t) w rest.parked none in
-          absurd (omega (arith, out, no_buffer, z, c))
+          let f = ap (of_function (only t)) (rest.closed (none_withheld w none)) in
+          absurd (omega (arith, out, no_buffer, z, c, f))
     ]

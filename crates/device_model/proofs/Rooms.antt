@@ -107,7 +107,7 @@ seats_room w h k s at =
     let b = few_under 64 (length w.units) s.out (few_of w k s h at) in
     omega (arith, a, b)
 
--- nor do more wait for pages, or are to be tried again
+-- nor do more wait, or are to be tried again
 few_wait : (w : PlainWorld) → Works w → (n : ℕ) → n < length w.units
     → sum_by (of_index n each_one) (w.aside ++ w.woken) ≤ 64
 few_wait w h n l =

@@ -1,7 +1,7 @@
 -- What stands in a slot, in a hand or in a list is what some transition told.
-use Rattle.std.proofs.Common.{◌≡◌, ℕ, cond, not, List, [], ◌∷◌, ◌++◌, drop, Some, None, refl, sym, ◌∙◌, ap, subst, inl, inr, eq-eqb}
+use Rattle.std.proofs.Common.{◌≡◌, ℕ, zero, suc, cond, not, List, [], ◌∷◌, ◌++◌, drop, Some, None, refl, sym, ◌∙◌, ap, subst, arith, inl, inr, eq-eqb}
 use Rattle.std.specs.Prelude.{slice_get, ⊤}
-use Rattle.std.specs.List.{AllByRecursion}
+use Rattle.std.specs.List.{AllByRecursion, Contains}
 use Rattle.ring_core.specs.State.{PlainChain}
 use Rattle.request_intake.specs.Inventory.{PlainInventory}
 use Rattle.request_intake.specs.declared.decision.Decision.TheVariants as decision
@@ -23,9 +23,10 @@ use Rattle.device_model.specs.Found.{handed_out}
 use Rattle.device_model.proofs.Lists.{at_other}
 use Rattle.device_model.proofs.Staying.{everywhere}
 use Rattle.device_model.proofs.Named.{all_filter, all_push}
+use Rattle.device_model.proofs.Steps.{at_own, stands_on, stands_new}
 use Rattle.device_model.specs.Happened.{Happened, IsFetch, IsShed, IsLoss}
-use Rattle.device_model.specs.Inner.Happened.{IsEnter, IsFull, IsCommit, IsBusy, IsAbort}
-use Rattle.device_model.specs.Histories.{at_index, pushed, history_of, IsToldOf}
+use Rattle.device_model.specs.Inner.Happened.{IsEnter, IsFull, IsBusy, IsAbort}
+use Rattle.device_model.specs.Histories.{at_index, step_of, pushed, history_of, Stands, IsToldOf}
 use Rattle.device_model.specs.Entering.{IsJobOf, IsSent}
 use Rattle.device_model.proofs.Off.{each_put, each_taken, none_between, between, between_all, between_parts, each_woken, each_push, first_taken}
 
@@ -55,7 +56,7 @@ IsRefused units c (Outcome.Ended Ending.Lost) ds = ⊥
 
 -- the outcome in a hand: how the job's Commit ended
 abbrev pub IsEndedBy : PlainJob → Outcome → List Transition → Type 0
-IsEndedBy x (Outcome.Ended (Ending.Replied r)) ds = Happened (IsCommit x r) ds
+IsEndedBy x (Outcome.Ended (Ending.Replied r)) ds = Stands (Step.Commit x.entry.ticket r) (history_of x.unit ds)
 IsEndedBy x (Outcome.Ended Ending.Busy) ds = Happened (IsBusy x) ds
 IsEndedBy x (Outcome.Ended (Ending.Aborted why)) ds = Happened (IsAbort x why) ds
 IsEndedBy x (Outcome.Ended Ending.Full) ds = ⊥
@@ -117,7 +118,8 @@ older_ended : (x : PlainJob) (o : Outcome) (d : Transition) (ds : List Transitio
 older_ended x (Outcome.Decided a) d ds h = h
 older_ended x (Outcome.Ended Ending.Full) d ds h = h
 older_ended x (Outcome.Ended Ending.Busy) d ds h = inr h
-older_ended x (Outcome.Ended (Ending.Replied r)) d ds h = inr h
+older_ended x (Outcome.Ended (Ending.Replied r)) d ds h =
+    stands_on (step_of x.unit d) (Step.Commit x.entry.ticket r) (history_of x.unit ds) h
 older_ended x (Outcome.Ended (Ending.Aborted why)) d ds h = inr h
 older_ended x (Outcome.Ended Ending.Lost) d ds h = h
 
@@ -262,6 +264,12 @@ queues_alone old d ds w v a b c e q h =
       units = subst (λ z. Units old (d ∷ ds) z) (sym c) (old_units old d ds w.units e h.units);
     }
 
+-- a step of a history stands there
+contained : (s : Step) (h : List Step) → Contains h s → Stands s h
+contained s [] c = absurd (omega (arith, c.1))
+contained s (r ∷ past) (zero, l, e) = inl e
+contained s (r ∷ past) (suc k, l, e) = inr (contained s past (k, omega (arith, l), e))
+
 -- One transition
 
 pub says_transition : (old : PlainWorld) (d : Transition) (ds : List Transition) (w : PlainWorld) → w.inventory ≡ old.inventory
@@ -384,9 +392,11 @@ says_transition old (Transition.Commit k x r) ds w e n m h =
     let d = Transition.Commit k x r in
     let at = h.seats k (record { hand = Hand.Taken x; out = m.holds.out }) m.holds.seat in
     let new = Hand.Done x (Outcome.Ended (Ending.Replied r)) in
+    let s = Step.Commit x.entry.ticket r in
+    let runs = stands_new (step_of x.unit d) s (history_of x.unit ds) (at_own x.unit x.unit s refl) in
     record {
       slots = old_slots old.inventory d ds w.queues h.slots;
-      seats = handed d ds new k w.seats (inr at.0, inl (refl, refl)) h.seats;
+      seats = handed d ds new k w.seats (inr at.0, runs) h.seats;
       handed_off = older_jobs (between w) d ds h.handed_off;
       units = steps old d ds (Step.Commit x.entry.ticket r) x.unit w.units (λ i. refl) h.units;
     }
@@ -419,6 +429,29 @@ says_transition old (Transition.Defer k x) ds w e n m h =
       slots = old_slots old.inventory d ds w.queues h.slots;
       seats = handed d ds Hand.Empty k w.seats tt h.seats;
       handed_off = between_all P (all_off w) (w.aside ++ x ∷ []) w.woken a.0 (each_push P w.aside x a.1 (inr at.0)) a.2;
+      units = old_units old d ds w.units (λ i. refl) h.units;
+    }
+says_transition old (Transition.Withhold k x r) ds w e n m h =
+    let d = Transition.Withhold k x r in
+    let at = h.seats k (record { hand = Hand.Taken x; out = m.holds.out }) m.holds.seat in
+    let P = JobSays (d ∷ ds) in
+    let a = between_parts P (all_off w) w.aside w.woken (older_jobs (between w) d ds h.handed_off) in
+    record {
+      slots = old_slots old.inventory d ds w.queues h.slots;
+      seats = handed d ds Hand.Empty k w.seats tt h.seats;
+      handed_off = between_all P (all_off w) (w.aside ++ x ∷ []) w.woken a.0 (each_push P w.aside x a.1 (inr at.0)) a.2;
+      units = steps old d ds (Step.Commit x.entry.ticket r) x.unit w.units (λ i. refl) h.units;
+    }
+says_transition old (Transition.Conclude k x r) ds w e n m h =
+    let d = Transition.Conclude k x r in
+    let at = h.seats k (record { hand = Hand.Taken x; out = m.holds.out }) m.holds.seat in
+    let new = Hand.Done x (Outcome.Ended (Ending.Replied r)) in
+    let told = (h.units x.unit m.holds.unit m.holds.there).0.steps in
+    let ran = subst (λ l. Contains l (Step.Commit x.entry.ticket r)) told m.may.1.ran in
+    record {
+      slots = old_slots old.inventory d ds w.queues h.slots;
+      seats = handed d ds new k w.seats (inr at.0, contained (Step.Commit x.entry.ticket r) (history_of x.unit ds) ran) h.seats;
+      handed_off = older_jobs (between w) d ds h.handed_off;
       units = old_units old d ds w.units (λ i. refl) h.units;
     }
 says_transition old Transition.Wake ds w e n m h =

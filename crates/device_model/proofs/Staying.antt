@@ -130,6 +130,10 @@ so_many_after (Transition.CommitAborted k x why) w =
 so_many_after (Transition.CommitUnknown k x) w =
     (refl, refl, many (with_hand (Hand.Done x (Outcome.Ended Ending.Lost))) k w.seats)
 so_many_after (Transition.Defer k x) w = (refl, refl, many (with_hand Hand.Empty) k w.seats)
+so_many_after (Transition.Withhold k x r) w =
+    (refl, stepped_many (Step.Commit x.entry.ticket r) x.unit w, many (with_hand Hand.Empty) k w.seats)
+so_many_after (Transition.Conclude k x r) w =
+    (refl, refl, many (with_hand (Hand.Done x (Outcome.Ended (Ending.Replied r)))) k w.seats)
 so_many_after (Transition.Resume k x) w = (refl, refl, many (with_hand (Hand.Taken x)) k w.seats)
 so_many_after (Transition.Answer k x o xs) w =
     (used_many x.chain xs w, refl, many (with_hand (Hand.Answered x.unit x.chain.ticket)) k w.seats)
@@ -233,6 +237,8 @@ tells_after (Transition.CommitBusy a b) w = refl
 tells_after (Transition.CommitAborted a b c) w = refl
 tells_after (Transition.CommitUnknown a b) w = refl
 tells_after (Transition.Defer a b) w = refl
+tells_after (Transition.Withhold a b c) w = refl
+tells_after (Transition.Conclude a b c) w = refl
 tells_after Transition.Wake w = refl
 tells_after (Transition.Resume a b) w = refl
 tells_after (Transition.Answer a b c d) w = refl

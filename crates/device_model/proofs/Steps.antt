@@ -40,6 +40,7 @@ step_in (Transition.Run x) = Some (Step.Enter x.entry)
 step_in (Transition.Park x) = Some (Step.Enter x.entry)
 step_in (Transition.EnterFull x) = Some (Step.Full x.entry.ticket)
 step_in (Transition.Commit k x r) = Some (Step.Commit x.entry.ticket r)
+step_in (Transition.Withhold k x r) = Some (Step.Commit x.entry.ticket r)
 step_in (Transition.CommitBusy k x) = Some (Step.Busy x.entry.ticket)
 step_in (Transition.Leave k i t jobs) = Some (Step.Leave t)
 step_in (Transition.Mark t p (Abort rule) jobs) = Some (Step.Abort rule)
@@ -53,6 +54,7 @@ index_in (Transition.Run x) = x.unit
 index_in (Transition.Park x) = x.unit
 index_in (Transition.EnterFull x) = x.unit
 index_in (Transition.Commit k x r) = x.unit
+index_in (Transition.Withhold k x r) = x.unit
 index_in (Transition.CommitBusy k x) = x.unit
 index_in (Transition.Leave k i t jobs) = i
 index_in (Transition.Mark t p m jobs) = p.unit
@@ -66,6 +68,7 @@ step_is unit_index (Transition.Run x) r e = at_index_is unit_index x.unit (Step.
 step_is unit_index (Transition.Park x) r e = at_index_is unit_index x.unit (Step.Enter x.entry) r e
 step_is unit_index (Transition.EnterFull x) r e = at_index_is unit_index x.unit (Step.Full x.entry.ticket) r e
 step_is unit_index (Transition.Commit k x q) r e = at_index_is unit_index x.unit (Step.Commit x.entry.ticket q) r e
+step_is unit_index (Transition.Withhold k x q) r e = at_index_is unit_index x.unit (Step.Commit x.entry.ticket q) r e
 step_is unit_index (Transition.CommitBusy k x) r e = at_index_is unit_index x.unit (Step.Busy x.entry.ticket) r e
 step_is unit_index (Transition.Leave k i t jobs) r e = at_index_is unit_index i (Step.Leave t) r e
 step_is unit_index (Transition.Mark t p (Abort rule) jobs) r e = at_index_is unit_index p.unit (Step.Abort rule) r e
@@ -91,6 +94,7 @@ enter_of d unit_index e s = let q = step_is unit_index d (Step.Enter e) s in ent
 commit_in : (d : Transition) (unit_index : ℕ) (t : Ticket) (r : PlainReply) → index_in d ≡ unit_index
     → step_in d ≡ Some (Step.Commit t r) → (x : PlainJob) × (x.unit ≡ unit_index) × (x.entry.ticket ≡ t) × IsCommit x r d
 commit_in (Transition.Commit k x q) unit_index t r p s = (x, p, (cc), (refl, (cc)))
+commit_in (Transition.Withhold k x q) unit_index t r p s = (x, p, (cc), (refl, (cc)))
 commit_in (Transition.Mark u q (Abort rule) jobs) unit_index t r p s = absurd (cc)
 commit_in (Transition.Mark u q (Reset c) jobs) unit_index t r p s = absurd (cc)
 commit_in d unit_index t r p s = absurd (cc)

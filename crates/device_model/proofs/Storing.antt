@@ -1,5 +1,5 @@
 -- Transitions but for a few leave what the host's storage has of a unit's disk.
-use Rattle.std.proofs.Common.{◌≡◌, ℕ, Bool, true, false, ◌&&◌, eqb, List, Option, Some, None, is_some, refl, sym, ◌∙◌, ap, subst}
+use Rattle.std.proofs.Common.{◌≡◌, ℕ, Bool, true, false, ◌&&◌, eqb, List, Option, Some, None, is_some, refl, sym, ◌∙◌, ap, subst, IfSome, ◌∷◌}
 use Rattle.std.specs.Prelude.{slice_get, option_map, unwrap_or, min}
 use Rattle.block_store.specs.Storage as storage
 use Rattle.block_store.specs.Storage.{Storage, Dealing, Ledger, opening, storage_by, and_then, lost_after, lost_by}
@@ -7,7 +7,7 @@ use Rattle.block_store.proofs.Dealt.{last_dealt}
 use Rattle.block_store.proofs.Losing.{lost-last, lose-last, load-last, keep-last, lose-else, load-else, keep-else}
 use Rattle.unit_model.specs.Steps.{Step}
 use Rattle.unit_model.specs.Contents.{capacity_of}
-use Rattle.unit_model.specs.Unit.{PlainUnit, is_backed, after as stepped, parking, dealing, MayCommit}
+use Rattle.unit_model.specs.Unit.{PlainUnit, is_backed, after as stepped, parking, dealing, waits_behind, MayCommit, MayConclude}
 use Rattle.block_store.specs.Blocks.{Blocks}
 use Rattle.block_store.specs.Storage.{IsLeft}
 use Rattle.command_model.specs.PlainReply.{PlainReply}
@@ -15,7 +15,7 @@ use Rattle.command_model.specs.Statuses.{good}
 use Rattle.command_model.specs.Waiting.{is_flush}
 use Rattle.unit_model.specs.Tasks.{Entry, task_of}
 use Rattle.unit_model.specs.Steps.{alive}
-use Rattle.unit_model.specs.Flushing.{HasBeen, is_in_flush}
+use Rattle.unit_model.specs.Flushing.{HasBeen, is_in_flush, HasBeenBehind, IsThrough}
 use Rattle.unit_model.specs.Jobs.{PlainJob}
 use Rattle.unit_model.proofs.Flushing.{durable}
 use Rattle.device_model.specs.Happens.{Happens}
@@ -101,6 +101,8 @@ given_stays (Transition.EnterFull x) w unit_index u v at now off =
     unchanged given_of (stepped (Step.Full x.entry.ticket)) x.unit w.units (λ z. refl) unit_index u v at now
 given_stays (Transition.Commit k x r) w unit_index u v at now off =
     unchanged given_of (stepped (Step.Commit x.entry.ticket r)) x.unit w.units (λ z. refl) unit_index u v at now
+given_stays (Transition.Withhold k x r) w unit_index u v at now off =
+    unchanged given_of (stepped (Step.Commit x.entry.ticket r)) x.unit w.units (λ z. refl) unit_index u v at now
 given_stays (Transition.CommitBusy k x) w unit_index u v at now off =
     unchanged given_of (stepped (Step.Busy x.entry.ticket)) x.unit w.units (λ z. refl) unit_index u v at now
 given_stays (Transition.Leave k i t jobs) w unit_index u v at now off =
@@ -135,6 +137,8 @@ kept_stays (Transition.EnterFull x) w unit_index u v at now off =
     unchanged kept_of (stepped (Step.Full x.entry.ticket)) x.unit w.units (λ z. refl) unit_index u v at now
 kept_stays (Transition.Commit k x r) w unit_index u v at now off =
     unchanged kept_of (stepped (Step.Commit x.entry.ticket r)) x.unit w.units (λ z. refl) unit_index u v at now
+kept_stays (Transition.Withhold k x r) w unit_index u v at now off =
+    unchanged kept_of (stepped (Step.Commit x.entry.ticket r)) x.unit w.units (λ z. refl) unit_index u v at now
 kept_stays (Transition.CommitBusy k x) w unit_index u v at now off =
     unchanged kept_of (stepped (Step.Busy x.entry.ticket)) x.unit w.units (λ z. refl) unit_index u v at now
 kept_stays (Transition.Leave k i t jobs) w unit_index u v at now off =
@@ -168,6 +172,8 @@ unkept_stays (Transition.Park x) w unit_index u v at now ungiven unkept =
 unkept_stays (Transition.EnterFull x) w unit_index u v at now ungiven unkept =
     unchanged unkept_of (stepped (Step.Full x.entry.ticket)) x.unit w.units (λ z. refl) unit_index u v at now
 unkept_stays (Transition.Commit k x r) w unit_index u v at now ungiven unkept =
+    unchanged unkept_of (stepped (Step.Commit x.entry.ticket r)) x.unit w.units (λ z. refl) unit_index u v at now
+unkept_stays (Transition.Withhold k x r) w unit_index u v at now ungiven unkept =
     unchanged unkept_of (stepped (Step.Commit x.entry.ticket r)) x.unit w.units (λ z. refl) unit_index u v at now
 unkept_stays (Transition.CommitBusy k x) w unit_index u v at now ungiven unkept =
     unchanged unkept_of (stepped (Step.Busy x.entry.ticket)) x.unit w.units (λ z. refl) unit_index u v at now
@@ -223,6 +229,8 @@ lost_stays (Transition.Park x) w unit_index p u v at now off =
 lost_stays (Transition.EnterFull x) w unit_index p u v at now off =
     unchanged (lost_of p) (stepped (Step.Full x.entry.ticket)) x.unit w.units (λ z. refl) unit_index u v at now
 lost_stays (Transition.Commit k x r) w unit_index p u v at now off =
+    unchanged (lost_of p) (stepped (Step.Commit x.entry.ticket r)) x.unit w.units (λ z. refl) unit_index u v at now
+lost_stays (Transition.Withhold k x r) w unit_index p u v at now off =
     unchanged (lost_of p) (stepped (Step.Commit x.entry.ticket r)) x.unit w.units (λ z. refl) unit_index u v at now
 lost_stays (Transition.CommitBusy k x) w unit_index p u v at now off =
     unchanged (lost_of p) (stepped (Step.Busy x.entry.ticket)) x.unit w.units (λ z. refl) unit_index u v at now
@@ -296,3 +304,30 @@ pub flush_kept : (w : PlainWorld) (k : ℕ) (x : PlainJob) (r : PlainReply) (u :
 flush_kept w k x r u e l left b h at ends there flush has leaves named =
     let one : h.holds.unit ≡ u = same (sym h.holds.there ∙ at) in
     durable u x.entry.ticket e r l left b (subst (λ v. MayCommit v x.entry.ticket r) one h.may) ends there flush has leaves named
+
+-- what a unit's storage is to be, where it has one
+if_stored : (P : Ledger → Type 0) (o : Option Ledger) (l : Ledger) → IfSome o P → o ≡ Some l → P l
+if_stored P o l h e = subst (λ z. IfSome z P) e h
+
+-- a command whose answer waits is answered as it runs where what it changed is kept
+pub command_kept : (w : PlainWorld) (k : ℕ) (x : PlainJob) (r : PlainReply) (u : PlainUnit) (e : Entry) (l : Ledger) (left : Blocks) (b : ℕ)
+    → Happens (Transition.Commit k x r) w → UnitIs w x.unit u → task_of x.entry.ticket (alive u.steps) ≡ Some e
+    → waits_behind u e.command r.status ≡ true → u.storage ≡ Some l → IsLeft l left
+    → HasBeenBehind u.opening (Step.Commit x.entry.ticket r ∷ u.steps) x.entry.ticket b (left b)
+command_kept w k x r u e l left b h at there waits has leaves =
+    let t = x.entry.ticket in
+    let one : h.holds.unit ≡ u = same (sym h.holds.there ∙ at) in
+    let may = subst (λ v. MayCommit v t r) one h.may in
+    let its : e ≡ may.0 = same (sym there ∙ may.1.is_there) in
+    let ends = may.3 (subst (λ (z : Entry). waits_behind u z.command r.status ≡ true) its waits) in
+    if_stored (λ z. IsThrough u.opening (Step.Commit t r ∷ u.steps) z t) u.storage l ends has left leaves b
+
+-- and is concluded where it is
+pub conclusion_kept : (w : PlainWorld) (k : ℕ) (x : PlainJob) (r : PlainReply) (u : PlainUnit) (l : Ledger) (left : Blocks) (b : ℕ)
+    → Happens (Transition.Conclude k x r) w → UnitIs w x.unit u → u.storage ≡ Some l → IsLeft l left
+    → HasBeenBehind u.opening u.steps x.entry.ticket b (left b)
+conclusion_kept w k x r u l left b h at has leaves =
+    let t = x.entry.ticket in
+    let one : h.holds.unit ≡ u = same (sym h.holds.there ∙ at) in
+    let may = subst (λ v. MayConclude v t r) one h.may in
+    if_stored (λ z. IsThrough u.opening u.steps z t) u.storage l may.2 has left leaves b

@@ -161,6 +161,16 @@ flows n p (Transition.Defer k x) w m h =
     let b = between_sum (of_index n p) (all_off w) w.aside w.woken in
     let c = between_sum (of_index n p) (all_off w) (w.aside ++ x ∷ []) w.woken in
     omega (arith, t, a, b, c)
+flows n p (Transition.Withhold k x r) w m h =
+    let t = turns n p k w.seats (Hand.Taken x) Hand.Empty m.holds.out m.holds.seat in
+    let a = sum_by_push (of_index n p) w.aside x in
+    let b = between_sum (of_index n p) (all_off w) w.aside w.woken in
+    let c = between_sum (of_index n p) (all_off w) (w.aside ++ x ∷ []) w.woken in
+    omega (arith, t, a, b, c)
+flows n p (Transition.Conclude k x r) w m h =
+    let new = Hand.Done x (Outcome.Ended (Ending.Replied r)) in
+    let t = turns n p k w.seats (Hand.Taken x) new m.holds.out m.holds.seat in
+    omega (arith, t)
 flows n p Transition.Wake w m h =
     let a = woken_sum (of_index n p) (all_off w) w.aside w.woken in
     omega (arith, a)
@@ -308,6 +318,12 @@ transition_balances (Transition.EnterFull x) w m names h n p =
     calm n p (Step.Full x.entry.ticket) x.unit w.units m.comes.unit out out m.comes.unit_there refl refl refl (h n p)
 transition_balances (Transition.Commit k x r) w m names h n p =
     let d = Transition.Commit k x r in
+    let out = out_count n p w.seats (between w) in
+    let out' = out_count n p (after d w).seats (between (after d w)) in
+    calm n p (Step.Commit x.entry.ticket r) x.unit w.units m.holds.unit out out' m.holds.there refl refl
+    (flows n p d w m names) (h n p)
+transition_balances (Transition.Withhold k x r) w m names h n p =
+    let d = Transition.Withhold k x r in
     let out = out_count n p w.seats (between w) in
     let out' = out_count n p (after d w).seats (between (after d w)) in
     calm n p (Step.Commit x.entry.ticket r) x.unit w.units m.holds.unit out out' m.holds.there refl refl

@@ -1,11 +1,15 @@
--- What becomes of jobs that wait for pages.
-use Rattle.std.proofs.Common.{◌≡◌, ℕ, ◌+◌, ◌≤◌, List, [], ◌∷◌, length, Some, is_some, refl, sym, ◌∙◌, ap, arith}
+-- What becomes of jobs that wait.
+use Rattle.std.proofs.Common.{◌≡◌, ℕ, ◌+◌, ◌≤◌, List, [], ◌∷◌, length, Some, is_some, refl, sym, ◌∙◌, ap, inl, inr, arith}
 use Rattle.std.specs.Prelude.{slice_get, Bool, false}
-use Rattle.std.specs.List.{sum_by}
+use Rattle.std.specs.List.{Contains, sum_by}
+use Rattle.command_model.specs.PlainReply.{PlainReply}
 use Rattle.std.proofs.lemmas.List.Sums.{sum_by-append, sum_by_push}
 use Rattle.ring_core.specs.declared.log.Ticket.{Ticket}
 use Rattle.unit_model.specs.declared.reason.Reason.{Reason}
+use Rattle.unit_model.specs.Steps.{Step, done}
+use Rattle.unit_model.specs.Lawful.{IsLawful}
 use Rattle.unit_model.specs.Marks.{mark_of, marked}
+use Rattle.unit_model.proofs.Marking.{marked_undone}
 use Rattle.unit_model.proofs.Tickets.{clash}
 use Rattle.unit_model.specs.Jobs.{PlainJob}
 use Rattle.unit_model.specs.Unit.{PlainUnit}
@@ -16,7 +20,7 @@ use Rattle.device_model.specs.Transitions.{Transition, event_of}
 use Rattle.device_model.specs.After.{after}
 use Rattle.device_model.specs.Happens.{Happens, MayHappen, Occurrence, Reached, world_of}
 use Rattle.device_model.specs.Found.{UnitIs, HasHand, HandAtUnit}
-use Rattle.device_model.specs.Places.{of_chain, of_job, only, accepted_count, used_count}
+use Rattle.device_model.specs.Places.{of_chain, of_job, of_function, only, accepted_count, used_count}
 use Rattle.device_model.specs.Standing.{NoneIsBacked}
 use Rattle.device_model.specs.Order.{IsQuiet, IsAtRest, IsAtRestOf}
 use Rattle.device_model.specs.Measure.{rouses, roused}
@@ -27,7 +31,8 @@ use Rattle.device_model.proofs.Off.{first_counts}
 use Rattle.device_model.proofs.Owning.{at_most_once}
 use Rattle.device_model.proofs.Turning.{may}
 use Rattle.device_model.proofs.Aside.{Bare, transition_bare, run_bare}
-use Rattle.device_model.proofs.Rests.{quiet_rests, none_waiting}
+use Rattle.device_model.proofs.Withheld.{ran_done}
+use Rattle.device_model.proofs.Rests.{quiet_rests, none_waiting, none_withheld}
 
 -- no chain waits twice
 pub waits_once : (t : Ticket) (old : PlainWorld) (trace : List Occurrence) (w : PlainWorld) → Reached old trace w
@@ -41,6 +46,7 @@ waits_once t old trace w r =
 pub aside_moves : (p : PlainJob → ℕ) (w : PlainWorld) (d : Transition) → MayHappen d w
     → sum_by p (after d w).aside + sum_by p (rouses w d) ≡ sum_by p w.aside + sum_by p (deferred d)
 aside_moves p w (Transition.Defer k x) m = let a = sum_by_push p w.aside x in omega (arith, a)
+aside_moves p w (Transition.Withhold k x r) m = let a = sum_by_push p w.aside x in omega (arith, a)
 aside_moves p w Transition.Wake m = omega (arith)
 aside_moves p w (Transition.Mark t i how jobs) m = omega (arith)
 aside_moves p w (Transition.Hard i jobs) m = omega (arith)
@@ -80,6 +86,20 @@ not_ready w i k x y u why hand at mark n h off =
     let there = ap (λ (z : PlainUnit). marked y.entry.ticket z.steps) one in
     clash (sym on ∙ moved ∙ there ∙ off)
 
+-- nor one in which it ran
+not_done : (w : PlainWorld) (i k : ℕ) (x y : PlainJob) (r : PlainReply) (u : PlainUnit) (why : Reason) → HasHand w k (Hand.Taken x)
+    → UnitIs w x.unit u → IsLawful u.opening u.steps → mark_of x.entry.ticket u.steps ≡ Some why → i ≡ k
+    → (h : HandAtUnit w i (Hand.Taken y) y.unit) → Contains h.unit.steps (Step.Commit y.entry.ticket r) → ⊥
+not_done w i k x y r u why hand at lawful mark n h ran =
+    let here = ap (λ j. slice_get w.seats j) (sym n) ∙ h.seat in
+    let is : x ≡ y = one_hand w k hand.1 here in
+    let one : u ≡ h.unit = same (sym at ∙ ap (λ (z : PlainJob). slice_get w.units z.unit) is ∙ h.there) in
+    let on = ran_done y.entry.ticket r h.unit.steps ran in
+    let moved = ap (λ (z : PlainJob). done z.entry.ticket u.steps) is in
+    let there = ap (λ (z : PlainUnit). done y.entry.ticket z.steps) one in
+    let off = marked_undone u.opening x.entry.ticket u.steps lawful (ap (λ o. is_some o) mark) in
+    clash (sym on ∙ sym there ∙ sym moved ∙ off)
+
 same_reason : {a b : Reason} → Some a ≡ Some b → a ≡ b
 same_reason e = cc
 
@@ -88,15 +108,22 @@ both_alike : {i k : ℕ} {x y : PlainJob} {a b : Reason} → i ≡ k → y ≡ x
 both_alike p q r = cc
 
 pub marked_ends : (w : PlainWorld) (k : ℕ) (x : PlainJob) (u : PlainUnit) (why : Reason) (d : Transition)
-    → HasHand w k (Hand.Taken x) → UnitIs w x.unit u → mark_of x.entry.ticket u.steps ≡ Some why → Happens d w
-    → event_of d ≡ Event.Commit k → d ≡ Transition.CommitAborted k x why
-marked_ends w k x u why (Transition.Commit i y r) hand at mark h e =
+    → HasHand w k (Hand.Taken x) → UnitIs w x.unit u → IsLawful u.opening u.steps → mark_of x.entry.ticket u.steps ≡ Some why
+    → Happens d w → event_of d ≡ Event.Commit k → d ≡ Transition.CommitAborted k x why
+marked_ends w k x u why (Transition.Commit i y r) hand at lawful mark h e =
     absurd (not_ready w i k x y u why hand at mark (same_number e) h.holds h.may.1.is_unmarked)
-marked_ends w k x u why (Transition.CommitBusy i y) hand at mark h e =
+marked_ends w k x u why (Transition.CommitBusy i y) hand at lawful mark h e =
     absurd (not_ready w i k x y u why hand at mark (same_number e) h.holds h.may.1.is_unmarked)
-marked_ends w k x u why (Transition.Defer i y) hand at mark h e =
-    absurd (not_ready w i k x y u why hand at mark (same_number e) h.holds h.ready.is_unmarked)
-marked_ends w k x u why (Transition.CommitAborted i y q) hand at mark h e =
+marked_ends w k x u why (Transition.Defer i y) hand at lawful mark h e =
+    absurd (elim h.waits [
+      | inl ready ↦ not_ready w i k x y u why hand at mark (same_number e) h.holds ready.0.is_unmarked
+      | inr r ↦ not_done w i k x y r.0 u why hand at lawful mark (same_number e) h.holds r.1.ran
+    ])
+marked_ends w k x u why (Transition.Withhold i y r) hand at lawful mark h e =
+    absurd (not_ready w i k x y u why hand at mark (same_number e) h.holds h.may.1.is_unmarked)
+marked_ends w k x u why (Transition.Conclude i y r) hand at lawful mark h e =
+    absurd (not_done w i k x y r u why hand at lawful mark (same_number e) h.holds h.may.1.ran)
+marked_ends w k x u why (Transition.CommitAborted i y q) hand at lawful mark h e =
     let n = same_number e in
     let here = ap (λ j. slice_get w.seats j) (sym n) ∙ h.holds.seat in
     let is : x ≡ y = one_hand w k hand.1 here in
@@ -104,11 +131,11 @@ marked_ends w k x u why (Transition.CommitAborted i y q) hand at mark h e =
     let moved = ap (λ (z : PlainJob). mark_of z.entry.ticket u.steps) is in
     let there = ap (λ (z : PlainUnit). mark_of y.entry.ticket z.steps) one in
     both_alike n (sym is) (same_reason (sym h.marked ∙ sym there ∙ sym moved ∙ mark))
-marked_ends w k x u why (Transition.CommitUnknown i y) hand at mark h e = absurd h
-marked_ends w k x u why (Transition.EnterStale y) hand at mark h e = absurd h
-marked_ends w k x u why (Transition.Idle f) hand at mark h e = absurd h
-marked_ends w k x u why (Transition.Poke y) hand at mark h e = absurd (cc)
-marked_ends w k x u why d hand at mark h e = absurd (cc)
+marked_ends w k x u why (Transition.CommitUnknown i y) hand at lawful mark h e = absurd h
+marked_ends w k x u why (Transition.EnterStale y) hand at lawful mark h e = absurd h
+marked_ends w k x u why (Transition.Idle f) hand at lawful mark h e = absurd h
+marked_ends w k x u why (Transition.Poke y) hand at lawful mark h e = absurd (cc)
+marked_ends w k x u why d hand at lawful mark h e = absurd (cc)
 
 -- Where no job waits
 
@@ -117,14 +144,16 @@ pub none_left : (w : PlainWorld) → w.aside ≡ [] → IsAtRest w
 none_left w none rest p =
     let c = rest.chains p in
     let z = none_waiting p w rest.parked none in
-    omega (arith, c, z)
+    let f = ap (of_function p) (rest.closed (none_withheld w none)) in
+    omega (arith, c, z, f)
 
 pub none_left_of : (asked : ℕ → Bool) (w : PlainWorld) → w.aside ≡ [] → IsAtRestOf asked w
     → (p : Ticket → ℕ) → used_count p w + sum_by (of_chain p) w.buffers ≡ accepted_count p w
 none_left_of asked w none rest p =
     let c = rest.chains p in
     let z = none_waiting p w rest.parked none in
-    omega (arith, c, z)
+    let f = ap (of_function p) (rest.closed (none_withheld w none)) in
+    omega (arith, c, z, f)
 
 -- Where no disk is one whose pages come and go
 
@@ -160,7 +189,8 @@ bare_rest asked old trace w r none rest p =
     let b = run_bare old trace w r.opens r.runs none in
     let c = rest.chains p in
     let z = none_waiting p w rest.parked b.1 in
-    omega (arith, c, z)
+    let f = ap (of_function p) (rest.closed (none_withheld w b.1)) in
+    omega (arith, c, z, f)
 
 pub quiet_woken : (old : PlainWorld) (trace : List Occurrence) (w : PlainWorld) → Reached old trace w → IsQuiet w
     → w.woken ≡ []

@@ -337,10 +337,10 @@ fetch_wakes d w i m h = inl (fetch_same (after d w) w i refl refl (λ e. e) h)
 abbrev seat : Hand → List PlainJob → Seat
 seat hand out = record { hand = hand; out = out }
 
-abbrev Holds : List Seat → ℕ → Hand → Type 0
+abbrev pub Holds : List Seat → ℕ → Hand → Type 0
 Holds seats j hand = (out : List PlainJob) × (slice_get seats j ≡ Some (seat hand out))
 
-hand_was : (g : Seat → Seat) (k : ℕ) (seats : List Seat) (j : ℕ) (hand : Hand) → Holds (change g k seats) j hand
+pub hand_was : (g : Seat → Seat) (k : ℕ) (seats : List Seat) (j : ℕ) (hand : Hand) → Holds (change g k seats) j hand
     → ((j ≡ k) × (x : Seat) × (slice_get seats k ≡ Some x) × (hand ≡ (g x).hand)) ⊎ Holds seats j hand
 hand_was g k seats j hand h =
     elim (item_was g k seats j (seat hand h.0) h.1) [
@@ -349,7 +349,7 @@ hand_was g k seats j hand h =
     ]
 
 -- where the changed seat has something else in hand
-hand_other : (g : Seat → Seat) (k : ℕ) (seats : List Seat) (j : ℕ) (hand other : Hand)
+pub hand_other : (g : Seat → Seat) (k : ℕ) (seats : List Seat) (j : ℕ) (hand other : Hand)
     → ((x : Seat) → (g x).hand ≡ other) → (hand ≡ other → ⊥) → Holds (change g k seats) j hand → Holds seats j hand
 hand_other g k seats j hand other is apart h =
     elim (hand_was g k seats j hand h) [
@@ -358,7 +358,7 @@ hand_other g k seats j hand other is apart h =
     ]
 
 -- where it keeps what it has
-hand_kept : (g : Seat → Seat) (k : ℕ) (seats : List Seat) (j : ℕ) (hand : Hand)
+pub hand_kept : (g : Seat → Seat) (k : ℕ) (seats : List Seat) (j : ℕ) (hand : Hand)
     → ((x : Seat) → (g x).hand ≡ x.hand) → Holds (change g k seats) j hand → Holds seats j hand
 hand_kept g k seats j hand is h =
     elim (hand_was g k seats j hand h) [
@@ -372,19 +372,19 @@ hand_kept g k seats j hand is h =
 taken_free : {x : PlainJob} → Hand.Taken x ≡ Hand.Empty → ⊥
 taken_free e = cc
 
-done_free : {x : PlainJob} {o : Outcome} → Hand.Done x o ≡ Hand.Empty → ⊥
+pub done_free : {x : PlainJob} {o : Outcome} → Hand.Done x o ≡ Hand.Empty → ⊥
 done_free e = cc
 
 answered_free : {unit_index : ℕ} {t : Ticket} → Hand.Answered unit_index t ≡ Hand.Empty → ⊥
 answered_free e = cc
 
-taken_done : {x y : PlainJob} {o : Outcome} → Hand.Taken x ≡ Hand.Done y o → ⊥
+pub taken_done : {x y : PlainJob} {o : Outcome} → Hand.Taken x ≡ Hand.Done y o → ⊥
 taken_done e = cc
 
 taken_answered : {x : PlainJob} {unit_index : ℕ} {t : Ticket} → Hand.Taken x ≡ Hand.Answered unit_index t → ⊥
 taken_answered e = cc
 
-done_answered : {x : PlainJob} {o : Outcome} {unit_index : ℕ} {t : Ticket} → Hand.Done x o ≡ Hand.Answered unit_index t → ⊥
+pub done_answered : {x : PlainJob} {o : Outcome} {unit_index : ℕ} {t : Ticket} → Hand.Done x o ≡ Hand.Answered unit_index t → ⊥
 done_answered e = cc
 
 -- Commit
@@ -418,6 +418,11 @@ commit_wakes (Transition.CommitAborted k x why) w j m (y, h) =
 commit_wakes (Transition.CommitUnknown k x) w j m h = absurd m
 commit_wakes (Transition.Defer k x) w j m (y, h) =
     inl (y, hand_other (with_hand Hand.Empty) k w.seats j (Hand.Taken y) Hand.Empty (λ z. refl) taken_free h)
+commit_wakes (Transition.Withhold k x r) w j m (y, h) =
+    inl (y, hand_other (with_hand Hand.Empty) k w.seats j (Hand.Taken y) Hand.Empty (λ z. refl) taken_free h)
+commit_wakes (Transition.Conclude k x r) w j m (y, h) =
+    let new = Hand.Done x (Outcome.Ended (Ending.Replied r)) in
+    inl (y, hand_other (with_hand new) k w.seats j (Hand.Taken y) new (λ z. refl) taken_done h)
 commit_wakes (Transition.Resume k x) w j m (y, h) =
     elim (hand_was (with_hand (Hand.Taken x)) k w.seats j (Hand.Taken y) h) [
       | inl p ↦ inr (inl (ap Event.Commit p.0))
@@ -470,6 +475,14 @@ answer_wakes (Transition.CommitAborted k x why) w j m (y, o, h) =
 answer_wakes (Transition.CommitUnknown k x) w j m h = absurd m
 answer_wakes (Transition.Defer k x) w j m (y, o, h) =
     inl (y, o, hand_other (with_hand Hand.Empty) k w.seats j (Hand.Done y o) Hand.Empty (λ z. refl) done_free h)
+answer_wakes (Transition.Withhold k x r) w j m (y, o, h) =
+    inl (y, o, hand_other (with_hand Hand.Empty) k w.seats j (Hand.Done y o) Hand.Empty (λ z. refl) done_free h)
+answer_wakes (Transition.Conclude k x r) w j m (y, o, h) =
+    let new = Hand.Done x (Outcome.Ended (Ending.Replied r)) in
+    elim (hand_was (with_hand new) k w.seats j (Hand.Done y o) h) [
+      | inl p ↦ inr (inl (ap Event.Answer p.0))
+      | inr old ↦ inl (y, o, old)
+    ]
 answer_wakes (Transition.Resume k x) w j m (y, o, h) =
     let new = Hand.Taken x in
     inl (y, o, hand_other (with_hand new) k w.seats j (Hand.Done y o) new (λ z. refl) (λ e. taken_done (sym e)) h)
@@ -518,6 +531,13 @@ leave_wakes (Transition.CommitUnknown k x) w j m h = absurd m
 leave_wakes (Transition.Defer k x) w j m (unit_index, t, h) =
     let was = Hand.Answered unit_index t in
     inl (unit_index, t, hand_other (with_hand Hand.Empty) k w.seats j was Hand.Empty (λ z. refl) answered_free h)
+leave_wakes (Transition.Withhold k x r) w j m (unit_index, t, h) =
+    let was = Hand.Answered unit_index t in
+    inl (unit_index, t, hand_other (with_hand Hand.Empty) k w.seats j was Hand.Empty (λ z. refl) answered_free h)
+leave_wakes (Transition.Conclude k x r) w j m (unit_index, t, h) =
+    let was = Hand.Answered unit_index t in
+    let new = Hand.Done x (Outcome.Ended (Ending.Replied r)) in
+    inl (unit_index, t, hand_other (with_hand new) k w.seats j was new (λ z. refl) (λ e. done_answered (sym e)) h)
 leave_wakes (Transition.Resume k x) w j m (unit_index, t, h) =
     let was = Hand.Answered unit_index t in
     let new = Hand.Taken x in
@@ -594,6 +614,14 @@ put_wakes (Transition.Defer k x) w j m h =
       | inl p ↦ inr (inl (ap Event.Put p.0))
       | inr old ↦ inl old
     ]
+put_wakes (Transition.Withhold k x r) w j m h =
+    elim (put_was (after (Transition.Withhold k x r) w) w (with_hand Hand.Empty) k j refl h) [
+      | inl p ↦ inr (inl (ap Event.Put p.0))
+      | inr old ↦ inl old
+    ]
+put_wakes (Transition.Conclude k x r) w j m h =
+    let new = Hand.Done x (Outcome.Ended (Ending.Replied r)) in
+    inl (put_not (after (Transition.Conclude k x r) w) w (with_hand new) k j new refl (λ z. refl) done_free h)
 put_wakes (Transition.Resume k x) w j m h =
     let new = Hand.Taken x in
     inl (put_not (after (Transition.Resume k x) w) w (with_hand new) k j new refl (λ z. refl) taken_free h)
@@ -718,6 +746,14 @@ take_wakes (Transition.Defer k x) w j m h =
       | inl p ↦ inr (inr (inl (ap Event.Take p.0)))
       | inr old ↦ inl old
     ]
+take_wakes (Transition.Withhold k x r) w j m h =
+    elim (take_was (after (Transition.Withhold k x r) w) w (with_hand Hand.Empty) k j refl refl refl h) [
+      | inl p ↦ inr (inr (inl (ap Event.Take p.0)))
+      | inr old ↦ inl old
+    ]
+take_wakes (Transition.Conclude k x r) w j m h =
+    let new = Hand.Done x (Outcome.Ended (Ending.Replied r)) in
+    inl (take_not (after (Transition.Conclude k x r) w) w (with_hand new) k j new refl refl refl (λ z. refl) done_free h)
 take_wakes (Transition.Resume k x) w j m h =
     let new = Hand.Taken x in
     inl (take_not (after (Transition.Resume k x) w) w (with_hand new) k j new refl refl refl (λ z. refl) taken_free h)
@@ -957,6 +993,9 @@ check_wakes (Transition.EnterFull x) w m h =
 check_wakes (Transition.Commit i x r) w m h =
     let s = Step.Commit x.entry.ticket r in
     inl (check_before (after (Transition.Commit i x r) w) w (stepped s) s x.unit refl refl (λ u. refl) (λ past t k. k) h)
+check_wakes (Transition.Withhold i x r) w m h =
+    let s = Step.Commit x.entry.ticket r in
+    inl (check_before (after (Transition.Withhold i x r) w) w (stepped s) s x.unit refl refl (λ u. refl) (λ past t k. k) h)
 check_wakes (Transition.CommitBusy i x) w m h =
     let s = Step.Busy x.entry.ticket in
     inl (check_before (after (Transition.CommitBusy i x) w) w (stepped s) s x.unit refl refl (λ u. refl) (λ past t k. k) h)
@@ -1055,6 +1094,14 @@ resume_wakes (Transition.Defer k x) w j m h =
       | inl p ↦ inr (inr (inr (inl (ap Event.Resume p.0))))
       | inr old ↦ inl old
     ]
+resume_wakes (Transition.Withhold k x r) w j m h =
+    elim (resume_was (after (Transition.Withhold k x r) w) w (with_hand Hand.Empty) k j refl refl refl h) [
+      | inl p ↦ inr (inr (inr (inl (ap Event.Resume p.0))))
+      | inr old ↦ inl old
+    ]
+resume_wakes (Transition.Conclude k x r) w j m h =
+    let new = Hand.Done x (Outcome.Ended (Ending.Replied r)) in
+    inl (resume_not (after (Transition.Conclude k x r) w) w (with_hand new) k j new refl refl refl (λ z. refl) done_free h)
 resume_wakes Transition.Wake w j m h = inr tt
 resume_wakes (Transition.Resume k x) w j m h =
     elim (hand_was (with_hand (Hand.Taken x)) k w.seats j Hand.Empty h.free) [

@@ -15,7 +15,8 @@ use Rattle.unit_model.proofs.Tickets.{same-true, itself, apart, or_right}
 use Rattle.unit_model.proofs.Distinct.{alive_distinct}
 use Rattle.unit_model.proofs.Filtered.{other_head}
 use Rattle.unit_model.specs.Jobs.{PlainJob}
-use Rattle.unit_model.specs.Unit.{PlainUnit, IsUnit, after as stepped, parking, dealing}
+use Rattle.unit_model.specs.Unit.{PlainUnit, IsUnit, waits_behind, after as stepped, parking, dealing}
+use Rattle.command_model.specs.PlainReply.{PlainReply}
 use Rattle.unit_model.specs.Asking.{IsOf}
 use Rattle.task_mgmt.specs.Functions.{step_by}
 use Rattle.task_mgmt.specs.declared.kind.MarkBy.{MarkBy}
@@ -28,27 +29,31 @@ use Rattle.device_model.specs.Event.Hard.{hard_code}
 use Rattle.device_model.specs.After.{after}
 use Rattle.device_model.specs.Happens.{MayHappen, Occurrence, Runs}
 use Rattle.device_model.specs.Found.{MayStep, handed_out}
-use Rattle.device_model.specs.Event.Commit.{CommitsUnknown}
+use Rattle.device_model.specs.Event.Commit.{CommitsUnknown, Withholds}
 use Rattle.device_model.specs.Lawful.{AreUnits}
 use Rattle.device_model.specs.Standing.{AreAtWork, IsToCommit, IsToLeave, HandWorks}
-use Rattle.device_model.proofs.Lists.{stays as still, same, get_change, get_other, at_other}
+use Rattle.device_model.proofs.Lists.{same, get_change, get_other, at_other}
 use Rattle.device_model.proofs.Staying.{run_keeps}
 use Rattle.device_model.proofs.Histories.{may_mark, new_units, transition_units}
-use Rattle.device_model.proofs.Handed.{IsOpen, IsEnded, Spares, open_on, ended_on, open_entered, open_given}
+use Rattle.device_model.proofs.Handed.{IsOpen, IsEnded, Spares, ended_on, open_entered, open_given}
+use Rattle.device_model.proofs.Withheld.{IsTaken, WaitsAlike, Follows, follows, taken_on, taken_alike, open_taken, withheld_now, ran_done, deal_alike}
 use Rattle.device_model.proofs.Sums.{counts_one, counts_two, counts_none}
 use Rattle.device_model.proofs.Named.{IsFor, UnitsHoldOwn, AreNamed, all_push, given_own, done_is_named, new_named, transition_names}
 use Rattle.device_model.proofs.Tasks.{AreBalanced, of_index, hand_count, seat_count, out_count, new_balanced, transition_balances}
 use Rattle.device_model.proofs.Off.{each_put, each_taken, none_between, between, between_all, between_parts, each_woken, each_push, first_taken}
 
--- of the unit of an index, if it is there, its steps are so
-abbrev At : (List Step → Type 0) → List PlainUnit → ℕ → Type 0
-At P us unit_index = (u : PlainUnit) × (slice_get us unit_index ≡ Some u) × P u.steps
+-- the unit of an index is there, and is so
+abbrev At : (PlainUnit → Type 0) → List PlainUnit → ℕ → Type 0
+At P us unit_index = (u : PlainUnit) × (slice_get us unit_index ≡ Some u) × P u
 
 abbrev pub ToCommit : List PlainUnit → PlainJob → Type 0
-ToCommit us x = At (IsOpen x.entry) us x.unit
+ToCommit us x = At (IsTaken x.entry) us x.unit
+
+abbrev HasEnded : Ticket → PlainUnit → Type 0
+HasEnded t u = IsEnded t u.steps
 
 abbrev ToLeave : List PlainUnit → ℕ → Ticket → Type 0
-ToLeave us unit_index t = At (IsEnded t) us unit_index
+ToLeave us unit_index t = At (HasEnded t) us unit_index
 
 abbrev HandAt : List PlainUnit → Hand → Type 0
 HandAt us Hand.Empty = ⊤
@@ -86,25 +91,25 @@ JobsSpared s k xs = AllByRecursion (λ x. Spared s k x.unit x.entry.ticket) xs
 -- the unit of an index goes on by a step
 record Goes (s : Step) (k : ℕ) (old new : List PlainUnit) : Type 0 where
   pub here : (u : PlainUnit) → slice_get old k ≡ Some u
-      → (v : PlainUnit) × (slice_get new k ≡ Some v) × (v.steps ≡ s ∷ u.steps)
+      → (v : PlainUnit) × (slice_get new k ≡ Some v) × Follows s u v
   pub other : (i : ℕ) → eqb k i ≡ false → slice_get new i ≡ slice_get old i
 
 goes : (s : Step) (g : PlainUnit → PlainUnit) (k : ℕ) (us : List PlainUnit)
-    → ((u : PlainUnit) → (g u).steps ≡ s ∷ u.steps) → Goes s k us (change g k us)
+    → ((u : PlainUnit) → Follows s u (g u)) → Goes s k us (change g k us)
 goes s g k us e =
     record {
       here = λ u at. (g u, get_change g k us u at, e u);
       other = λ i n. get_other g k us i n;
     }
 
-at_here : (P : List Step → Type 0) (s : Step) (k : ℕ) (old new : List PlainUnit) → Goes s k old new
-    → ((past : List Step) → P past → P (s ∷ past)) → At P old k → At P new k
+at_here : (P : PlainUnit → Type 0) (s : Step) (k : ℕ) (old new : List PlainUnit) → Goes s k old new
+    → ((u v : PlainUnit) → Follows s u v → P u → P v) → At P old k → At P new k
 at_here P s k old new g f h =
     let v = g.here h.0 h.1 in
-    (v.0, v.1, subst P (sym v.2) (f h.0.steps h.2))
+    (v.0, v.1, f h.0 v.0 v.2 h.2)
 
-at_on : (P : List Step → Type 0) (s : Step) (k i : ℕ) (old new : List PlainUnit) → Goes s k old new
-    → (i ≡ k → (past : List Step) → P past → P (s ∷ past)) → At P old i → At P new i
+at_on : (P : PlainUnit → Type 0) (s : Step) (k i : ℕ) (old new : List PlainUnit) → Goes s k old new
+    → (i ≡ k → (u v : PlainUnit) → Follows s u v → P u → P v) → At P old i → At P new i
 at_on P s k i old new g f h =
     (elim (eqb k i) as (λ b. eqb k i ≡ b → At P new i) [
       | true ↦ λ q.
@@ -117,12 +122,13 @@ at_on P s k i old new g f h =
 commit_on : (s : Step) (k : ℕ) (old new : List PlainUnit) (x : PlainJob) → Goes s k old new
     → Spared s k x.unit x.entry.ticket → ToCommit old x → ToCommit new x
 commit_on s k old new x g sp h =
-    at_on (IsOpen x.entry) s k x.unit old new g (λ q past p. open_on s x.entry past (sp q) p) h
+    at_on (IsTaken x.entry) s k x.unit old new g (λ q u v f p. taken_on s x.entry u v f (sp q) p) h
 
 leave_on : (s : Step) (k : ℕ) (old new : List PlainUnit) (unit_index : ℕ) (t : Ticket) → Goes s k old new
     → Spared s k unit_index t → ToLeave old unit_index t → ToLeave new unit_index t
 leave_on s k old new unit_index t g sp h =
-    at_on (IsEnded t) s k unit_index old new g (λ q past p. ended_on s t past (sp q) p) h
+    at_on (HasEnded t) s k unit_index old new g
+    (λ q u v f p. subst (IsEnded t) (sym f.steps) (ended_on s t u.steps (sp q) p)) h
 
 hand_on : (s : Step) (k : ℕ) (old new : List PlainUnit) (h : Hand) → Goes s k old new → HandSpared s k h
     → HandAt old h → HandAt new h
@@ -198,25 +204,43 @@ stays s unit_index old new seats off g m h = (
   jobs_on s unit_index old new off g (mild_jobs s unit_index off m) h.1,
 )
 
--- A change of one unit that leaves its steps
+-- A change of one unit that leaves its steps, and whose replies wait
 
-at_kept : (P : List Step → Type 0) (g : PlainUnit → PlainUnit) (k i : ℕ) (us : List PlainUnit)
-    → ((u : PlainUnit) → (g u).steps ≡ u.steps) → At P us i → At P (change g k us) i
-at_kept P g k i us e h =
-    let v = still (λ (u : PlainUnit). u.steps) g k us e i h.0 h.1 in
-    (v.0, v.1, subst P (sym v.2) h.2)
+abbrev Leaves : (PlainUnit → PlainUnit) → Type 0
+Leaves g = (u : PlainUnit) → ((g u).steps ≡ u.steps) × WaitsAlike u (g u)
 
-hand_kept : (g : PlainUnit → PlainUnit) (k : ℕ) (us : List PlainUnit) (h : Hand) → ((u : PlainUnit) → (g u).steps ≡ u.steps)
+at_kept : (P : PlainUnit → Type 0) (g : PlainUnit → PlainUnit) (k i : ℕ) (us : List PlainUnit)
+    → ((u : PlainUnit) → P u → P (g u)) → At P us i → At P (change g k us) i
+at_kept P g k i us f h =
+    (elim (eqb k i) as (λ b. eqb k i ≡ b → At P (change g k us) i) [
+      | true ↦ λ q.
+          let is : k ≡ i = eqb-true k i q in
+          subst (At P (change g k us)) is
+          (g h.0, get_change g k us h.0 (ap (λ n. slice_get us n) is ∙ h.1), f h.0 h.2)
+      | false ↦ λ q. (h.0, get_other g k us i q ∙ h.1, h.2)
+    ]) refl
+
+commit_kept : (g : PlainUnit → PlainUnit) (k : ℕ) (us : List PlainUnit) (x : PlainJob) → Leaves g → ToCommit us x
+    → ToCommit (change g k us) x
+commit_kept g k us x e h =
+    at_kept (IsTaken x.entry) g k x.unit us (λ u p. taken_alike x.entry u (g u) (e u).0 (e u).1 p) h
+
+leave_kept : (g : PlainUnit → PlainUnit) (k unit_index : ℕ) (t : Ticket) (us : List PlainUnit) → Leaves g
+    → ToLeave us unit_index t → ToLeave (change g k us) unit_index t
+leave_kept g k unit_index t us e h =
+    at_kept (HasEnded t) g k unit_index us (λ u p. subst (IsEnded t) (sym (e u).0) p) h
+
+hand_kept : (g : PlainUnit → PlainUnit) (k : ℕ) (us : List PlainUnit) (h : Hand) → Leaves g
     → HandAt us h → HandAt (change g k us) h
 hand_kept g k us Hand.Empty e h = tt
-hand_kept g k us (Hand.Taken x) e h = at_kept (IsOpen x.entry) g k x.unit us e h
-hand_kept g k us (Hand.Done x o) e h = at_kept (IsEnded x.entry.ticket) g k x.unit us e h
-hand_kept g k us (Hand.Answered unit_index t) e h = at_kept (IsEnded t) g k unit_index us e h
+hand_kept g k us (Hand.Taken x) e h = commit_kept g k us x e h
+hand_kept g k us (Hand.Done x o) e h = leave_kept g k x.unit x.entry.ticket us e h
+hand_kept g k us (Hand.Answered unit_index t) e h = leave_kept g k unit_index t us e h
 
 jobs_kept : (g : PlainUnit → PlainUnit) (k : ℕ) (us : List PlainUnit) (xs : List PlainJob)
-    → ((u : PlainUnit) → (g u).steps ≡ u.steps) → JobsAt us xs → JobsAt (change g k us) xs
+    → Leaves g → JobsAt us xs → JobsAt (change g k us) xs
 jobs_kept g k us [] e h = tt
-jobs_kept g k us (x ∷ xs) e h = (at_kept (IsOpen x.entry) g k x.unit us e h.0, jobs_kept g k us xs e h.1)
+jobs_kept g k us (x ∷ xs) e h = (commit_kept g k us x e h.0, jobs_kept g k us xs e h.1)
 
 -- A task stands in one place
 
@@ -345,22 +369,22 @@ finishes s k x o out w u there at only does us b h =
     let t = x.entry.ticket in
     let old = w.units in
     let new = change (stepped s) n old in
-    let step = goes s (stepped s) n old (λ v. refl) in
+    let step = goes s (stepped s) n old (follows s) in
     let le = out_once n t w u there us b in
     let sp = spares_else s n t k w.seats (between w) (Hand.Taken x) out only at (its_own n t) le in
-    let is = (λ (past : List Step) (p : IsOpen x.entry past).
-    let d = does past in
-    let ended : IsEnded t (s ∷ past) =
-    (x.entry, ap (task_of t) d.0 ∙ p.0, ap (λ c. c || marked t (s ∷ past)) d.1) in
+    let is = (λ (v : PlainUnit) (p : IsTaken x.entry v).
+    let d = does v.steps in
+    let ended : IsEnded t (s ∷ v.steps) =
+    (x.entry, ap (task_of t) d.0 ∙ p.0, ap (λ c. c || marked t (s ∷ v.steps)) d.1) in
     ended) in
     ends s n k old new w.seats (between w) (Hand.Taken x) out (with_hand (Hand.Done x o)) step at sp
-    (λ was more. ((stepped s was.0, get_change (stepped s) n old was.0 was.1, is was.0.steps was.2), more)) h
+    (λ was more. ((stepped s was.0, get_change (stepped s) n old was.0 was.1, is was.0 was.2), more)) h
 
 each_given : (new : List PlainUnit) (k : ℕ) (v : PlainUnit) (xs : List PlainJob) → slice_get new k ≡ Some v
     → AllByRecursion (IsFor k) xs → AllByRecursion (λ j. IsOpen j.entry v.steps) xs → JobsAt new xs
 each_given new k v [] at a b = tt
 each_given new k v (x ∷ xs) at a b =
-    ((v, ap (λ i. slice_get new i) a.0.0 ∙ at, b.0), each_given new k v xs at a.1 b.1)
+    ((v, ap (λ i. slice_get new i) a.0.0 ∙ at, open_taken x.entry v b.0), each_given new k v xs at a.1 b.1)
 
 -- the jobs that a unit's step hands out
 given : (s : Step) (k : ℕ) (us : List PlainUnit) (u : PlainUnit) (jobs : List PlainJob) → slice_get us k ≡ Some u
@@ -380,32 +404,62 @@ left_on : (a b : Bool) → b ≡ false → (a || b) ≡ true → a ≡ true
 left_on true b off h = refl
 left_on false b off h = sym off ∙ h
 
--- the task of a job that a seat took may be committed or was marked
+-- the task of a job that a seat took may be committed, was marked, or has a reply that is withheld
 taken : (k : ℕ) (x : PlainJob) (out : List PlainJob) (w : PlainWorld) (u : PlainUnit)
     → slice_get w.units x.unit ≡ Some u → slice_get w.seats k ≡ Some (record { hand = Hand.Taken x; out = out })
-    → AtWork w → IsOpen x.entry u.steps
+    → AtWork w → IsTaken x.entry u
 taken k x out w u there at h =
     let c = (h.0 k (record { hand = Hand.Taken x; out = out }) at).0 in
-    subst (λ (v : PlainUnit). IsOpen x.entry v.steps) (same (sym c.1 ∙ there)) c.2
+    subst (λ (v : PlainUnit). IsTaken x.entry v) (same (sym c.1 ∙ there)) c.2
 
 -- no job is lost
 never_lost : (k : ℕ) (x : PlainJob) (w : PlainWorld) → CommitsUnknown w k x → AtWork w → ⊥
 never_lost k x w m h =
-    let past = m.holds.unit.steps in
+    let u = m.holds.unit in
+    let past = u.steps in
     let e = x.entry in
-    let c = taken k x m.holds.out w m.holds.unit m.holds.there m.holds.seat h in
+    let c = taken k x m.holds.out w u m.holds.there m.holds.seat h in
     let of : IsOf x e past = record { is_there = c.0; as_asked = refl } in
-    (elim (mark_of e.ticket past) as (λ o. mark_of e.ticket past ≡ o → ⊥) [
-      | Some why ↦ λ q. m.not_marked e why of q
-      | None ↦ λ q.
-          let off = ap (λ (o : Option Reason). is_some o) q in
-          m.not_ready e of (record {
-            is_there = c.0;
-            is_enabled = left_on (enabled e past) (marked e.ticket past) off c.1;
-            is_unmarked = off;
-            is_undone = c.2;
-          })
-    ]) refl
+    elim c.2 [
+      | inl undone ↦
+          (elim (mark_of e.ticket past) as (λ o. mark_of e.ticket past ≡ o → ⊥) [
+            | Some why ↦ λ q. m.not_marked e why of q
+            | None ↦ λ q.
+                let off = ap (λ (o : Option Reason). is_some o) q in
+                m.not_ready e of (record {
+                  is_there = c.0;
+                  is_enabled = left_on (enabled e past) (marked e.ticket past) off c.1;
+                  is_unmarked = off;
+                  is_undone = undone;
+                })
+          ]) refl
+      | inr r ↦ m.not_withheld e r.0 of r.1
+    ]
+
+-- a command ran, and its reply isn't told yet
+withholds : (k : ℕ) (x : PlainJob) (r : PlainReply) (w : PlainWorld) → Withholds w k x r → AreUnits w → AreBalanced w
+    → AtWork w → AtWork (after (Transition.Withhold k x r) w)
+withholds k x r w m us b h =
+    let s = Step.Commit x.entry.ticket r in
+    let n = x.unit in
+    let t = x.entry.ticket in
+    let u = m.holds.unit in
+    let old = w.units in
+    let new = change (stepped s) n old in
+    let out = m.holds.out in
+    let step = goes s (stepped s) n old (follows s) in
+    let le = out_once n t w u m.holds.there us b in
+    let sp = spares_else s n t k w.seats (between w) (Hand.Taken x) out (λ v no. no) m.holds.seat (its_own n t) le in
+    let all = ends s n k old new w.seats (between w) (Hand.Taken x) out (with_hand Hand.Empty) step m.holds.seat sp
+    (λ was more. (tt, more)) h in
+    let c = taken k x out w u m.holds.there m.holds.seat h in
+    let one : m.may.0 ≡ x.entry = same (sym m.may.1.is_there ∙ c.0) in
+    let waits = subst (λ (e : Entry). waits_behind u e.command r.status ≡ true) one m.may.3 in
+    let is : ToCommit new x = (stepped s u, get_change (stepped s) n old u m.holds.there, withheld_now x.entry r u c waits) in
+    let a = between_parts (ToCommit new) (all_off w) w.aside w.woken all.1 in (
+      all.0,
+      between_all (ToCommit new) (all_off w) (w.aside ++ x ∷ []) w.woken a.0 (each_push (ToCommit new) w.aside x a.1 is) a.2,
+    )
 
 -- One transition
 
@@ -419,16 +473,16 @@ transition_works (Transition.Run x) w m us names b h =
     let is = us x.unit u c.unit_there in
     let opened = open_entered u.opening x.entry u.steps is.lawful m.may m.blocked in
     gets s x.unit w.units new (owner w.workers x.chain.ticket.queue) w.seats (between w) c.seat (x ∷ [])
-    (goes s (stepped s) x.unit w.units (λ v. refl)) (λ t. tt) c.seat_there
-    ((stepped s u, get_change (stepped s) x.unit w.units u c.unit_there, opened), tt) h
+    (goes s (stepped s) x.unit w.units (follows s)) (λ t. tt) c.seat_there
+    ((stepped s u, get_change (stepped s) x.unit w.units u c.unit_there, open_taken x.entry (stepped s u) opened), tt) h
 transition_works (Transition.Park x) w m us names b h =
     let s = Step.Enter x.entry in
     stays s x.unit w.units (change (parking x) x.unit w.units) w.seats (between w)
-    (goes s (parking x) x.unit w.units (λ v. refl)) (λ t. tt) h
+    (goes s (parking x) x.unit w.units (λ v. record { steps = refl; waits = λ c n. refl })) (λ t. tt) h
 transition_works (Transition.EnterFull x) w m us names b h =
     let s = Step.Full x.entry.ticket in
     stays s x.unit w.units (change (stepped s) x.unit w.units) w.seats (between w)
-    (goes s (stepped s) x.unit w.units (λ v. refl)) (λ t. tt) h
+    (goes s (stepped s) x.unit w.units (follows s)) (λ t. tt) h
 transition_works (Transition.Put k x) w m us names b h =
     let this : Seat = record { hand = Hand.Empty; out = x ∷ m.rest } in
     let was = h.0 k this m.seat in
@@ -466,6 +520,16 @@ transition_works (Transition.CommitAborted k x why) w m us names b h =
     let on = ap (λ (o : Option Reason). is_some o) m.marked in
     let is : IsEnded t u.steps = (x.entry, c.0, or_right (done t u.steps) (marked t u.steps) on) in
     (seat_goes w.units (with_hand new) k w.seats this m.holds.seat (λ z. ((u, m.holds.there, is), z.1)) h.0, h.1)
+transition_works (Transition.Withhold k x r) w m us names b h = withholds k x r w m us b h
+transition_works (Transition.Conclude k x r) w m us names b h =
+    let u = m.holds.unit in
+    let t = x.entry.ticket in
+    let this : Seat = record { hand = Hand.Taken x; out = m.holds.out } in
+    let new = Hand.Done x (Outcome.Ended (Ending.Replied r)) in
+    let c = taken k x m.holds.out w u m.holds.there m.holds.seat h in
+    let ran = ran_done t r u.steps m.may.1.ran in
+    let is : IsEnded t u.steps = (x.entry, c.0, ap (λ b. b || marked t u.steps) ran) in
+    (seat_goes w.units (with_hand new) k w.seats this m.holds.seat (λ z. ((u, m.holds.there, is), z.1)) h.0, h.1)
 transition_works (Transition.CommitUnknown k x) w m us names b h = absurd (never_lost k x w m h)
 transition_works (Transition.Defer k x) w m us names b h =
     let P = ToCommit w.units in
@@ -498,7 +562,7 @@ transition_works (Transition.Leave k unit_index t jobs) w m us names b h =
     let u = m.holds.unit in
     let hand = Hand.Answered unit_index t in
     let new = change (stepped s) unit_index w.units in
-    let step = goes s (stepped s) unit_index w.units (λ v. refl) in
+    let step = goes s (stepped s) unit_index w.units (follows s) in
     let le = out_once unit_index t w u m.holds.there us b in
     let own = its_own unit_index t in
     let sp = spares_else s unit_index t k w.seats (between w) hand m.holds.out (λ v n. n) m.holds.seat own le in
@@ -511,7 +575,7 @@ transition_works (Transition.Mark t p how jobs) w m us names b h =
     let new = change (stepped s) p.unit w.units in
     let at = m.marking.unit_there in
     let more = given s p.unit w.units u jobs at (may_mark how u) (us p.unit u at) names.1 m.releases in
-    let r = gets s p.unit w.units new 0 w.seats (between w) m.seat jobs (goes s (stepped s) p.unit w.units (λ v. refl))
+    let r = gets s p.unit w.units new 0 w.seats (between w) m.seat jobs (goes s (stepped s) p.unit w.units (follows s))
     (mild_mark how) m.seat_there more h in
     (r.0, each_woken (ToCommit new) (all_off w) w.aside w.woken r.1)
 transition_works (Transition.Hard p jobs) w m us names b h =
@@ -519,19 +583,19 @@ transition_works (Transition.Hard p jobs) w m us names b h =
     let new = change (stepped s) p.unit w.units in
     let more = given s p.unit w.units m.unit jobs m.there tt (us p.unit m.unit m.there) names.1 m.releases in
     let r = gets s p.unit w.units new w.workers w.seats (between w) m.seat jobs
-    (goes s (stepped s) p.unit w.units (λ v. refl)) (λ t. tt) m.seat_there more h in
+    (goes s (stepped s) p.unit w.units (follows s)) (λ t. tt) m.seat_there more h in
     (r.0, each_woken (ToCommit new) (all_off w) w.aside w.woken r.1)
 transition_works (Transition.Resize unit_index blocks) w m us names b h =
     let s = Step.Resize blocks in
     stays s unit_index w.units (change (stepped s) unit_index w.units) w.seats (between w)
-    (goes s (stepped s) unit_index w.units (λ v. refl)) (λ t. tt) h
+    (goes s (stepped s) unit_index w.units (follows s)) (λ t. tt) h
 transition_works (Transition.Deal unit_index x) w m us names b h = (
   λ i r at.
       let was = h.0 i r at in (
-        hand_kept (dealing x) unit_index w.units r.hand (λ u. refl) was.0,
-        jobs_kept (dealing x) unit_index w.units r.out (λ u. refl) was.1,
+        hand_kept (dealing x) unit_index w.units r.hand (λ u. (refl, deal_alike x u)) was.0,
+        jobs_kept (dealing x) unit_index w.units r.out (λ u. (refl, deal_alike x u)) was.1,
       ),
-  jobs_kept (dealing x) unit_index w.units (between w) (λ u. refl) h.1,
+  jobs_kept (dealing x) unit_index w.units (between w) (λ u. (refl, deal_alike x u)) h.1,
 )
 transition_works d w m us names b h = h
 

@@ -6,7 +6,7 @@ use Rattle.device_model.specs.Event.Fetch.{after_arrive, after_refuse, after_ope
 use Rattle.device_model.specs.Event.Enter.{after_run, after_park, after_enter_full, after_enter_busy, after_enter_stale}
 use Rattle.device_model.specs.Event.Direct.{after_direct}
 use Rattle.device_model.specs.Event.HandOff.{after_put, after_keep, after_take}
-use Rattle.device_model.specs.Event.Commit.{after_commit, after_commit_busy, after_commit_aborted, after_commit_unknown}
+use Rattle.device_model.specs.Event.Commit.{after_commit, after_commit_busy, after_commit_aborted, after_commit_unknown, after_withhold, after_conclude}
 use Rattle.device_model.specs.Event.Answer.{after_answer}
 use Rattle.device_model.specs.Event.Leave.{after_leave}
 use Rattle.device_model.specs.Event.Mark.{after_mark, after_ask, after_mark_refused}
@@ -40,6 +40,8 @@ after (Transition.CommitBusy k x) w = after_commit_busy k x w
 after (Transition.CommitAborted k x why) w = after_commit_aborted k x why w
 after (Transition.CommitUnknown k x) w = after_commit_unknown k x w
 after (Transition.Defer k x) w = after_defer k x w
+after (Transition.Withhold k x r) w = after_withhold k x r w
+after (Transition.Conclude k x r) w = after_conclude k x r w
 after Transition.Wake w = after_wake w
 after (Transition.Resume k x) w = after_resume k x w
 after (Transition.Answer k x o xs) w = after_answer k x o xs w

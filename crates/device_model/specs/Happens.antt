@@ -11,7 +11,7 @@ use Rattle.device_model.specs.Event.Fetch.{Arrives, Refuses, OpensFunction, Hold
 use Rattle.device_model.specs.Event.Enter.{Enters, EntersFull, EntersBusy, EntersStale}
 use Rattle.device_model.specs.Event.Direct.{Directs}
 use Rattle.device_model.specs.Event.HandOff.{Puts, KeepsJob, TakesJob}
-use Rattle.device_model.specs.Event.Commit.{Commits, CommitsBusy, CommitsAborted, CommitsUnknown}
+use Rattle.device_model.specs.Event.Commit.{Commits, CommitsBusy, CommitsAborted, CommitsUnknown, Withholds, Concludes}
 use Rattle.device_model.specs.Event.Answer.{Answers}
 use Rattle.device_model.specs.Event.Leave.{Leaves}
 use Rattle.device_model.specs.Event.Mark.{Marks, Asks, MarksRefused}
@@ -47,6 +47,8 @@ Happens (Transition.CommitBusy k x) w = CommitsBusy w k x
 Happens (Transition.CommitAborted k x why) w = CommitsAborted w k x why
 Happens (Transition.CommitUnknown k x) w = ⊥
 Happens (Transition.Defer k x) w = Defers w k x
+Happens (Transition.Withhold k x r) w = Withholds w k x r
+Happens (Transition.Conclude k x r) w = Concludes w k x r
 Happens Transition.Wake w = Awakens w
 Happens (Transition.Resume k x) w = Resumes w k x
 Happens (Transition.Answer k x o xs) w = Answers w k x o xs

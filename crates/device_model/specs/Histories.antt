@@ -19,6 +19,7 @@ step_of unit_index (Transition.Run x) = at_index unit_index x.unit (Step.Enter x
 step_of unit_index (Transition.Park x) = at_index unit_index x.unit (Step.Enter x.entry)
 step_of unit_index (Transition.EnterFull x) = at_index unit_index x.unit (Step.Full x.entry.ticket)
 step_of unit_index (Transition.Commit k x r) = at_index unit_index x.unit (Step.Commit x.entry.ticket r)
+step_of unit_index (Transition.Withhold k x r) = at_index unit_index x.unit (Step.Commit x.entry.ticket r)
 step_of unit_index (Transition.CommitBusy k x) = at_index unit_index x.unit (Step.Busy x.entry.ticket)
 step_of unit_index (Transition.Leave k i t jobs) = at_index unit_index i (Step.Leave t)
 step_of unit_index (Transition.Mark t p m jobs) = at_index unit_index p.unit (step_by m)

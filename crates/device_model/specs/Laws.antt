@@ -58,7 +58,7 @@ NoneIsCounted old new =
     (i : ℕ) (q : PlainQueue) → slice_get old.queues i ≡ Some q
     → (r : PlainQueue) × (slice_get new.queues i ≡ Some r) × (r.notices ≡ q.notices)
 
--- What the jobs of the seats, of the hand-off and of those that wait for pages count, each by what p says of it
+-- What the jobs of the seats, of the hand-off and of those that wait count, each by what p says of it
 
 abbrev pub in_hand : (PlainJob → ℕ) → Hand → ℕ
 in_hand p Hand.Empty = 0

@@ -9,8 +9,8 @@ use Rattle.device_model.specs.World.{PlainQueue, Seat, Opened, PlainWorld}
 use Rattle.device_model.specs.Transitions.{Transition}
 use Rattle.device_model.specs.Weights.{Weights, held, fetches, nothing}
 
--- own: at most so many transitions are left of a chain in each place; where it waits for pages, of those that end it once
--- it is tried again and they are there
+-- own: at most so many transitions are left of a chain in each place; where it is put aside, of those that end it once
+-- it is tried again and need not wait
 abbrev pub owed : Weights
 owed =
     record {

@@ -12,13 +12,12 @@ use Rattle.ring_core.specs.declared.log.Ticket.{Ticket}
 use Rattle.request_intake.specs.Inventory.{PlainInventory}
 use Rattle.request_intake.specs.declared.decision.Decision.TheVariants as decision
 use Rattle.unit_model.specs.Tasks.{Entry, is_blocked, task_of}
-use Rattle.unit_model.specs.Lawful as history
 use Rattle.unit_model.specs.Steps.{Step, alive, is_alive, next_number}
 use Rattle.unit_model.specs.Marks.{mark_of}
 use Rattle.unit_model.specs.Clearing.{is_clear}
 use Rattle.unit_model.specs.Seen.{any_met}
-use Rattle.unit_model.specs.Unit.{PlainUnit, may_wait, after as stepped, parking, MayCommit, MayDeal, dealing}
-use Rattle.unit_model.specs.Asking.{IsNamed, IsMisdelivered, CannotCommit}
+use Rattle.unit_model.specs.Unit.{PlainUnit, after as stepped, parking, MayCommit, MayWithhold, MayConclude, HasToWait, MayDeal, dealing}
+use Rattle.unit_model.specs.Asking.{IsNamed, IsMisdelivered, CannotCommit, IsNotWithheld}
 use Rattle.task_mgmt.specs.Functions.{step_by, response_of}
 use Rattle.task_mgmt.specs.declared.control.ControlDecision.TheVariants as managed
 use Rattle.task_mgmt.specs.declared.kind.Kind.{Kind}
@@ -52,6 +51,8 @@ unit_of (Transition.Commit k x r) = Some x.unit
 unit_of (Transition.CommitBusy k x) = Some x.unit
 unit_of (Transition.CommitAborted k x why) = Some x.unit
 unit_of (Transition.Defer k x) = Some x.unit
+unit_of (Transition.Withhold k x r) = Some x.unit
+unit_of (Transition.Conclude k x r) = Some x.unit
 unit_of (Transition.Leave k unit_index t jobs) = Some unit_index
 unit_of (Transition.Mark t p m jobs) = Some p.unit
 unit_of (Transition.Ask t unit_index rule b) = Some unit_index
@@ -76,9 +77,11 @@ AsksUnit (Transition.Commit k x r) u = MayCommit u x.entry.ticket r
 AsksUnit (Transition.CommitBusy k x) u = MayStep u (Step.Busy x.entry.ticket) × MayYield u x.entry.command
 AsksUnit (Transition.CommitAborted k x why) u =
     (is_alive x.entry.ticket u.steps ≡ true) × (mark_of x.entry.ticket u.steps ≡ Some why)
-AsksUnit (Transition.CommitUnknown k x) u = CannotCommit (task_of x.entry.ticket (alive u.steps)) x u.steps
-AsksUnit (Transition.Defer k x) u =
-    (e : Entry) × history.IsReady x.entry.ticket e u.steps × (may_wait u e.command ≡ true)
+AsksUnit (Transition.CommitUnknown k x) u =
+    CannotCommit (task_of x.entry.ticket (alive u.steps)) x u.steps × IsNotWithheld x u
+AsksUnit (Transition.Defer k x) u = (e : Entry) × HasToWait u x.entry.ticket e
+AsksUnit (Transition.Withhold k x r) u = MayWithhold u x.entry.ticket r
+AsksUnit (Transition.Conclude k x r) u = MayConclude u x.entry.ticket r
 AsksUnit (Transition.Leave k unit_index t jobs) u = MayStep u (Step.Leave t) × (jobs ≡ handed_out u (Step.Leave t))
 AsksUnit (Transition.Mark t p m jobs) u = (p.place ≡ length u.steps) × (jobs ≡ handed_out u (step_by m))
 AsksUnit (Transition.Ask t unit_index rule b) u = b ≡ any_met rule (alive u.steps)
@@ -95,6 +98,7 @@ unit_after (Transition.Park x) u = parking x u
 unit_after (Transition.EnterFull x) u = stepped (Step.Full x.entry.ticket) u
 unit_after (Transition.Commit k x r) u = stepped (Step.Commit x.entry.ticket r) u
 unit_after (Transition.CommitBusy k x) u = stepped (Step.Busy x.entry.ticket) u
+unit_after (Transition.Withhold k x r) u = stepped (Step.Commit x.entry.ticket r) u
 unit_after (Transition.Leave k unit_index t jobs) u = stepped (Step.Leave t) u
 unit_after (Transition.Mark t p m jobs) u = stepped (step_by m) u
 unit_after (Transition.Hard p jobs) u = stepped (Step.Reset hard_code) u
@@ -211,6 +215,8 @@ StandsFor (Transition.Commit k x r) w = HasHand w k (Hand.Taken x)
 StandsFor (Transition.CommitBusy k x) w = HasHand w k (Hand.Taken x)
 StandsFor (Transition.CommitAborted k x why) w = HasHand w k (Hand.Taken x)
 StandsFor (Transition.Defer k x) w = HasHand w k (Hand.Taken x)
+StandsFor (Transition.Withhold k x r) w = HasHand w k (Hand.Taken x)
+StandsFor (Transition.Conclude k x r) w = HasHand w k (Hand.Taken x)
 StandsFor Transition.Wake w = Awakens w
 StandsFor (Transition.Resume k x) w = Resumes w k x
 StandsFor (Transition.Answer k x o xs) w = HasHand w k (Hand.Done x o)

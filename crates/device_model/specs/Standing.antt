@@ -1,6 +1,7 @@
 -- What is true of everything that stands somewhere in the device, in every world that is reached.
-use Rattle.std.specs.Prelude.{ℕ, ◌≡◌, ◌<◌, ◌≤◌, ◌+◌, ◌*◌, ◌||◌, true, false, List, [], ◌∷◌, length, Option, Some, None, slice_get, ⊤}
+use Rattle.std.specs.Prelude.{ℕ, ◌≡◌, ◌⊎◌, ◌<◌, ◌≤◌, ◌+◌, ◌*◌, ◌||◌, true, false, List, [], ◌∷◌, length, Option, Some, None, slice_get, ⊤}
 use Rattle.std.specs.List.{AllByRecursion}
+use Rattle.command_model.specs.PlainReply.{PlainReply}
 use Rattle.ring_core.specs.State.{PlainChain, Owns}
 use Rattle.ring_core.specs.declared.log.Ticket.{Ticket}
 use Rattle.unit_model.specs.Tasks.{Entry, task_of}
@@ -9,7 +10,7 @@ use Rattle.unit_model.specs.Marks.{marked}
 use Rattle.unit_model.specs.Enabling.{enabled}
 use Rattle.unit_model.specs.Lawful.{IsReady}
 use Rattle.unit_model.specs.Jobs.{PlainJob}
-use Rattle.unit_model.specs.Unit.{PlainUnit, is_backed}
+use Rattle.unit_model.specs.Unit.{PlainUnit, is_backed, IsWithheld}
 use Rattle.unit_model.specs.Asking.{IsNamed}
 use Rattle.unit_model.specs.declared.rule.Rule.{Rule}
 use Rattle.task_mgmt.specs.declared.kind.Kind.TheVariants.{Querying}
@@ -67,13 +68,13 @@ BuffersAreOutstanding w =
 -- Tasks
 
 -- the task of a job that is to be committed: it is alive in the job's unit as it entered, may run or was marked, and
--- isn't done
+-- isn't done, unless its reply is withheld
 pub record IsToCommit (w : PlainWorld) (x : PlainJob) : Type 0 where
   pub unit : PlainUnit
   pub there : UnitIs w x.unit unit
   pub alive : task_of x.entry.ticket (alive unit.steps) ≡ Some x.entry
   pub handed_out : (enabled x.entry unit.steps || marked x.entry.ticket unit.steps) ≡ true
-  pub undone : done x.entry.ticket unit.steps ≡ false
+  pub undone : (done x.entry.ticket unit.steps ≡ false) ⊎ ((r : PlainReply) × IsWithheld unit x.entry.ticket x.entry r)
 
 -- a task that is to leave: it is alive in the unit, and is done or was marked
 pub record IsToLeave (w : PlainWorld) (unit_index : ℕ) (t : Ticket) : Type 0 where
@@ -96,12 +97,12 @@ pub record AreAtWork (w : PlainWorld) : Type 0 where
   pub aside : AllByRecursion (IsToCommit w) w.aside
   pub woken : AllByRecursion (IsToCommit w) w.woken
 
--- a job that waits for pages: its unit's disk is one whose pages come and go, and its command may run
+-- a job that waits: its unit's disk is one whose pages come and go, and its command may run, or its reply is withheld
 pub record IsAside (w : PlainWorld) (x : PlainJob) : Type 0 where
   pub unit : PlainUnit
   pub there : UnitIs w x.unit unit
   pub backed : is_backed unit ≡ true
-  pub ready : IsReady x.entry.ticket x.entry unit.steps
+  pub waits : IsReady x.entry.ticket x.entry unit.steps ⊎ ((r : PlainReply) × IsWithheld unit x.entry.ticket x.entry r)
 
 abbrev pub AreAside : PlainWorld → Type 0
 AreAside w = AllByRecursion (IsAside w) w.aside
@@ -144,7 +145,7 @@ AreNamedThere w = (x : PlainJob) (i : ℕ) (q : PlainQueue) (u : PlainUnit) → 
 
 -- Room
 
--- no seat has more jobs than there may be tasks, and no more wait for pages or are to be tried again; each seat has its list of the hand-off, which has no more than the limit
+-- no seat has more jobs than there may be tasks, and no more wait or are to be tried again; each seat has its list of the hand-off, which has no more than the limit
 pub record HaveRoom (w : PlainWorld) : Type 0 where
   pub seats : Everywhere (λ k s. length s.out ≤ 64 * length w.units) w.seats
   pub lists : length w.handed_off ≡ length w.seats

@@ -45,8 +45,12 @@ pub data Transition : Type 0 where
   CommitBusy : ℕ → PlainJob → Transition
   CommitAborted : ℕ → PlainJob → Reason → Transition
   CommitUnknown : ℕ → PlainJob → Transition
-  -- its command needs pages that aren't in memory: the job is put aside
+  -- its command waits for the host's storage, or its reply still does: the job is put aside
   Defer : ℕ → PlainJob → Transition
+  -- its command runs, and its reply isn't told before the host's storage has what that changed: the job is put aside; then it is
+  -- told
+  Withhold : ℕ → PlainJob → PlainReply → Transition
+  Conclude : ℕ → PlainJob → PlainReply → Transition
   -- the jobs that were put aside are to be tried again; a seat takes the first of these
   Wake : Transition
   Resume : ℕ → PlainJob → Transition
@@ -100,6 +104,8 @@ event_of (Transition.CommitBusy k x) = Event.Commit k
 event_of (Transition.CommitAborted k x why) = Event.Commit k
 event_of (Transition.CommitUnknown k x) = Event.Commit k
 event_of (Transition.Defer k x) = Event.Commit k
+event_of (Transition.Withhold k x r) = Event.Commit k
+event_of (Transition.Conclude k x r) = Event.Commit k
 event_of Transition.Wake = Event.Wake
 event_of (Transition.Resume k x) = Event.Resume k
 event_of (Transition.Answer k x o xs) = Event.Answer k

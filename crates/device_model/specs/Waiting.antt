@@ -1,4 +1,4 @@
--- What becomes of jobs that wait for pages of their unit's disk.
+-- What becomes of jobs that wait for their unit's disk.
 use Rattle.std.specs.Prelude.{◌≡◌, List, [], ◌∷◌}
 use Rattle.unit_model.specs.Jobs.{PlainJob}
 use Rattle.device_model.specs.World.{PlainWorld}
@@ -7,6 +7,7 @@ use Rattle.device_model.specs.Transitions.{Transition}
 -- the job that a transition puts aside, and the one that it takes again
 abbrev pub deferred : Transition → List PlainJob
 deferred (Transition.Defer k x) = x ∷ []
+deferred (Transition.Withhold k x r) = x ∷ []
 deferred d = []
 
 abbrev pub resumed : Transition → List PlainJob

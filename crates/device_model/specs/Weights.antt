@@ -11,7 +11,7 @@ use Rattle.device_model.specs.Changing.{bit}
 use Rattle.device_model.specs.Places.{of_chain, of_job, of_function, at_unit, accepts, uses as of_used}
 
 -- by place: arrived at its queue, or ready to be answered there; parked in a unit, or in a list of a seat; handed off;
--- put aside for pages, or to be tried again; in a hand, to be committed, to be answered, or to leave; of the open function; an event buffer
+-- put aside, or to be tried again; in a hand, to be committed, to be answered, or to leave; of the open function; an event buffer
 pub record Weights : Type 0 where
   pub arrived : Ticket → ℕ
   pub direct : Ticket → ℕ

@@ -38,7 +38,7 @@ pub record PlainWorld : Type 0 where
   pub units : List PlainUnit
   pub seats : List Seat
   pub workers : ℕ
-  -- jobs that wait for pages of their unit's disk, and those that are to be tried again
+  -- jobs that wait for their unit's disk, and those that are to be tried again
   pub aside : List PlainJob
   pub woken : List PlainJob
   -- for each seat the jobs that it handed off and that none took yet, and how many these may be

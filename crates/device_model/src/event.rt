@@ -36,7 +36,7 @@ pub enum Event {
     Resize(u16, u64),
     /// The oldest event that waits goes to the guest, or is missed.
     Raise,
-    /// The host handed pages of a disk in, or gave one up. Each job that waits for pages is to be tried again.
+    /// The host handed pages of a disk in, gave one up, or wrote some. Each job that waits is to be tried again.
     Wake,
     /// A seat takes the first of the jobs that are to be tried again.
     Resume(u16),

@@ -13,17 +13,20 @@ ghost use Rattle.unit_model.specs.Jobs.{PlainJob};
 ghost use Rattle.device_model.specs.Parts.{Hand};
 ghost use Rattle.device_model.specs.Happens.{Occurrence, Happens, Runs, Reached, occurrence_of, world_of};
 ghost use Rattle.device_model.specs.Found.{SeatIs, OffIs};
-ghost use Rattle.device_model.specs.Places.{of_chain, only, accepted_count, used_count};
+ghost use Rattle.device_model.specs.Places.{of_chain, of_function, only, accepted_count, used_count};
 ghost use Rattle.device_model.specs.Turns.{count_changes};
 ghost use Rattle.device_model.specs.Applies.{Applies};
-ghost use Rattle.device_model.specs.Order.{IsNext, IsQuiet, IsAtRest, IsNextOf, IsQuietOf, IsAtRestOf, waiting_count};
+ghost use Rattle.device_model.specs.Order.{IsNext, IsQuiet, IsAtRest, IsNextOf, IsQuietOf, IsAtRestOf, NoneIsWithheld, waiting_count};
 ghost use Rattle.device_model.specs.Measure.{measure, pays, roused};
 ghost use Rattle.device_model.specs.Settling.{Settles, SettlesOf, IsShort};
 ghost use Rattle.device_model.specs.Waking.{IsOwn, IsFetch, Wakes};
 
 /// A device that has no step of its own left to take has nothing left to answer. Each accepted chain was used, but for
-/// the event buffers that are held. No function is open, no event waits, and no queue has a chain, unless a fault broke
-/// it.
+/// the event buffers that are held and the jobs that wait for their disk. No function is open, no event waits, and no
+/// queue has a chain, unless a fault broke it.
+///
+/// A function that met a task whose reply is withheld waits for it, and stays open until the host's storage has what the
+/// command changed.
 ///
 /// Nothing is stuck, since one of the tasks alive in a unit may always run: a HEAD OF QUEUE task, or else the oldest.
 /// A task that may run isn't parked, so it stands in a seat's list, in the hand-off or in a hand, where a step takes it
@@ -77,18 +80,22 @@ pub fn what_applies_happens()
 {}
 
 /// As long as a chain is outstanding, an event of the device itself is next. The law leaves out event buffers that are
-/// held, and chains for which the host owes pages. A job that waits for pages of its disk goes on once the host wakes it,
-/// and so does what is parked behind it.
+/// held, and chains for which the host owes pages or a write. A job that waits for its disk goes on once the host wakes it,
+/// and so does what is parked behind it. A function waits for the tasks that it met, and so for a reply that is withheld.
 ///
-/// - `next`: no job of the device waits for pages. Then no chain is left out but the event buffers.
-/// - `waits`: the chain itself neither waits for pages nor is parked, whatever others do.
+/// - `next`: no job of the device waits. Then no chain is left out but the event buffers.
+/// - `waits`: the chain itself neither waits nor is parked, and is no open function's, whatever others do.
+/// - `function`: the chain neither waits nor is parked, and no reply is withheld.
 pub fn nothing_is_stuck()
     ensures next { (old : PlainWorld) (trace : List Occurrence) (w : PlainWorld) (t : Ticket) → Reached old trace w →
         used_count (only t) w < accepted_count (only t) w → sum_by (of_chain (only t)) w.buffers ≡ 0 →
         w.aside ≡ [] → (e : Event) × IsNext w e }
     ensures waits { (old : PlainWorld) (trace : List Occurrence) (w : PlainWorld) (t : Ticket) → Reached old trace w →
         used_count (only t) w < accepted_count (only t) w → sum_by (of_chain (only t)) w.buffers ≡ 0 →
-        waiting_count (only t) w ≡ 0 → (e : Event) × IsNext w e }
+        waiting_count (only t) w ≡ 0 → of_function (only t) w.function ≡ 0 → (e : Event) × IsNext w e }
+    ensures function { (old : PlainWorld) (trace : List Occurrence) (w : PlainWorld) (t : Ticket) → Reached old trace w →
+        used_count (only t) w < accepted_count (only t) w → sum_by (of_chain (only t)) w.buffers ≡ 0 →
+        waiting_count (only t) w ≡ 0 → NoneIsWithheld w → (e : Event) × IsNext w e }
 {}
 
 /// Each step lowers what is still owed, but for what it brings. A chain brings its price as it is fetched, a function

@@ -1,17 +1,17 @@
 //! Laws of what the host's storage has of units' disks, in every order of the device's steps. They say nothing of code: they
 //! hold of every program whose calls are transitions.
 
-ghost use Rattle.std.specs.Prelude.{ℕ, ◌≡◌, Some, true, false};
+ghost use Rattle.std.specs.Prelude.{ℕ, ◌≡◌, ◌∷◌, Some, true, false};
 ghost use Rattle.block_store.specs.Blocks.{Blocks};
 ghost use Rattle.block_store.specs.Storage.{Ledger, Dealing, IsLeft};
 ghost use Rattle.command_model.specs.PlainReply.{PlainReply};
 ghost use Rattle.command_model.specs.Statuses.{good};
 ghost use Rattle.command_model.specs.Waiting.{is_flush};
 ghost use Rattle.unit_model.specs.Tasks.{Entry, task_of};
-ghost use Rattle.unit_model.specs.Steps.{alive};
-ghost use Rattle.unit_model.specs.Flushing.{HasBeen, is_in_flush};
+ghost use Rattle.unit_model.specs.Steps.{Step, alive};
+ghost use Rattle.unit_model.specs.Flushing.{HasBeen, HasBeenBehind, is_in_flush};
 ghost use Rattle.unit_model.specs.Jobs.{PlainJob};
-ghost use Rattle.unit_model.specs.Unit.{PlainUnit, is_backed, dealing};
+ghost use Rattle.unit_model.specs.Unit.{PlainUnit, is_backed, waits_behind, dealing};
 ghost use Rattle.device_model.specs.World.{PlainWorld};
 ghost use Rattle.device_model.specs.Transitions.{Transition};
 ghost use Rattle.device_model.specs.After.{after};
@@ -58,4 +58,19 @@ pub fn a_flush_ends_once_it_is_kept()
         Happens (Transition.Commit k x r) w → UnitIs w x.unit u → r.status ≡ good → task_of x.entry.ticket (alive u.steps) ≡ Some e →
         is_flush e.command ≡ true → u.storage ≡ Some l → IsLeft l left → is_in_flush e.command b ≡ true →
         HasBeen u.opening u.steps e b (left b) }
+{}
+
+/// Where a unit tells of no volatile write cache (SBC-3 §6.5), a command that changed its blocks ends with GOOD only once the
+/// host's storage has what it changed. A crash at that moment leaves each block as it was once the command had run, or later.
+///
+/// - `commit`: the command is answered as it runs.
+/// - `conclude`: it ran before, and its reply was withheld until now.
+pub fn a_command_is_answered_once_it_is_kept()
+    ensures commit { (w : PlainWorld) (k : ℕ) (x : PlainJob) (r : PlainReply) (u : PlainUnit) (e : Entry) (l : Ledger) (left : Blocks)
+        (b : ℕ) → Happens (Transition.Commit k x r) w → UnitIs w x.unit u → task_of x.entry.ticket (alive u.steps) ≡ Some e →
+        waits_behind u e.command r.status ≡ true → u.storage ≡ Some l → IsLeft l left →
+        HasBeenBehind u.opening (Step.Commit x.entry.ticket r ∷ u.steps) x.entry.ticket b (left b) }
+    ensures conclude { (w : PlainWorld) (k : ℕ) (x : PlainJob) (r : PlainReply) (u : PlainUnit) (l : Ledger) (left : Blocks) (b : ℕ) →
+        Happens (Transition.Conclude k x r) w → UnitIs w x.unit u → u.storage ≡ Some l → IsLeft l left →
+        HasBeenBehind u.opening u.steps x.entry.ticket b (left b) }
 {}

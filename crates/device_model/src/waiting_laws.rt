@@ -1,10 +1,12 @@
-//! Laws of jobs that wait for pages of their unit's disk, in every order of the device's steps. They say nothing of code:
+//! Laws of jobs that wait for their unit's disk, in every order of the device's steps. They say nothing of code:
 //! they hold of every program whose calls are transitions.
 
 ghost use Rattle.std.specs.Prelude.{ℕ, Bool, ◌≡◌, ◌+◌, ◌<◌, ◌≤◌, ◌++◌, List, [], Some};
 ghost use Rattle.std.specs.List.{sum_by};
 ghost use Rattle.ring_core.specs.declared.log.Ticket.{Ticket};
 ghost use Rattle.unit_model.specs.declared.reason.Reason.{Reason};
+ghost use Rattle.command_model.specs.PlainReply.{PlainReply};
+ghost use Rattle.unit_model.specs.Lawful.{IsLawful};
 ghost use Rattle.unit_model.specs.Marks.{mark_of};
 ghost use Rattle.unit_model.specs.Jobs.{PlainJob};
 ghost use Rattle.unit_model.specs.Unit.{PlainUnit};
@@ -24,20 +26,24 @@ ghost use Rattle.device_model.specs.Measure.{rouses};
 ghost use Rattle.device_model.specs.Settling.{SettlesOf, roused_by};
 ghost use Rattle.device_model.specs.Waiting.{deferred, resumed, LooksAlike};
 
-/// A job waits only where its unit's disk is one whose pages come and go, and where its command may run. So none waits whose
-/// task is marked, or whose command ran. No chain waits twice.
+/// A job waits only where its unit's disk is one whose pages come and go, and where its command may run or its reply is
+/// withheld. So none waits whose task is marked, or whose command ran, unless its reply is withheld. No chain waits twice.
 pub fn what_waits_may_run()
     ensures aside { (old : PlainWorld) (trace : List Occurrence) (w : PlainWorld) → Reached old trace w → AreAside w }
     ensures once { (t : Ticket) (old : PlainWorld) (trace : List Occurrence) (w : PlainWorld) → Reached old trace w →
         sum_by (of_job (only t)) w.aside + sum_by (of_job (only t)) w.woken ≤ 1 }
 {}
 
-/// To put a job aside, to wake it and to take it again changes nothing that a guest may see. So that it waits decides when
-/// its command runs, and nothing else.
+/// To put a job aside (a Defer), to wake it and to take it again changes nothing that a guest may see. So that it waits decides
+/// when its command runs, and nothing else.
+///
+/// - `withheld`: where a reply is withheld, its command changes all that a guest may see as where it is told at once.
 pub fn waiting_changes_only_when()
     ensures aside { (w : PlainWorld) (k : ℕ) (x : PlainJob) → LooksAlike w (after (Transition.Defer k x) w) }
     ensures woken { (w : PlainWorld) → LooksAlike w (after Transition.Wake w) }
     ensures taken { (w : PlainWorld) (k : ℕ) (x : PlainJob) → LooksAlike w (after (Transition.Resume k x) w) }
+    ensures withheld { (w : PlainWorld) (k : ℕ) (x : PlainJob) (r : PlainReply) →
+        LooksAlike (after (Transition.Commit k x r) w) (after (Transition.Withhold k x r) w) }
 {}
 
 /// Each job that waits goes on waiting until it is woken, and is then taken again once for each wake. A wake, a mark of a
@@ -58,17 +64,17 @@ pub fn each_wake_tries_again_once()
 {}
 
 /// A task that is marked ends without its pages. Its job is woken by what marks it, and when a seat has it in hand, all that a
-/// Commit may do is to end it as aborted.
+/// Commit may do is to end it as aborted. Its command didn't run, so no reply to it is withheld.
 pub fn what_is_marked_waits_no_more()
     ensures mark { (w : PlainWorld) (t : Ticket) (p : MarkAt) (m : MarkBy) (jobs : List PlainJob) →
         rouses w (Transition.Mark t p m jobs) ≡ w.aside }
     ensures reset { (w : PlainWorld) (p : MarkAt) (jobs : List PlainJob) → rouses w (Transition.Hard p jobs) ≡ w.aside }
     ensures ends { (w : PlainWorld) (k : ℕ) (x : PlainJob) (u : PlainUnit) (why : Reason) (d : Transition) →
-        HasHand w k (Hand.Taken x) → UnitIs w x.unit u → mark_of x.entry.ticket u.steps ≡ Some why → Happens d w →
+        HasHand w k (Hand.Taken x) → UnitIs w x.unit u → IsLawful u.opening u.steps → mark_of x.entry.ticket u.steps ≡ Some why → Happens d w →
         event_of d ≡ Event.Commit k → d ≡ Transition.CommitAborted k x why }
 {}
 
-/// Where no job waits for pages, a device that is at rest has nothing left: each accepted chain was used but for the event
+/// Where no job waits for its disk, a device that is at rest has nothing left: each accepted chain was used but for the event
 /// buffers that are held. No run leads there, and disks may be of either kind.
 ///
 /// - `rest`: nothing is left to do.

@@ -3,15 +3,15 @@ use Rattle.std.proofs.Common.{◌≡◌, ℕ, Bool, true, false, List, [], ◌�
 use Rattle.std.proofs.lemmas.Bool.{false≢true}
 use Rattle.unit_model.specs.declared.reason.Reason.{Reason}
 use Rattle.command_model.specs.PlainReply.{PlainReply}
-use Rattle.std.specs.Prelude.{slice_get, slice_set, map, ◌||◌}
+use Rattle.std.specs.Prelude.{slice_get, slice_set, map, ◌||◌, ◌⊎◌}
 use Rattle.unit_model.specs.Endings.{Ending}
 use Rattle.unit_model.specs.Tasks.{task_of}
 use Rattle.unit_model.specs.Steps.{Step, alive, done}
 use Rattle.unit_model.specs.Marks.{marked}
 use Rattle.unit_model.specs.Enabling.{enabled}
 use Rattle.unit_model.specs.Jobs.{PlainJob, Jobs}
-use Rattle.unit_model.specs.Unit.{PlainUnit, after as stepped}
-use Rattle.unit_model.specs.Asking.{CannotCommit}
+use Rattle.unit_model.specs.Unit.{PlainUnit, IsWithheld, after as stepped}
+use Rattle.unit_model.specs.Asking.{CannotCommit, IsNotWithheld}
 use Rattle.device_model.specs.Parts.{Outcome, Hand}
 use Rattle.device_model.specs.World.{Seat, PlainWorld, change}
 use Rattle.device_model.specs.Transitions.{Transition, event_of}
@@ -27,7 +27,7 @@ use Rattle.device_model.proofs.Joining.{joins}
 use Rattle.phases.specs.Parts.{committing_unit}
 use Rattle.phases.specs.DoingUnit.{DoesUnit}
 use Rattle.phases.specs.Units.{IsCommitting, ending_after, Commits}
-use Rattle.phases.specs.Inner.Units.{CommitsOrDefers}
+use Rattle.phases.specs.Inner.Units.{PutsAside, CommitsOrDefers}
 use Rattle.device_steps.specs.Kept.{KeptSeat, seat_of}
 use Rattle.device_steps.specs.Inner.Sound.{IsSound}
 use Rattle.device_steps.proofs.Setting.{set_change, set_same}
@@ -43,7 +43,7 @@ neither true b some right left = false≢true (sym left)
 neither false true some right left = false≢true (sym right)
 neither false false some right left = false≢true some
 
--- a unit knows the task of a job that is to be committed
+-- a unit knows the task of a job that is to be committed and isn't done
 known : (x : PlainJob) (steps : List Step) → (enabled x.entry steps || marked x.entry.ticket steps) ≡ true
     → done x.entry.ticket steps ≡ false → CannotCommit (Some x.entry) x steps → ⊥
 known x steps out undone (inl h) = h refl
@@ -51,13 +51,23 @@ known x steps out undone (inr (inl over)) = false≢true (sym undone ∙ over)
 known x steps out undone (inr (inr (unmarked, closed))) =
     neither (enabled x.entry steps) (marked x.entry.ticket steps) out unmarked closed
 
+-- or its reply is withheld there
+known_so : (x : PlainJob) (u : PlainUnit) → task_of x.entry.ticket (alive u.steps) ≡ Some x.entry
+    → (enabled x.entry u.steps || marked x.entry.ticket u.steps) ≡ true
+    → (done x.entry.ticket u.steps ≡ false) ⊎ ((r : PlainReply) × IsWithheld u x.entry.ticket x.entry r)
+    → CannotCommit (Some x.entry) x u.steps → IsNotWithheld x u → ⊥
+known_so x u there out (inl undone) cannot none = known x u.steps out undone cannot
+known_so x u there out (inr (r, withheld)) cannot none =
+    none x.entry r (record { is_there = there; as_asked = refl }) withheld
+
 -- so no commit is lost
 not_lost : (w : PlainWorld) (x : PlainJob) (u : PlainUnit) → IsToCommit w x → slice_get w.units x.unit ≡ Some u
-    → CannotCommit (task_of x.entry.ticket (alive u.steps)) x u.steps → ⊥
-not_lost w x u h at cannot =
+    → CannotCommit (task_of x.entry.ticket (alive u.steps)) x u.steps → IsNotWithheld x u → ⊥
+not_lost w x u h at cannot none =
     let is : u ≡ h.unit = same (sym at ∙ h.there) in
     let there = subst (λ (v : PlainUnit). CannotCommit (task_of x.entry.ticket (alive v.steps)) x v.steps) is cannot in
-    known x h.unit.steps h.handed_out h.undone (subst (λ o. CannotCommit o x h.unit.steps) h.alive there)
+    known_so x h.unit h.alive h.handed_out h.undone (subst (λ o. CannotCommit o x h.unit.steps) h.alive there)
+    (subst (λ (v : PlainUnit). IsNotWithheld x v) is none)
 
 -- a statement of a seat and a job is one of those that equal them
 along : {j k : ℕ} {y x : PlainJob} (P : ℕ → PlainJob → Type 0) → j ≡ k → y ≡ x → P j y → P k x
@@ -112,23 +122,43 @@ module _ (w : PlainWorld) (kept : List KeptSeat) (k : ℕ) (x : PlainJob) (jobs 
       let d = Transition.CommitAborted k x why in
       step d _ _ refl (joins d w held (u, there, does.asks) tt) (unit_left does.is) is refl
 
-  -- the job waits behind those that do
-  defers : (aside : List PlainJob) → DoesUnit (Transition.Defer k x) u v → h ≡ Hand.Empty → aside ≡ w.aside ++ x ∷ []
-      → Turns w (Event.Commit k) true
+  tells : (r : PlainReply) → DoesUnit (Transition.Conclude k x r) u v → h ≡ Hand.Done x (Outcome.Ended (Ending.Replied r)) → Done
+  tells r does is =
+      let d = Transition.Conclude k x r in
+      step d _ _ refl (joins d w held (u, there, does.asks) tt) (unit_left does.is) is refl
+
+  abbrev Aside : List PlainJob → Type 0
+  Aside aside =
+      Turns w (Event.Commit k) true
       (with_aside aside (with_unit_and_seat w x.unit v kept k (record { hand = h; jobs = jobs; limit = limit })))
-  defers aside does hs is =
-      let d = Transition.Defer k x in
+
+  -- a transition of the commit that leaves these units, and has the job wait behind those that do
+  waits : (aside : List PlainJob) (d : Transition) (units : List PlainUnit) → event_of d ≡ Event.Commit k → Happens d w
+      → slice_set w.units x.unit v ≡ units → h ≡ Hand.Empty → aside ≡ w.aside ++ x ∷ []
+      → after d w
+      ≡ record w { seats = change (with_hand Hand.Empty) k w.seats; aside = w.aside ++ x ∷ []; units = units } → Aside aside
+  waits aside d units of happens us hs is done =
       let s : KeptSeat = record { hand = Hand.Taken x; jobs = jobs; limit = limit } in
       let t : KeptSeat = record { hand = h; jobs = jobs; limit = limit } in
       let set : map seat_of (slice_set kept k t) ≡ change (with_hand Hand.Empty) k w.seats =
       seat_set (with_hand Hand.Empty) k kept s t at (ap (λ (z : Hand). record { hand = z; out = jobs }) hs)
       ∙ ap (λ (zs : List Seat). change (with_hand Hand.Empty) k zs) (sym seats) in (
         d,
-        refl,
-        joins d w held (u, there, does.asks) tt,
+        of,
+        happens,
         ap (λ (l : List PlainJob). with_aside l (with_unit_and_seat w x.unit v kept k t)) is
-            ∙ ap (λ (z : PlainWorld). with_aside (w.aside ++ x ∷ []) z) (moved w _ _ _ _ set (unit_left does.is)),
+            ∙ ap (λ (z : PlainWorld). with_aside (w.aside ++ x ∷ []) z) (moved w _ _ _ _ set us) ∙ sym done,
       )
+
+  -- its command waits, or its reply
+  defers : (aside : List PlainJob) → PutsAside k x u v → h ≡ Hand.Empty → aside ≡ w.aside ++ x ∷ [] → Aside aside
+  defers aside (inl does) hs is =
+      let d = Transition.Defer k x in
+      waits aside d _ refl (joins d w held (u, there, does.asks) tt) (unit_left does.is) hs is refl
+  defers aside (inr (r, does)) hs is =
+      let d = Transition.Withhold k x r in
+      waits aside d _ refl (joins d w held (u, there, does.asks) tt) (stepped_as (Step.Commit x.entry.ticket r) does.is) hs is
+      refl
 
   -- whichever transition of the commit is done
   done_as : (d : Transition) → IsSound w → IsCommitting k x d → DoesUnit d u v → h ≡ Hand.Done x (Outcome.Ended (ending_after d))
@@ -141,7 +171,9 @@ module _ (w : PlainWorld) (kept : List KeptSeat) (k : ℕ) (x : PlainJob) (jobs 
       aborts why (along (λ i z. DoesUnit (Transition.CommitAborted i z why) u v) ej ey does) is
   done_as (Transition.CommitUnknown j y) sound (ej, ey) does is =
       let lost = along (λ i z. DoesUnit (Transition.CommitUnknown i z) u v) ej ey does in
-      absurd (not_lost w x u (sound.works.seats k _ held.1).0 there lost.asks)
+      absurd (not_lost w x u (sound.works.seats k _ held.1).0 there lost.asks.0 lost.asks.1)
+  done_as (Transition.Conclude j y r) sound (ej, ey) does is =
+      tells r (along (λ i z. DoesUnit (Transition.Conclude i z r) u v) ej ey does) is
   done_as d sound is_it does is = absurd is_it
 
 -- the phase takes the event's turn

@@ -118,6 +118,9 @@ woken w (Transition.CommitAborted k x why) e m h = among AfterSeat (Event.Answer
 woken w (Transition.CommitUnknown k x) e m h = absurd m
 woken w (Transition.Defer k x) e m h =
     among AfterSeat (Event.Put k ∷ Event.Take k ∷ Event.Resume k ∷ []) e (tt, (tt, (tt, tt))) h
+woken w (Transition.Withhold k x r) e m h =
+    among AfterSeat (Event.Put k ∷ Event.Take k ∷ Event.Resume k ∷ []) e (tt, (tt, (tt, tt))) h
+woken w (Transition.Conclude k x r) e m h = among AfterSeat (Event.Answer k ∷ []) e (tt, tt) h
 woken w (Transition.Resume k x) e m h = among AfterSeat (Event.Commit k ∷ []) e (tt, tt) h
 woken w (Transition.Answer k x o xs) e m (inl h) = fetch_after_seat e h
 woken w (Transition.Answer k x o xs) e m (inr h) = among AfterSeat (Event.Leave k ∷ []) e (tt, tt) h

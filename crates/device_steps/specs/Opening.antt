@@ -10,10 +10,10 @@ use Rattle.device_model.specs.Parts.{Slot}
 use Rattle.device_model.specs.World.{PlainQueue, PlainWorld, IsNewSeat, Everywhere}
 use Rattle.unit_model.specs.Jobs.{PlainJob}
 use Rattle.unit_model.specs.Unit.{PlainUnit}
-use Rattle.backed_store.specs.Disks.{size_of as disk_size, is_backed}
+use Rattle.backed_store.specs.Disks.{size_of as disk_size}
 use Rattle.backed_store.specs.declared.disk.Disk.{Disk}
 use Rattle.logical_unit.specs.Disks.{unit_over, IsDiskOf}
-use Rattle.request_intake.specs.Inventory.{inventory_of, has_cache}
+use Rattle.request_intake.specs.Inventory.{inventory_of}
 use Rattle.request_intake.specs.declared.inventory.UnitSpec.{UnitSpec}
 use Rattle.config.specs.Config.{form_of, has_bit, is_config, size_of}
 use Rattle.config.specs.declared.config.Config.{Config}
@@ -62,10 +62,9 @@ pub record IsOpening (c : Config) (w : PlainWorld) : Type 0 where
   pub own : w.shared ≡ false
   pub parts : IsOpeningFor (size_of c) c w
 
--- own: a unit may have a disk of its capacity; and one whose pages come and go only if it tells of its write cache
+-- own: a unit may have a disk of its capacity
 pub record IsDiskFor (u : UnitSpec) (disk : Disk) : Type 0 where
   pub size : disk_size disk ≡ u.blocks
-  pub cache : is_backed disk ≡ true → has_cache u ≡ true
 
 -- there is a disk for each unit, which it may have
 pub record AreDisksFor (wanted : List UnitSpec) (disks : List Disk) : Type 0 where

@@ -1,4 +1,4 @@
-//! The jobs that wait for pages of their unit's disk, and those that are to be tried again.
+//! The jobs that wait for their unit's disk, and those that are to be tried again.
 
 ghost use Rattle.std.specs.Prelude.{◌≡◌, ◌<◌, ◌+◌, ◌↔◌, [], IfOk, IsTrue, drop, length, slice_get};
 ghost use Rattle.phases.specs.Parts.{hand_of};
@@ -12,8 +12,8 @@ use phases::{Hand, phase_commit_or_defer};
 use std::alloc::Global;
 use std::marker::Model;
 
-/// The jobs whose commands wait for pages of their disks, and those that are to be tried again, together at most as many
-/// as a limit.
+/// The jobs whose commands wait for their disks, those whose replies are withheld, and those that are to be tried again,
+/// together at most as many as a limit.
 #[derive(Drop)]
 pub(crate) struct JobsAside {
     aside: JobList,
@@ -68,7 +68,8 @@ impl JobsAside {
         false
     }
 
-    /// Commits the job in the hand at its unit, or has it wait behind those that do. Returns true if something changed.
+    /// Commits the job in the hand at its unit, or has it wait behind those that do. So it waits too where its command ran and
+    /// its reply is withheld. Returns true if something changed.
     pub(crate) fn commit_or_defer(&mut self, unit: &mut UnitState, hand: &mut Hand) -> bool
         requires room { length self.old.aside + length self.old.woken < self.old.limit }
         ensures commits { CommitsOrDefers (hand_of hand.old) unit.old (waiting_of self.old) result unit.new

@@ -78,12 +78,12 @@ pub fn open_device<M: Memory>(
     })
 }
 
-/// Returns true if a unit may have a disk: it is of its capacity, and the unit tells of its write cache where the disk's pages
-/// come and go. Else a guest would never have them written to its host's storage.
+/// Returns true if a unit may have a disk: it is of its capacity. Where the disk's pages come and go, and the unit tells of no
+/// volatile write cache, it writes through.
 pub fn is_disk_for(unit: &UnitSpec, disk: &Disk) -> bool
     ensures { IsTrue result ↔ IsDiskFor unit.now disk.now }
 {
-    disk.capacity() == unit.blocks && (disk.is_resident() || unit.has_cache())
+    disk.capacity() == unit.blocks
 }
 
 /// Returns true if there is a disk for each unit, which it may have. A host calls it before it opens a device over disks.

@@ -301,8 +301,9 @@ impl Device {
         true
     }
 
-    /// Commits the job in a seat's hand, or puts it aside where its command needs pages of its disk that aren't in memory.
-    /// A host calls it for a Commit.
+    /// Commits the job in a seat's hand. Puts it aside where its command needs pages of its disk that aren't in memory, and
+    /// where its command ran and its reply is withheld until the host's storage has what that changed. A host calls it for a
+    /// Commit.
     pub fn commit(&mut self, number: u16) -> bool
         ensures { TurnsAlone self.old (AnEvent.Commit number) result self.new }
     {

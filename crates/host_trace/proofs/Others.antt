@@ -115,6 +115,8 @@ unit_kept (Transition.Park x) w i out = unit_other (parking x) x.unit w i (λ e.
 unit_kept (Transition.EnterFull x) w i out = unit_other (stepped (Step.Full x.entry.ticket)) x.unit w i (λ e. out (inr (inl e)))
 unit_kept (Transition.Commit k x r) w i out =
     unit_other (stepped (Step.Commit x.entry.ticket r)) x.unit w i (λ e. out (inr (inl e)))
+unit_kept (Transition.Withhold k x r) w i out =
+    unit_other (stepped (Step.Commit x.entry.ticket r)) x.unit w i (λ e. out (inr (inl e)))
 unit_kept (Transition.CommitBusy k x) w i out = unit_other (stepped (Step.Busy x.entry.ticket)) x.unit w i (λ e. out (inr
     (inl e)))
 unit_kept (Transition.Leave k unit_index t jobs) w i out = unit_other (stepped (Step.Leave t)) unit_index w i (λ e. out (inr (inl e)))
@@ -144,6 +146,9 @@ seat_kept (Transition.CommitAborted k x why) w i out =
 seat_kept (Transition.CommitUnknown k x) w i out =
     other (with_hand (Hand.Done x (Outcome.Ended Ending.Lost))) k w.seats i (seat_apart i k (λ e. out (inl e)))
 seat_kept (Transition.Defer k x) w i out = other (with_hand Hand.Empty) k w.seats i (seat_apart i k (λ e. out (inl e)))
+seat_kept (Transition.Withhold k x r) w i out = other (with_hand Hand.Empty) k w.seats i (seat_apart i k (λ e. out (inl e)))
+seat_kept (Transition.Conclude k x r) w i out =
+    other (with_hand (Hand.Done x (Outcome.Ended (Ending.Replied r)))) k w.seats i (seat_apart i k (λ e. out (inl e)))
 seat_kept (Transition.Resume k x) w i out =
     other (with_hand (Hand.Taken x)) k w.seats i (seat_apart i k (λ e. out (inl e)))
 seat_kept (Transition.Answer k x o xs) w i out =
@@ -187,6 +192,7 @@ waiting_kept d w out = refl
 aside_kept : (d : Transition) (w : PlainWorld) → (Has (parts_of d w) Part.Aside → ⊥)
     → ((after d w).aside ≡ w.aside) × ((after d w).woken ≡ w.woken)
 aside_kept (Transition.Defer k x) w out = absurd (out (inr (inr (inl refl))))
+aside_kept (Transition.Withhold k x r) w out = absurd (out (inr (inr (inl refl))))
 aside_kept Transition.Wake w out = absurd (out (inl refl))
 aside_kept (Transition.Resume k x) w out = absurd (out (inr (inl refl)))
 aside_kept (Transition.Mark t p m jobs) w out = absurd (out (inr (inr (inr (inl refl)))))

@@ -121,6 +121,7 @@ unit_own (Transition.Run x) w v i f all e = alike (stepped (Step.Enter x.entry))
 unit_own (Transition.Park x) w v i f all e = alike (parking x) x.unit w.units v.units i e
 unit_own (Transition.EnterFull x) w v i f all e = alike (stepped (Step.Full x.entry.ticket)) x.unit w.units v.units i e
 unit_own (Transition.Commit k x r) w v i f all e = alike (stepped (Step.Commit x.entry.ticket r)) x.unit w.units v.units i e
+unit_own (Transition.Withhold k x r) w v i f all e = alike (stepped (Step.Commit x.entry.ticket r)) x.unit w.units v.units i e
 unit_own (Transition.CommitBusy k x) w v i f all e = alike (stepped (Step.Busy x.entry.ticket)) x.unit w.units v.units i e
 unit_own (Transition.Leave k unit_index t jobs) w v i f all e = alike (stepped (Step.Leave t)) unit_index w.units v.units i e
 unit_own (Transition.Mark t p m jobs) w v i f all e = alike (stepped (step_by m)) p.unit w.units v.units i e
@@ -151,6 +152,9 @@ seat_own (Transition.CommitAborted k x why) w v i f all e =
 seat_own (Transition.CommitUnknown k x) w v i f all e =
     alike (with_hand (Hand.Done x (Outcome.Ended Ending.Lost))) k w.seats v.seats i e
 seat_own (Transition.Defer k x) w v i f all e = alike (with_hand Hand.Empty) k w.seats v.seats i e
+seat_own (Transition.Withhold k x r) w v i f all e = alike (with_hand Hand.Empty) k w.seats v.seats i e
+seat_own (Transition.Conclude k x r) w v i f all e =
+    alike (with_hand (Hand.Done x (Outcome.Ended (Ending.Replied r)))) k w.seats v.seats i e
 seat_own (Transition.Resume k x) w v i f all e = alike (with_hand (Hand.Taken x)) k w.seats v.seats i e
 seat_own (Transition.Answer k x o xs) w v i f all e =
     alike (with_hand (Hand.Answered x.unit x.chain.ticket)) k w.seats v.seats i e
@@ -198,6 +202,7 @@ woken_own w v e = ap (λ l. l ++ w.aside) e.1 ∙ ap (λ l. v.woken ++ l) e.0
 
 aside_own : (d : Transition) (w v : PlainWorld) → Own d w v Part.Aside
 aside_own (Transition.Defer k x) w v f all e = (ap (λ l. l ++ x ∷ []) e.0, e.1)
+aside_own (Transition.Withhold k x r) w v f all e = (ap (λ l. l ++ x ∷ []) e.0, e.1)
 aside_own Transition.Wake w v f all e = (refl, woken_own w v e)
 aside_own (Transition.Resume k x) w v f all e = (e.0, ap (λ l. drop 1 l) e.1)
 aside_own (Transition.Mark t p m jobs) w v f all e = (refl, woken_own w v e)

@@ -264,8 +264,19 @@ happens_at (Transition.Defer k x) w v f all h =
       holds = hand_at w v k (Hand.Taken x) x.unit (all (Part.SeatAt k) (inl refl)) (all (Part.UnitAt x.unit) (inr
           (inl refl))) h.holds;
       entry = h.entry;
-      ready = h.ready;
       waits = h.waits;
+    }
+happens_at (Transition.Withhold k x r) w v f all h =
+    record {
+      holds = hand_at w v k (Hand.Taken x) x.unit (all (Part.SeatAt k) (inl refl)) (all (Part.UnitAt x.unit) (inr
+          (inl refl))) h.holds;
+      may = h.may;
+    }
+happens_at (Transition.Conclude k x r) w v f all h =
+    record {
+      holds = hand_at w v k (Hand.Taken x) x.unit (all (Part.SeatAt k) (inl refl)) (all (Part.UnitAt x.unit) (inr
+          (inl refl))) h.holds;
+      may = h.may;
     }
 happens_at Transition.Wake w v f all h =
     record { first = h.first; rest = h.rest; waits = sym (all Part.Aside (inl refl)).0 ∙ h.waits }

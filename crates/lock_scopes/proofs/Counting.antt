@@ -1,8 +1,9 @@
 -- How many Commits the phases make, and that they are no act of the operator.
-use Rattle.std.proofs.Common.{◌≡◌, ℕ, ◌+◌, ◌≤◌, Bool, true, false, List, [], ◌∷◌, length, Some, refl, sym, subst, ap, ◌∙◌, arith, if◌then◌else◌}
+use Rattle.std.proofs.Common.{◌≡◌, ℕ, ◌+◌, ◌≤◌, Bool, true, false, List, [], ◌∷◌, length, Some, refl, inl, inr, ◌&&◌, sym, subst, ap, ◌∙◌, arith, if◌then◌else◌}
+use Rattle.std.proofs.lemmas.Bool.{false≢true}
 use Rattle.unit_model.specs.Jobs.{PlainJob, Jobs}
 use Rattle.unit_model.specs.Steps.{Step}
-use Rattle.unit_model.specs.Unit.{PlainUnit}
+use Rattle.unit_model.specs.Unit.{PlainUnit, is_backed}
 use Rattle.logical_unit.specs.Calls.{Commits as CommitsUnit}
 use Rattle.logical_unit.specs.declared.outcomes.Outcome as answers
 use Rattle.logical_unit.specs.declared.outcomes.Outcome.TheVariants as outcome
@@ -16,7 +17,7 @@ use Rattle.phases.specs.declared.hand.Hand.TheVariants as hand
 use Rattle.lock_scopes.specs.declared.joined_unit.NextJob.{NextJob}
 use Rattle.lock_scopes.specs.declared.joined_unit.NextJob.TheVariants.{Listed, Taken, Committed}
 use Rattle.lock_scopes.specs.Joined.{LeavesEnters, RunsNext, LeavesEntersRuns}
-use Rattle.phases.specs.Units.{IsEntering, Enters, Commits, Leaves}
+use Rattle.phases.specs.Units.{IsEntering, WithholdsInHand, Enters, Commits, Leaves}
 use Rattle.lock_scopes.specs.Ledgers.{commits_of, receipts_due, receipts_made, receipts_run, KeepsActs}
 use Rattle.lock_scopes.specs.Acts.{acts_of}
 
@@ -28,15 +29,18 @@ AsMany u v = (commits_of v.steps ≡ commits_of u.steps) × KeepsActs u v
 abbrev pub HasMore : ℕ → PlainUnit → PlainUnit → Type 0
 HasMore n u v = (commits_of v.steps ≡ commits_of u.steps + n) × KeepsActs u v
 
+off_left : (a b : Bool) → a ≡ false → (a && b) ≡ false
+off_left a b h = ap (λ c. c && b) h
+
 counted_as : {v w : PlainUnit} → v ≡ w → commits_of v.steps ≡ commits_of w.steps
 counted_as e = ap (λ (z : PlainUnit). commits_of z.steps) e
 
 acted_as : {v w : PlainUnit} → v ≡ w → KeepsActs w v
-acted_as e = (ap (λ (z : PlainUnit). acts_of z.steps) e, ap (λ (z : PlainUnit). z.opening) e)
+acted_as e = (ap (λ (z : PlainUnit). acts_of z.steps) e, ap (λ (z : PlainUnit). z.opening) e, ap is_backed e)
 
 -- one unit after another
 on : (u v w : PlainUnit) → KeepsActs u v → KeepsActs v w → KeepsActs u w
-on u v w a b = (b.0 ∙ a.0, b.1 ∙ a.1)
+on u v w a b = (b.0 ∙ a.0, b.1 ∙ a.1, b.2 ∙ a.2)
 
 same : (u v : PlainUnit) → v ≡ u → AsMany u v
 same u v e = (counted_as e, acted_as e)
@@ -85,17 +89,33 @@ turns_none h s u out v h' s' out' e =
 -- what a unit answers leaves a receipt where a Commit was made
 answers_count : (u : PlainUnit) (x : PlainJob) (o : answers.Outcome) (v : PlainUnit) → CommitsUnit u x o v
     → HasMore (if is_reply (Some o) then 1 else 0) u v
-answers_count u x (outcome.Reply receipt) v (e, of, ready, r, replies, is, steps) = (counted_as steps.is, acted_as steps.is)
+answers_count u x (outcome.Reply receipt) v (e, of, ready, r, replies, is, steps, at_once) = (counted_as steps.is, acted_as steps.is)
 answers_count u x (outcome.Aborted why) v (e, of, marked, is) = (omega (arith, counted_as is), acted_as is)
 answers_count u x outcome.Busy v (e, of, short, steps) = let made = counted_as steps.is in (omega (arith, made), acted_as steps.is)
-answers_count u x outcome.Unknown v (cannot, is) = (omega (arith, counted_as is), acted_as is)
+answers_count u x outcome.Unknown v (cannot, is, none) = (omega (arith, counted_as is), acted_as is)
 
--- where a commit isn't over, its unit is as it was
-stays : (h : Hand) (u v : PlainUnit) (h' : Hand) → Commits h u false v h' → v ≡ u
-stays Hand.Empty u v h' c = c.0
-stays (Hand.Taken x) u v h' c = c.unit
-stays (Hand.Done x o) u v h' c = c.0
-stays (Hand.Answered unit_index t) u v h' c = c.0
+-- only where a disk is backed is a reply withheld
+none_withheld : (x : PlainJob) (u v : PlainUnit) (h' : Hand) → WithholdsInHand x u v h' → is_backed u ≡ false → ⊥
+none_withheld x u v h' w resident =
+    let (e, ready, replies, waits) = (w.does 0).asks in
+    false≢true (sym (off_left (is_backed u) _ resident) ∙ waits)
+
+-- where a commit isn't over, a unit whose disk isn't backed is as it was
+pub stays : (h : Hand) (u v : PlainUnit) (h' : Hand) → Commits h u false v h' → is_backed u ≡ false → v ≡ u
+stays Hand.Empty u v h' c resident = c.0
+stays (Hand.Taken x) u v h' (inl c) resident = c.unit
+stays (Hand.Taken x) u v h' (inr c) resident = absurd (none_withheld x u v h' c resident)
+stays (Hand.Done x o) u v h' c resident = c.0
+stays (Hand.Answered unit_index t) u v h' c resident = c.0
+
+-- and a job that was taken is in the hand still
+pub taken_still : (x : PlainJob) (h : Hand) (u v : PlainUnit) (h' : Hand) → h ≡ Hand.Taken x → Commits h u false v h'
+    → h' ≡ Hand.Taken x
+taken_still x h u v h' is c = by_case (subst (λ g. Commits g u false v h') is c)
+  where
+    by_case : Commits (Hand.Taken x) u false v h' → h' ≡ Hand.Taken x
+    by_case (inl s) = s.hand
+    by_case (inr s) = s.hand
 
 commits_count : (h : declared.Hand) (u v : PlainUnit) (h' : declared.Hand) (k : Hand) → Commits (hand_of h) u true v k
     → KeepsOutcome h u v h' → HasMore (receipts_due h') u v
@@ -106,22 +126,23 @@ commits_count (hand.Job held) u v h' k c (o, did, is) =
 
 -- a commit that isn't over is none
 pub commit_counts : (h : declared.Hand) (u : PlainUnit) (b : Bool) (v : PlainUnit) (h' : declared.Hand) → Commits (hand_of h) u b v (hand_of h')
-    → (b ≡ true → KeepsOutcome h u v h') → HasMore (receipts_made b h') u v
-commit_counts h u true v h' c keeps = commits_count h u v h' (hand_of h') c (keeps refl)
-commit_counts h u false v h' c keeps =
-    let is = stays (hand_of h) u v (hand_of h') c in (omega (arith, counted_as is), acted_as is)
+    → (b ≡ true → is_backed u ≡ false → KeepsOutcome h u v h') → is_backed u ≡ false → HasMore (receipts_made b h') u v
+commit_counts h u true v h' c keeps resident = commits_count h u v h' (hand_of h') c (keeps refl resident)
+commit_counts h u false v h' c keeps resident =
+    let is = stays (hand_of h) u v (hand_of h') c resident in (omega (arith, counted_as is), acted_as is)
 
 runs_count : (at : ℕ) (next : NextJob) (h : declared.Hand) (u : PlainUnit) (out : Jobs) (v : PlainUnit) (h' : declared.Hand) (out' : Jobs)
-    → RunsNext at h u out next v h' out' → HasMore (receipts_run next h') u v
-runs_count at Listed h u out v h' out' e = (omega (arith, counted_as e.1), acted_as e.1)
-runs_count at Taken h u out v h' out' e = (omega (arith, counted_as e.0), acted_as e.0)
-runs_count at Committed h u out v h' out' e = commits_count e.between u v h' (hand_of h') e.commits e.keeps
+    → RunsNext at h u out next v h' out' → is_backed u ≡ false → HasMore (receipts_run next h') u v
+runs_count at Listed h u out v h' out' e resident = (omega (arith, counted_as e.1), acted_as e.1)
+runs_count at Taken h u out v h' out' e resident = (omega (arith, counted_as (e.0 resident)), acted_as (e.0 resident))
+runs_count at Committed h u out v h' out' e resident =
+    commits_count e.between u v h' (hand_of h') e.commits (e.keeps resident)
 
 pub turns_count : (at : ℕ) (h : declared.Hand) (s : Slot) (u : PlainUnit) (out : Jobs) (next : NextJob) (v : PlainUnit) (h' : declared.Hand)
-    (s' : Slot) (out' : Jobs) → LeavesEntersRuns at h s u out next v h' s' out' → HasMore (receipts_run next h') u v
-turns_count at h s u out next v h' s' out' e =
-    let runs = runs_count at next e.hand e.between e.listed v h' out' e.runs in
+    (s' : Slot) (out' : Jobs) → LeavesEntersRuns at h s u out next v h' s' out' → is_backed u ≡ false → HasMore (receipts_run next h') u v
+turns_count at h s u out next v h' s' out' e resident =
     let turns = turns_none (hand_of h) s u out e.between (hand_of e.hand) s' e.listed e.turns in
+    let runs = runs_count at next e.hand e.between e.listed v h' out' e.runs (turns.1.2 ∙ resident) in
     (omega (arith, runs.0, turns.0), on u e.between v turns.1 runs.1)
 
 -- and the same of what a closure was lent

@@ -81,7 +81,7 @@ job_sends = search (sendable, job_fields)
 
 task_fields : IsSend task.the_row
 task_fields = recorded_send task.the_field.row _ _ task.the_type.to_one
-    (struct_send (shape task.the_type) (search sendable, (option_sends _ request.the_send, (option_sends _ shared.the_send, (search sendable, (search sendable, (option_sends reason_row (search sendable depth 60 fits 50000), (search sendable, (option_sends _ job_sends, tt)))))))))
+    (struct_send (shape task.the_type) (search sendable, (option_sends _ request.the_send, (option_sends _ shared.the_send, (search sendable, (search sendable, (search sendable, (option_sends reason_row (search sendable depth 60 fits 50000), (search sendable, (option_sends _ job_sends, tt))))))))))
 
 task_sends : IsSend task_row
 task_sends = search (sendable, task_fields)

@@ -1,5 +1,5 @@
 -- What an act adds to what the acts of a history weigh.
-use Rattle.std.proofs.Common.{◌≡◌, ℕ, ◌+◌, ◌++◌, Bool, true, List, [], ◌∷◌, Option, Some, None, Ok, slice_get, get_or, length, ◌<◌, sym, subst, ap, ◌∙◌, arith, if◌then◌else◌}
+use Rattle.std.proofs.Common.{◌≡◌, ℕ, ◌+◌, ◌++◌, Bool, true, false, List, [], ◌∷◌, Option, Some, None, Ok, slice_get, get_or, length, ◌<◌, sym, subst, ap, ◌∙◌, arith, if◌then◌else◌}
 use Rattle.std.specs.List.{sum_by}
 use Rattle.std.proofs.lemmas.List.Sums.{sum_by-cons}
 use Rattle.std.proofs.lemmas.Option.{same_Some, slice_get-get_or}
@@ -7,9 +7,11 @@ use Rattle.scsi_codec.specs.declared.lun.Address.{Address}
 use Rattle.scsi_codec.specs.declared.event_queue.Event.{Event as EventRecord}
 use Rattle.request_intake.specs.Inventory.{PlainInventory}
 use Rattle.unit_model.specs.Jobs.{Jobs}
-use Rattle.unit_model.specs.Unit.{PlainUnit}
+use Rattle.unit_model.specs.Steps.{Step}
+use Rattle.unit_model.specs.Unit.{PlainUnit, is_backed}
 use Rattle.unit_model.specs.Receipts.{unit_address}
 use Rattle.device_model.specs.Addressed.{IsAddressed}
+use Rattle.device_model.proofs.Withheld.{step_backed}
 use Rattle.phases.specs.Resetting.{Resets}
 use Rattle.phases.specs.Resizing.{ResizesUnit}
 use Rattle.lock_scopes.specs.Ledgers.{KeepsActs}
@@ -58,6 +60,19 @@ resize_weighs weight inventory at u v address blocks told w w' was old new there
     let resizes = subst (λ b. ResizesUnit inventory at u blocks told w (Ok b) v w') is did in
     adds weight inventory at u v address (Some blocks) old new there resizes.0 (ap (λ z. acts_of z.steps) resizes.1.is)
     (ap (λ z. z.opening) resizes.1.is) before behind
+
+-- neither act makes a disk one whose pages come and go
+pub reset_resident : (inventory : PlainInventory) (at : ℕ) (u v : PlainUnit) (out out' : Jobs) (w w' : List EventRecord) (was : Bool)
+    → was ≡ true → Resets inventory at u out w (Ok was) v out' w' → is_backed u ≡ false → is_backed v ≡ false
+reset_resident inventory at u v out out' w w' was is did resident =
+    let resets = subst (λ b. Resets inventory at u out w (Ok b) v out' w') is did in
+    ap is_backed resets.1.is ∙ resident
+
+pub resize_resident : (inventory : PlainInventory) (at : ℕ) (u v : PlainUnit) (blocks : ℕ) (told : Bool) (w w' : List EventRecord)
+    (was : Bool) → was ≡ true → ResizesUnit inventory at u blocks told w (Ok was) v w' → is_backed u ≡ false → is_backed v ≡ false
+resize_resident inventory at u v blocks told w w' was is did resident =
+    let resizes = subst (λ b. ResizesUnit inventory at u blocks told w (Ok b) v w') is did in
+    ap is_backed resizes.1.is ∙ step_backed (Step.Resize blocks) u ∙ resident
 
 -- the address at an index of the inventory
 pub found : (inventory all : List Address) (at : ℕ) (address : Address) → all ≡ inventory → at < length all

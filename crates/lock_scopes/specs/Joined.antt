@@ -1,10 +1,10 @@
 -- What two or three phases do that share one hold: each of them its own part, with nothing between.
-use Rattle.std.specs.Prelude.{ℕ, ◌≡◌, Bool, true, List, [], ◌∷◌, length, Option, Some, is_some, IfSome, Result, Ok, Err}
+use Rattle.std.specs.Prelude.{ℕ, ◌≡◌, Bool, true, false, List, [], ◌∷◌, length, Option, Some, is_some, IfSome, Result, Ok, Err}
 use Rattle.foundation.specs.declared.NoMemory.{NoMemory}
 use Rattle.ring_core.specs.declared.log.Ticket.{Ticket}
 use Rattle.request_intake.specs.Inventory.{PlainInventory}
 use Rattle.unit_model.specs.Jobs.{PlainJob, Jobs}
-use Rattle.unit_model.specs.Unit.{PlainUnit}
+use Rattle.unit_model.specs.Unit.{PlainUnit, is_backed}
 use Rattle.virtqueue.specs.Queue.{BareQueue}
 use Rattle.device_model.specs.Parts.{Slot, Hand}
 use Rattle.phases.specs.declared.hand.Hand as declared_hand
@@ -67,14 +67,14 @@ pub record TakesCommits (at : ℕ) (h : declared_hand.Hand) (u : PlainUnit) (out
   pub takes : TakesOnly h out between out'
   pub own_unit : committing_unit (hand_of between) ≡ Some at
   pub commits : Commits (hand_of between) u true u' (hand_of h')
-  pub keeps : KeepsOutcome between u u' h'
+  pub keeps : is_backed u ≡ false → KeepsOutcome between u u' h'
 
 -- own: what becomes of the jobs that may run, behind an Enter at the unit of this index: they stay in the list, unless
--- there is one alone and the hand is free
+-- there is one alone and the hand is free. One that is taken and not committed changes no unit whose disk isn't backed
 abbrev pub RunsNext : ℕ → declared_hand.Hand → PlainUnit → Jobs → NextJob → PlainUnit → declared_hand.Hand → Jobs → Type 0
 RunsNext at h u out Listed u' h' out' =
     (hand_of h ≡ Hand.Empty → length out.jobs ≡ 1 → ⊥) × (u' ≡ u) × (h' ≡ h) × (out' ≡ out)
-RunsNext at h u out Taken u' h' out' = (u' ≡ u) × TakesOnly h out h' out'
+RunsNext at h u out Taken u' h' out' = (is_backed u ≡ false → u' ≡ u) × TakesOnly h out h' out'
 RunsNext at h u out Committed u' h' out' = TakesCommits at h u out u' h' out'
 
 -- own: at the unit of an index the task in the hand leaves, the request that arrived enters, and then the only job that

@@ -1,9 +1,9 @@
 -- What the ledger of Commits counts: those of units, and the receipts that seats were given for them.
-use Rattle.std.specs.Prelude.{ℕ, ◌≡◌, ◌+◌, Bool, List, [], ◌∷◌, if◌then◌else◌}
+use Rattle.std.specs.Prelude.{ℕ, ◌≡◌, ◌+◌, Bool, false, List, [], ◌∷◌, if◌then◌else◌}
 use Rattle.std.specs.Borrow.{MutBor}
 use Rattle.std.specs.Fn.{Once}
 use Rattle.unit_model.specs.Steps.{Step}
-use Rattle.unit_model.specs.Unit.{PlainUnit}
+use Rattle.unit_model.specs.Unit.{PlainUnit, is_backed}
 use Rattle.phases.specs.Giving.{has_receipt}
 use Rattle.phases.specs.declared.hand.Hand.{Hand}
 use Rattle.lock_scopes.specs.declared.joined_unit.NextJob.{NextJob}
@@ -35,14 +35,14 @@ receipts_run Listed h = 0
 receipts_run Taken h = 0
 receipts_run Committed h = receipts_due h
 
--- own: a unit's history has the acts of the operator that it had, and the unit opened as it had
+-- own: a unit's history has the acts of the operator that it had, the unit opened as it had, and its disk is of the same kind
 abbrev pub KeepsActs : PlainUnit → PlainUnit → Type 0
-KeepsActs u v = (acts_of v.steps ≡ acts_of u.steps) × (v.opening ≡ u.opening)
+KeepsActs u v = (acts_of v.steps ≡ acts_of u.steps) × (v.opening ≡ u.opening) × (is_backed v ≡ is_backed u)
 
--- own: a closure says how many Commits it made, and it is no act of the operator
+-- own: a closure says how many Commits it made, where the unit's disk isn't backed, and it is no act of the operator
 abbrev pub CountsCommits : {F S U R : Type 0}
     (g : Once F (MutBor PlainUnit × (MutBor S × (MutBor U × Unit {0})))
     ((R × ℕ) × (MutBor PlainUnit × (MutBor S × (MutBor U × Unit {0})))))
     → F → Type 0
 CountsCommits {F} {S} {U} {R} g f = (u v : PlainUnit) (x x' : S) (y y' : U) (r : R × ℕ) → OnceAtThree g f u x y r v x' y'
-    → (commits_of v.steps ≡ commits_of u.steps + r.1) × KeepsActs u v
+    → is_backed u ≡ false → (commits_of v.steps ≡ commits_of u.steps + r.1) × KeepsActs u v

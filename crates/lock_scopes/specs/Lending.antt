@@ -1,8 +1,9 @@
 -- What is lent, and what it is whenever no one has it.
-use Rattle.std.specs.Prelude.{ℕ, ◌≡◌, ◌≤◌, ◌^◌, List, length}
+use Rattle.std.specs.Prelude.{ℕ, ◌≡◌, ◌≤◌, ◌^◌, false, List, length}
 use Rattle.std.specs.Borrow.{MutBor}
 use Rattle.std.specs.Fn.{Once}
 use Rattle.ring_core.specs.Sound.{IsSound, outstanding_count}
+use Rattle.unit_model.specs.Unit.{PlainUnit, IsUnit, is_backed}
 use Rattle.virtqueue.specs.Queue.{BareQueue}
 
 -- own: what every queue is: its log is lawful, with which what is outstanding agrees, and no more is than it has
@@ -10,6 +11,11 @@ use Rattle.virtqueue.specs.Queue.{BareQueue}
 pub record IsQueue (q : BareQueue) : Type 0 where
   pub sound : IsSound q.ring
   pub few : outstanding_count q.ring ≤ q.ring.layout.size
+
+-- own: what every unit is that threads share: its history is lawful, and its disk isn't backed
+pub record IsLent (u : PlainUnit) : Type 0 where
+  pub stands : IsUnit u
+  pub resident : is_backed u ≡ false
 
 -- own: what every memory is: it has at most 65,536 pages of 4,096 bytes
 abbrev pub IsMemory : List ℕ → Type 0

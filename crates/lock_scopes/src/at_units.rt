@@ -1,8 +1,8 @@
 //! Runs the phases on a unit, each on one that is lent. Each clause is the phase's own, for some unit that was lent and
 //! came back.
 
-ghost use Rattle.std.specs.Prelude.{◌≡◌, ◌<◌, IsTrue};
-ghost use Rattle.unit_model.specs.Unit.{PlainUnit};
+ghost use Rattle.std.specs.Prelude.{◌≡◌, ◌<◌, false, IsTrue};
+ghost use Rattle.unit_model.specs.Unit.{PlainUnit, is_backed};
 ghost use Rattle.phases.specs.Slots.{slot_of};
 ghost use Rattle.phases.specs.Parts.{hand_of};
 ghost use Rattle.phases.specs.Units.{Enters, Commits, Leaves, Marks, Checks};
@@ -104,7 +104,7 @@ pub fn commit_on<B: UnitLender, G: Gate>(
     requires there { at < B.units lender.old }
     ensures did { (u : PlainUnit) × (v : PlainUnit) × B.lends_unit lender.old at u
         × Commits (hand_of hand.old) u result v (hand_of hand.new)
-        × (IsTrue result → KeepsOutcome hand.old u v hand.new)
+        × (IsTrue result → is_backed u ≡ false → KeepsOutcome hand.old u v hand.new)
         × B.keeps_unit lender.old at v lender.new }
     ensures counted { B.counts lender.old (receipts_made result hand.new) lender.new }
     ensures units { B.units lender.new ≡ B.units lender.old }
@@ -115,7 +115,7 @@ pub fn commit_on<B: UnitLender, G: Gate>(
         &mut (),
         move |unit, hand, _nothing| -> (bool, u64)
             ensures { Commits (hand_of hand.old) unit.old result.0 unit.new (hand_of hand.new)
-                × (IsTrue result.0 → KeepsOutcome hand.old unit.old unit.new hand.new)
+                × (IsTrue result.0 → is_backed unit.old ≡ false → KeepsOutcome hand.old unit.old unit.new hand.new)
                 × (result.1 ≡ receipts_made result.0 hand.new) }
         {
             pass_locked(gate, hand);

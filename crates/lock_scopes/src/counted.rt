@@ -1,7 +1,8 @@
 //! A unit whose Commits are counted, and whose acts of the operator are weighed.
 
-ghost use Rattle.std.specs.Prelude.{◌≡◌, ◌+◌};
+ghost use Rattle.std.specs.Prelude.{◌≡◌, ◌+◌, false};
 ghost use Rattle.unit_model.specs.Receipts.{unit_address};
+ghost use Rattle.unit_model.specs.Unit.{is_backed};
 ghost use Rattle.lock_scopes.specs.Ledgers.{commits_of, most_commits};
 ghost use Rattle.lock_scopes.specs.Acts.{weight_of};
 
@@ -16,7 +17,7 @@ use std::sync::ledger::Ledger;
 
 /// A unit, with its parts of two ledgers. It stands under the unit's lock: so whenever that is free, no Commit for which
 /// a receipt was counted is missing from the history. And the acts of the operator in the history weigh, at the unit's
-/// address, what was weighed for this unit.
+/// address, what was weighed for this unit. Its disk is all in memory: so each Commit is told at once.
 ///
 /// A unit opens with one for each Commit that it may ever make, and gives one to the seat that makes a Commit. No call
 /// of the ledger needs a lock for that.
@@ -28,6 +29,7 @@ pub struct CountedUnit<C: Ledger + Weighing, W: Ledger> {
     /// The part in which the acts of the operator are weighed.
     pub acts: Part<C>,
     pub ghost counted: { part.share.amount + commits_of unit.steps ≡ most_commits },
+    pub ghost resident: { is_backed unit ≡ false },
     pub ghost acted: { acts.share.amount ≡ weight_of C.weight (unit_address unit.opening) unit.steps },
 }
 
@@ -37,12 +39,13 @@ impl<C: Ledger + Weighing, W: Ledger> CountedUnit<C, W> {
     ghost use Rattle.unit_model.specs.Unit.{PlainUnit, IsUnit};
     ghost use Rattle.phases.specs.Resetting.{Resets};
     ghost use Rattle.phases.specs.Resizing.{ResizesUnit};
-    ghost use Rattle.lock_scopes.specs.Lending.{OnceAtThree};
+    ghost use Rattle.lock_scopes.specs.Lending.{OnceAtThree, IsLent};
     ghost use Rattle.lock_scopes.specs.Ledgers.{commits_of, most_commits, CountsCommits};
     ghost use Rattle.lock_scopes.specs.Acts.{weight_of, acts_with, reset_of, resize_of};
 
     /// Joins a unit with its parts. Called once for each unit, where a host is opened.
     pub fn new(unit: UnitState, part: Part<W>, acts: Part<C>) -> CountedUnit<C, W>
+        requires resident { is_backed unit ≡ false }
         requires counted { part.share.amount + commits_of unit.steps ≡ most_commits }
         requires acted { acts.share.amount ≡ weight_of C.weight (unit_address unit.opening) unit.steps }
     {
@@ -60,9 +63,9 @@ impl<C: Ledger + Weighing, W: Ledger> CountedUnit<C, W> {
     ) -> (T, u64)
         requires phase { F.IsAlwaysCallable phase }
         requires counts { CountsCommits F.FnOnce phase }
-        ensures did { (u : PlainUnit) × (v : PlainUnit) × IsUnit u
+        ensures did { (u : PlainUnit) × (v : PlainUnit) × IsLent u
             × OnceAtThree F.FnOnce phase u one.old other.old result v one.new other.new
-            × IsUnit v }
+            × IsLent v }
         ensures counted { seat.new.share.amount ≡ seat.old.share.amount + result.1 }
     {
         let CountedUnit { unit, part, .. } = self;

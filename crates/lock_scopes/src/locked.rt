@@ -1,8 +1,7 @@
 //! The parts of a device that threads share, each under a lock.
 
 ghost use Rattle.std.specs.Prelude.{◌≡◌, ◌+◌, length};
-ghost use Rattle.unit_model.specs.Unit.{IsUnit};
-ghost use Rattle.lock_scopes.specs.Lending.{IsQueue, IsMemory};
+ghost use Rattle.lock_scopes.specs.Lending.{IsLent, IsQueue, IsMemory};
 
 use crate::counted::CountedUnit;
 use crate::holding::hold;
@@ -18,8 +17,8 @@ use virtqueue::Queue;
 
 /// The units that threads share, each under a lock of its own. A thread holds it while one phase runs, or several that
 /// follow one another, and takes no other meanwhile. No clause says what a lock held at a moment. But whenever it is
-/// free, a unit's history is lawful, its blocks and what it has pending are those of that history, it has all Commits
-/// that were counted for it, and its acts of the operator weigh what was weighed for it.
+/// free, a unit's history is lawful, its blocks and what it has pending are those of that history, its disk isn't backed,
+/// it has all Commits that were counted for it, and its acts of the operator weigh what was weighed for it.
 #[derive(Drop)]
 pub struct LockedUnits<'a, R: Wait, C: Ledger + Weighing, W: Ledger> {
     /// The leave to wait, which a thread needs for a lock.
@@ -31,9 +30,9 @@ pub struct LockedUnits<'a, R: Wait, C: Ledger + Weighing, W: Ledger> {
 }
 
 impl<'a, R: Wait, C: Ledger + Weighing, W: Ledger> UnitLender for LockedUnits<'a, R, C, W> {
-    ghost lends_unit = { λ s at u. IsUnit u };
+    ghost lends_unit = { λ s at u. IsLent u };
 
-    ghost keeps_unit = { λ s at v t. IsUnit v × (t.units ≡ s.units) };
+    ghost keeps_unit = { λ s at v t. IsLent v × (t.units ≡ s.units) };
 
     ghost counts = { λ s n t. (t.seat.ghost_name ≡ s.seat.ghost_name)
         × (t.seat.now.share.amount ≡ s.seat.now.share.amount + n) };

@@ -1,5 +1,5 @@
 -- A request that is served where no task is alive: what its unit is then.
-use Rattle.std.proofs.Common.{◌≡◌, ℕ, ◌+◌, ◌-◌, ◌≤◌, Bool, true, false, not, ◌||◌, cond, List, [], ◌∷◌, map, length, Option, Some, None, is_some, IfSome, IsTrue, IsFalse, Result, Ok, Err, refl, sym, ◌∙◌, ap, subst, arith}
+use Rattle.std.proofs.Common.{◌≡◌, ℕ, ◌+◌, ◌-◌, ◌≤◌, Bool, true, false, not, ◌&&◌, ◌||◌, cond, List, [], ◌∷◌, map, length, Option, Some, None, is_some, IfSome, IsTrue, IsFalse, Result, Ok, Err, refl, sym, ◌∙◌, ap, subst, arith}
 use Rattle.ring_core.specs.declared.log.Ticket.{Ticket}
 use Rattle.block_store.specs.Blocks.{Blocks}
 use Rattle.foundation.specs.declared.NoMemory.{NoMemory}
@@ -37,17 +37,19 @@ use Rattle.unit_model.specs.Jobs.{PlainJob}
 use Rattle.task_set.specs.Tasks.{PlainTask, parked_of}
 use Rattle.task_set.specs.Inner.Tasks.{entries_of, moved, without, task_at, entering, run_at_once}
 use Rattle.task_set.proofs.Entering.{blocked_last}
+use Rattle.logical_unit.specs.Inner.Calls.{writes_through}
 use Rattle.logical_unit.specs.Calls.{Enters}
 use Rattle.logical_unit.specs.Endings.{ending_of, ending_of_run}
 use Rattle.logical_unit.specs.Changes.{PlainChanges}
 use Rattle.logical_unit.specs.Inner.Noting.{Notes, AreRecorded}
 use Rattle.logical_unit.specs.Inner.Parts.{AreKept, AreClear, AreBased}
-use Rattle.logical_unit.specs.Inner.Performing.{PlainPerformed, Performs, Ran, step_for, taken, told, unkept}
+use Rattle.logical_unit.specs.Inner.Performing.{PlainPerformed, Performs, Ran, step_for, taken, told, unkept, ran_well}
 use Rattle.logical_unit.specs.Inner.Outcomes.{outcome_for}
 use Rattle.logical_unit.specs.Serving.{ServesAlone}
 use Rattle.unit_model.specs.Unit.{Steps}
 use Rattle.logical_unit.specs.declared.outcomes.Entered.TheVariants as entered
 use Rattle.logical_unit.proofs.Basing.{based_way, based_on, ran_folds}
+use Rattle.logical_unit.proofs.Through.{off_withheld, ran_commits}
 use Rattle.logical_unit.proofs.Committing.{is_of, keep_run, commits_run, performed_comes}
 use Rattle.logical_unit.proofs.Entering.{enters_task}
 use Rattle.logical_unit.proofs.Keeping.{CameTo, is_ready, may_leave, keep_enter, keep_leave}
@@ -113,33 +115,39 @@ unblocked : (e : Entry) → is_blocked e (e ∷ []) ≡ false
 unblocked e = blocked_last e [] refl ∙ by_none e.attribute
 
 -- the task of a job, blocked or not, and done or not
-abbrev task_of_job : ℕ → PlainJob → Bool → Bool → PlainTask
-task_of_job place j blocked done =
+abbrev task_of_job : ℕ → PlainJob → Bool → Bool → Bool → PlainTask
+task_of_job place j blocked done well =
     record {
-      seen = record { entry = j.entry; enabled = not blocked; done = done; mark = None; place = place };
+      seen = record { entry = j.entry; enabled = not blocked; done = done; ended_well = well; mark = None; place = place };
       parked = cond blocked (Some j) None;
     }
 
-enters_so : (place : ℕ) (j : PlainJob) → entering place [] j ≡ task_of_job place j false false
-enters_so place j = ap (λ b. task_of_job place j b false) (unblocked j.entry)
+enters_so : (place : ℕ) (j : PlainJob) → entering place [] j ≡ task_of_job place j false false false
+enters_so place j = ap (λ b. task_of_job place j b false false) (unblocked j.entry)
 
-ends_so : (place : ℕ) (j : PlainJob)
-    → map (moved (finished j.entry.ticket)) (task_of_job place j false false ∷ []) ≡ task_of_job place j false true ∷ []
-ends_so place j = ap (λ b. task_of_job place j false (b || false) ∷ []) (itself j.entry.ticket)
+or_false : (b : Bool) → (b || false) ≡ b
+or_false true = refl
+or_false false = refl
 
-is_found : (place : ℕ) (j : PlainJob) (done : Bool)
-    → task_at j.entry.ticket (task_of_job place j false done ∷ []) ≡ Some (task_of_job place j false done)
-is_found place j done = ap (λ b. cond b (Some (task_of_job place j false done)) None) (itself j.entry.ticket)
+ends_so : (place : ℕ) (j : PlainJob) (well : Bool)
+    → map (moved (finished j.entry.ticket well)) (task_of_job place j false false false ∷ []) ≡ task_of_job place j false true well ∷ []
+ends_so place j well =
+    ap (λ b. task_of_job place j false (b || false) ((b && well) || false) ∷ []) (itself j.entry.ticket)
+    ∙ ap (λ b. task_of_job place j false true b ∷ []) (or_false well)
 
-is_gone : (place : ℕ) (j : PlainJob) → without j.entry.ticket (task_of_job place j false true ∷ []) ≡ []
-is_gone place j = ap (λ b. cond b [] (task_of_job place j false true ∷ [])) (itself j.entry.ticket)
+is_found : (place : ℕ) (j : PlainJob) (done well : Bool)
+    → task_at j.entry.ticket (task_of_job place j false done well ∷ []) ≡ Some (task_of_job place j false done well)
+is_found place j done well = ap (λ b. cond b (Some (task_of_job place j false done well)) None) (itself j.entry.ticket)
+
+is_gone : (place : ℕ) (j : PlainJob) (well : Bool) → without j.entry.ticket (task_of_job place j false true well ∷ []) ≡ []
+is_gone place j well = ap (λ b. cond b [] (task_of_job place j false true well ∷ [])) (itself j.entry.ticket)
 
 module _ (o : Opening) (past : List Step) (block_at : Blocks) (pending : List Code) (last_tickets : List (Option ℕ)) (room : ℕ)
     (k : AreKept o past block_at pending [] last_tickets room) (j : PlainJob) (last_tickets' : List (Option ℕ))
     (le : next_number j.entry.ticket.queue past ≤ j.entry.ticket.number) (came : CameTo j.entry.ticket last_tickets last_tickets') where
   -- its task entered
   pub kept_entered : (room' : ℕ) → 128 ≤ room'
-      → AreKept o (Step.Enter j.entry ∷ past) block_at pending (task_of_job (length past) j false false ∷ []) last_tickets' room'
+      → AreKept o (Step.Enter j.entry ∷ past) block_at pending (task_of_job (length past) j false false false ∷ []) last_tickets' room'
   kept_entered room' reserve =
       subst (λ x. AreKept o (Step.Enter j.entry ∷ past) block_at pending (x ∷ []) last_tickets' room') (enters_so (length past) j)
       (keep_enter k j last_tickets' room' (omega arith) le came reserve)
@@ -148,16 +156,16 @@ module _ (o : Opening) (past : List Step) (block_at : Blocks) (pending : List Co
       (as_told : facts ≡ facts_after o (Step.Enter j.entry ∷ past))
       (ran : Performs false facts j.entry.command j.entry.data_out p block_at block_at' pending pending') where
     ready : IsReady j.entry.ticket j.entry (Step.Enter j.entry ∷ past)
-    ready = is_ready (kept_entered room1 reserve) j.entry.ticket (task_of_job (length past) j false false)
-        (is_found (length past) j false) refl refl refl
+    ready = is_ready (kept_entered room1 reserve) j.entry.ticket (task_of_job (length past) j false false false)
+        (is_found (length past) j false false) refl refl refl
 
     -- its command ran
     kept_ran : (room2 : ℕ) → room1 ≤ room2 + 1
         → AreKept o (step_for j.entry.ticket p ∷ Step.Enter j.entry ∷ past) block_at' pending'
-        (task_of_job (length past) j false true ∷ []) last_tickets' room2
+        (task_of_job (length past) j false true (ran_well p) ∷ []) last_tickets' room2
     kept_ran room2 less =
         subst (λ ts. AreKept o (step_for j.entry.ticket p ∷ Step.Enter j.entry ∷ past) block_at' pending' ts last_tickets' room2)
-        (ends_so (length past) j)
+        (ends_so (length past) j (ran_well p))
         (keep_run (kept_entered room1 reserve) j.entry.ticket j.entry false facts (IsLostIn None) p block_at' pending' room2 ready as_told
         (performed_comes false facts (IsLostIn None) j.entry.command j.entry.data_out p block_at block_at' pending pending' ran) less)
 
@@ -166,9 +174,9 @@ module _ (o : Opening) (past : List Step) (block_at : Blocks) (pending : List Co
         → AreKept o (Step.Leave j.entry.ticket ∷ step_for j.entry.ticket p ∷ Step.Enter j.entry ∷ past) block_at' pending' [] last_tickets' room3
     kept_left room2 room3 less fewer =
         subst (λ ts. AreKept o (Step.Leave j.entry.ticket ∷ step_for j.entry.ticket p ∷ Step.Enter j.entry ∷ past) block_at' pending'
-        (map (moved (freed (entries_of ts))) ts) last_tickets' room3) (is_gone (length past) j)
-        (keep_leave (kept_ran room2 less) j.entry.ticket (task_of_job (length past) j false true) room3
-        (is_found (length past) j true) refl fewer)
+        (map (moved (freed (entries_of ts))) ts) last_tickets' room3) (is_gone (length past) j (ran_well p))
+        (keep_leave (kept_ran room2 less) j.entry.ticket (task_of_job (length past) j false true (ran_well p)) room3
+        (is_found (length past) j true (ran_well p)) refl fewer)
 
     enters : (storage : Option Ledger) → j.address ≡ unit_address o
         → Enters (unit_with o past [] false storage) j (entered.Run j) (unit_with o (Step.Enter j.entry ∷ past) [] false storage)
@@ -182,26 +190,27 @@ module _ (o : Opening) (past : List Step) (block_at : Blocks) (pending : List Co
         (unit_with o (Step.Leave j.entry.ticket ∷ step_for j.entry.ticket p ∷ Step.Enter j.entry ∷ past) [] false storage)
     leaves storage =
         steps_is o (Step.Leave j.entry.ticket) (step_for j.entry.ticket p ∷ Step.Enter j.entry ∷ past) _ [] [] false false storage storage
-        (may_leave (kept_ran room1 (omega arith)) j.entry.ticket (task_of_job (length past) j false true)
-        (is_found (length past) j true) refl) refl refl refl refl
+        (may_leave (kept_ran room1 (omega arith)) j.entry.ticket (task_of_job (length past) j false true (ran_well p))
+        (is_found (length past) j true (ran_well p)) refl) refl refl refl refl
 
     -- all of it
     pub serves : (storage : Option Ledger) (answers : Ending → Type 0) → j.address ≡ unit_address o
         → (enabled j.entry (Step.Enter j.entry ∷ past) ≡ true → (r : PlainReply) → r.status ≡ good → is_flush j.entry.command ≡ true
         → IfSome storage (λ l. IsDurable o (Step.Enter j.entry ∷ past) l j.entry))
+        → writes_through (unit_with o past [] false storage) j.entry.command ≡ false
         → answers (ending_of (outcome_for (unit_address o) (length (Step.Enter j.entry ∷ past)) j.entry.ticket p))
         → j.chain.ticket ≡ j.entry.ticket
         → ServesAlone answers (unit_with o past [] false storage) j
         (unit_with o (Step.Leave j.entry.ticket ∷ step_for j.entry.ticket p ∷ Step.Enter j.entry ∷ past) [] false storage)
-    serves storage answers named durable answered own =
+    serves storage answers named durable off answered own =
         record {
           once_entered = unit_with o (Step.Enter j.entry ∷ past) [] false storage;
           once_run = unit_with o (step_for j.entry.ticket p ∷ Step.Enter j.entry ∷ past) [] false storage;
           outcome = outcome_for (unit_address o) (length (Step.Enter j.entry ∷ past)) j.entry.ticket p;
           enters = enters storage named;
-          commits = commits_run (kept_entered room1 reserve) j j.entry false storage storage facts p block_at' pending' refl
-              (is_of (kept_entered room1 reserve) j (task_of_job (length past) j false false) (is_found (length past) j false) refl)
-              ready as_told (performed_comes false facts (IsLostIn storage) j.entry.command j.entry.data_out p block_at block_at' pending pending' ran) (durable ready.is_enabled);
+          commits = ran_commits (unit_with o (Step.Enter j.entry ∷ past) [] false storage) j _ _ off (commits_run (kept_entered room1 reserve) j j.entry false storage storage facts p block_at' pending' refl
+              (is_of (kept_entered room1 reserve) j (task_of_job (length past) j false false false) (is_found (length past) j false false) refl)
+              ready as_told (performed_comes false facts (IsLostIn storage) j.entry.command j.entry.data_out p block_at block_at' pending pending' ran) (durable ready.is_enabled)) (off_withheld (unit_with o (Step.Enter j.entry ∷ past) [] false storage) j off);
           answered = answered;
           leaves = subst (λ t. Steps (unit_with o (step_for j.entry.ticket p ∷ Step.Enter j.entry ∷ past) [] false storage) (Step.Leave t)
               (unit_with o (Step.Leave j.entry.ticket ∷ step_for j.entry.ticket p ∷ Step.Enter j.entry ∷ past) [] false storage))
@@ -265,12 +274,13 @@ module _ (o : Opening) (past : List Step) (block_at : Blocks) (pending : List Co
       → j.chain.ticket ≡ j.entry.ticket
       → (enabled j.entry (Step.Enter j.entry ∷ past) ≡ true → (r : PlainReply) → r.status ≡ good → is_flush j.entry.command ≡ true
       → IfSome storage (λ l. IsDurable o (Step.Enter j.entry ∷ past) l j.entry))
+      → writes_through (unit_with o past [] false storage) j.entry.command ≡ false
       → ServesAlone answers (unit_with o past (parked_of tasks) keeps storage) j (unit_with o steps' (parked_of tasks) keeps' storage')
-  serves_alone answers keeps keeps' storage storage' kind named a b answered own durable =
+  serves_alone answers keeps keeps' storage storage' kind named a b answered own durable off =
       subst (λ x. ServesAlone answers (unit_with o past (parked_of tasks) keeps storage) j (unit_with o steps' (parked_of tasks) keeps' x)) (sym kind)
       (subst (λ x. ServesAlone answers (unit_with o past (parked_of tasks) x storage) j (unit_with o steps' (parked_of tasks) keeps' storage)) (sym a)
       (subst (λ x. ServesAlone answers (unit_with o past (parked_of tasks) false storage) j (unit_with o steps' (parked_of tasks) x storage)) (sym b)
       (subst (λ ts. ServesAlone answers (unit_with o past (parked_of ts) false storage) j (unit_with o steps' (parked_of ts) false storage)) (sym none)
       (subst (λ ss. ServesAlone answers (unit_with o past [] false storage) j (unit_with o ss [] false storage)) (sym is)
       (serves o past block_at pending last_tickets room kept_none j last_tickets' le came room1 reserve facts p block_at' pending' as_told ran
-      storage answers named durable answered own)))))
+      storage answers named durable off answered own)))))

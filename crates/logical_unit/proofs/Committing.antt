@@ -24,11 +24,12 @@ use Rattle.unit_model.specs.Asking.{IsOf, asked_of, CannotCommit}
 use Rattle.command_model.specs.Waiting.{is_flush, waits_at}
 use Rattle.command_model.specs.Statuses.{good}
 use Rattle.unit_model.specs.Flushing.{IsDurable}
-use Rattle.logical_unit.specs.Calls.{Commits, Waits}
+use Rattle.logical_unit.specs.Calls.{Waits}
+use Rattle.logical_unit.specs.Inner.Calls.{Runs}
 use Rattle.logical_unit.specs.Inner.Parts.{AreKept}
 use Rattle.command_model.specs.Memory.{may_run_short}
 use Rattle.cdb.specs.declared.commands.Command.{Command}
-use Rattle.logical_unit.specs.Inner.Performing.{PlainPerformed, Performs, Comes, Ran, RanUnread, step_for, taken}
+use Rattle.logical_unit.specs.Inner.Performing.{PlainPerformed, Performs, Comes, Ran, RanUnread, ran_well, step_for, taken}
 use Rattle.logical_unit.specs.Inner.Outcomes.{outcome_for}
 use Rattle.logical_unit.specs.Inner.Turns.{Turns}
 use Rattle.logical_unit.specs.declared.turn.Turn.TheVariants as turn
@@ -112,8 +113,7 @@ module _ {o : Opening} {past : List Step} {block_at : Blocks} {pending : List Co
       record {
         entry = x.seen.entry;
         of = is_of j x at turns.0;
-        ready = is_ready k j.entry.ticket x at turns.1 turns.2 turns.3;
-        waits = both _ _ on cause;
+        waits = inl (is_ready k j.entry.ticket x at turns.1 turns.2 turns.3, both _ _ on (or-left _ _ cause));
         same = same_unit o past past _ _ keeps keeps storage storage' refl refl refl kind;
       }
 
@@ -136,7 +136,7 @@ module _ {o : Opening} {past : List Step} {block_at : Blocks} {pending : List Co
   -- the parts once a command ran, or was refused memory
   pub keep_run : (t : Ticket) (e : Entry) (keeps : Bool) (facts : Facts) (lost : ℕ → Type 0) (p : Option PlainPerformed) (block_at' : Blocks) (pending' : List Code) (room' : ℕ)
       → IsReady t e past → facts ≡ facts_after o past → Comes keeps facts lost e.command e.data_out p block_at block_at' pending pending' → room ≤ room' + 1
-      → AreKept o (step_for t p ∷ past) block_at' pending' (map (moved (finished t)) tasks) last_tickets room'
+      → AreKept o (step_for t p ∷ past) block_at' pending' (map (moved (finished t (ran_well p))) tasks) last_tickets room'
   keep_run t e keeps facts lost None block_at' pending' room' ready as_told short reserve = keep_busy k t e block_at' pending' room' ready short.stored short.pends reserve
   keep_run t e keeps facts lost (Some p) block_at' pending' room' ready as_told ran reserve =
       keep_commit k t e p.reply block_at' pending' room' ready
@@ -149,9 +149,9 @@ module _ {o : Opening} {past : List Step} {block_at : Blocks} {pending : List Co
       → storage' ≡ storage → IsOf j e past → IsReady j.entry.ticket e past → facts ≡ facts_after o past
       → Comes keeps facts (IsLostIn storage) e.command e.data_out p block_at block_at' pending pending'
       → ((r : PlainReply) → r.status ≡ good → is_flush e.command ≡ true → IfSome storage (λ l. IsDurable o past l e))
-      → Commits (record { opening = o; steps = past; parked = parked_of tasks; keeps_replies = keeps; storage = storage }) j
+      → Runs (record { opening = o; steps = past; parked = parked_of tasks; keeps_replies = keeps; storage = storage }) j
       (outcome_for (unit_address o) (length past) j.entry.ticket p)
-      (record { opening = o; steps = step_for j.entry.ticket p ∷ past; parked = parked_of (map (moved (finished j.entry.ticket)) tasks); keeps_replies = keeps; storage = storage' })
+      (record { opening = o; steps = step_for j.entry.ticket p ∷ past; parked = parked_of (map (moved (finished j.entry.ticket (ran_well p))) tasks); keeps_replies = keeps; storage = storage' })
   commits_run j e keeps storage storage' facts None block_at' pending' kind of ready as_told short durable = (
     e,
     of,

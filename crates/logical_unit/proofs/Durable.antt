@@ -1,5 +1,5 @@
 -- What the storage of a unit's disk has of its blocks, since the task of a flush entered.
-use Rattle.std.proofs.Common.{◌≡◌, ◌⊎◌, ℕ, ◌*◌, ◌/◌, ◌%◌, ◌==◌, ◌<◌, ◌≤◌, ◌||◌, nat_le, nat_lt, min, Bool, true, false, inl, inr, List, [], ◌∷◌, All, Contains, length, Option, Some, None, not, is_some, IfSome, IfNone, IfOk, OnErr, IsTrue, IsFalse, Result, Ok, Err, if◌then◌else◌, refl, sym, ◌∙◌, ap, subst, arith}
+use Rattle.std.proofs.Common.{◌≡◌, ◌⊎◌, ℕ, zero, suc, ◌-◌, drop, ◌*◌, ◌/◌, ◌%◌, ◌==◌, ◌<◌, ◌≤◌, ◌||◌, nat_le, nat_lt, min, Bool, true, false, inl, inr, List, [], ◌∷◌, All, Contains, length, Option, Some, None, not, is_some, IfSome, IfNone, IfOk, OnErr, IsTrue, IsFalse, Result, Ok, Err, if◌then◌else◌, refl, sym, ◌∙◌, ap, subst, arith}
 use Rattle.std.proofs.lemmas.Bool.Decides.{nat_tests}
 use Rattle.std.specs.Option.{option_map}
 use Rattle.std.proofs.lemmas.List.Elements.{All-nil, All-cons, All-contains}
@@ -15,14 +15,14 @@ use Rattle.backed_store.specs.declared.disk.Disk.{Disk}
 use Rattle.backed_store.specs.declared.disk.Disk.TheVariants.{Whole, Backed}
 use Rattle.ring_core.specs.declared.log.Ticket.{Ticket}
 use Rattle.unit_model.specs.Tasks.{Entry, same_ticket}
-use Rattle.unit_model.specs.Steps.{Step, alive, as_of}
+use Rattle.unit_model.specs.Steps.{Step, alive, as_of, done}
 use Rattle.unit_model.specs.Seen.{entered_at}
 use Rattle.unit_model.specs.Enabling.{enabled}
 use Rattle.unit_model.specs.Lawful.{IsReady}
 use Rattle.unit_model.proofs.Leaving.{task_ticket}
 use Rattle.unit_model.specs.Contents.{Opening, blocks_of, capacity_of}
-use Rattle.unit_model.specs.Flushing.{HasBeen, IsDurable}
-use Rattle.logical_unit.specs.Inner.Flushes.{HasBeenSince, IsLeftSince, AreSince, EnteredAs, Might, HasBegun, AreFenced, without}
+use Rattle.unit_model.specs.Flushing.{HasBeen, IsDurable, HasBeenBehind, IsThrough}
+use Rattle.logical_unit.specs.Inner.Flushes.{HasBeenSince, IsLeftSince, AreSince, EnteredAs, Might, MayBegin, HasBegun, AreFenced, fence_of, without}
 use Rattle.logical_unit.proofs.Begun.{StandsAs, might_more, might_now, entered_as}
 use Rattle.logical_unit.specs.declared.flushing.Fence.{Fence}
 use Rattle.backed_store.specs.declared.dealing.GivenPage.{GivenPage}
@@ -110,29 +110,30 @@ since_more o s steps since (Some h) was =
     λ b. (λ is. left_more o s steps since b (storage_by h.ledger) ((was b).0 is), λ is. been_more o s steps since b _ ((was b).1 is))
 
 -- with this storage after one more step
-begun_more : (o : Opening) (s : Step) (steps : List Step) (place : ℕ) (x y : Option Hosted) (was : HasBegun o steps place x)
-    → AreSince o (s ∷ steps) was.since y → HasBegun o (s ∷ steps) place y
-begun_more o s steps place x y was has =
+begun_more : (o : Opening) (s : Step) (steps : List Step) (f : Fence) (x y : Option Hosted) (was : HasBegun o steps f x)
+    → AreSince o (s ∷ steps) was.since y → HasBegun o (s ∷ steps) f y
+begun_more o s steps f x y was has =
     record {
       since = was.since;
       before = (let lt = was.before in omega (arith, lt));
       past = (let le = was.past in omega (arith, le));
-      might = might_more place was.since s steps was.before was.past was.might;
+      might = λ is. might_more f.place was.since s steps was.before was.past (was.might is);
+      ran = λ is. ap (λ w. done f.ticket w) (as_of-more was.since s steps was.past) ∙ was.ran is;
       has = has;
     }
 
 -- with this storage
-begun_with : (o : Opening) (steps : List Step) (place : ℕ) (x y : Option Hosted) (was : HasBegun o steps place x)
-    → AreSince o steps was.since y → HasBegun o steps place y
-begun_with o steps place x y was has =
-    record { since = was.since; before = was.before; past = was.past; might = was.might; has = has }
+begun_with : (o : Opening) (steps : List Step) (f : Fence) (x y : Option Hosted) (was : HasBegun o steps f x)
+    → AreSince o steps was.since y → HasBegun o steps f y
+begun_with o steps f x y was has =
+    record { since = was.since; before = was.before; past = was.past; might = was.might; ran = was.ran; has = has }
 
 -- after one more step
 pub fenced_more : (o : Opening) (s : Step) (steps steps' : List Step) (f : Option Fence) (x : Option Hosted) → AreFenced o steps f x
     → steps' ≡ s ∷ steps → AreFenced o steps' f x
 fenced_more o s steps steps' None x was is = tt
 fenced_more o s steps steps' (Some f) x was is =
-    subst (λ w. AreFenced o w (Some f) x) (sym is) (begun_more o s steps f.place x x was (since_more o s steps was.since x was.has))
+    subst (λ w. AreFenced o w (Some f) x) (sym is) (begun_more o s steps f x x was (since_more o s steps was.since x was.has))
 
 -- the storage has the same
 pub fenced_same : (o : Opening) (steps : List Step) (f : Option Fence) (x y : Option Hosted) → AreFenced o steps f x → y ≡ x
@@ -159,17 +160,31 @@ since_now o steps (Backed s) stored begun = λ b. (
   λ is. been_now o steps (length steps) b _ (omega arith) ((begun b).1 is ∙ stored b),
 )
 
-pub begun_now : (o : Opening) (steps : List Step) (place : ℕ) (d : Disk) → place < length steps → Might place (length steps) steps
-    → ((b : ℕ) → disks.blocks_of d b ≡ blocks_of o steps b) → IsBegun d → HasBegun o steps place (disks.hosted_of d)
-begun_now o steps place d before might stored begun =
-    record { since = length steps; before = before; past = omega arith; might = might; has = since_now o steps d stored begun }
+pub begun_now : (o : Opening) (steps : List Step) (f : Fence) (d : Disk) → MayBegin steps f
+    → ((b : ℕ) → disks.blocks_of d b ≡ blocks_of o steps b) → IsBegun d → HasBegun o steps f (disks.hosted_of d)
+begun_now o steps f d may stored begun =
+    record {
+      since = length steps;
+      before = may.before;
+      past = omega arith;
+      might = may.might;
+      ran = λ is. ap (λ w. done f.ticket w) (as_of-now (length steps) steps (omega arith)) ∙ may.ran is;
+      has = since_now o steps d stored begun;
+    }
 
 -- of a disk that isn't backed it has all that it waits for
-pub begun_whole : (o : Opening) (steps : List Step) (place : ℕ) (d : Disk) → place < length steps → Might place (length steps) steps
-    → not (disks.is_backed d) ≡ true → HasBegun o steps place (disks.hosted_of d)
-begun_whole o steps place (Whole s) before might whole =
-    record { since = length steps; before = before; past = omega arith; might = might; has = tt }
-begun_whole o steps place (Backed s) before might never = let no : false ≡ true = never in absurd (cc)
+pub begun_whole : (o : Opening) (steps : List Step) (f : Fence) (d : Disk) → MayBegin steps f
+    → not (disks.is_backed d) ≡ true → HasBegun o steps f (disks.hosted_of d)
+begun_whole o steps f (Whole s) may whole =
+    record {
+      since = length steps;
+      before = may.before;
+      past = omega arith;
+      might = may.might;
+      ran = λ is. ap (λ w. done f.ticket w) (as_of-now (length steps) steps (omega arith)) ∙ may.ran is;
+      has = tt;
+    }
+begun_whole o steps f (Backed s) may never = let no : false ≡ true = never in absurd (cc)
 
 -- whatever is left then is durable
 left_been : (o : Opening) (steps : List Step) (e : Entry) (since b : ℕ) (s : Storage) (left : List ℕ) → enabled e (as_of since steps) ≡ true
@@ -188,11 +203,60 @@ left_been o steps e since b s left might was leaves = elim leaves [
           is = same ∙ was.is;
         }
 
-pub over_durable : (o : Opening) (steps : List Step) (place : ℕ) (e : Entry) (d : Disk) → EnteredAs e place steps
-    → HasBegun o steps place (disks.hosted_of d) → IsOver d → IfSome (disks.storage_of d) (λ l. IsDurable o steps l e)
-over_durable o steps place e (Whole s) at was over = tt
-over_durable o steps place e (Backed s) at was over = λ left leaves b named.
-    left_been o steps e was.since b (storage_by (backed.ledger_of s.store)) (left b) (was.might e at) ((was.has b).0 (over (b / 8))) (leaves b)
+pub over_durable : (o : Opening) (steps : List Step) (f : Fence) (e : Entry) (d : Disk) → f.ran ≡ false → EnteredAs e f.place steps
+    → HasBegun o steps f (disks.hosted_of d) → IsOver d → IfSome (disks.storage_of d) (λ l. IsDurable o steps l e)
+over_durable o steps f e (Whole s) first at was over = tt
+over_durable o steps f e (Backed s) first at was over = λ left leaves b named.
+    left_been o steps e was.since b (storage_by (backed.ledger_of s.store)) (left b) (was.might first e at) ((was.has b).0 (over (b / 8))) (leaves b)
+
+or_right : (a b : Bool) → b ≡ true → (a || b) ≡ true
+or_right true b is = refl
+or_right false b is = is
+
+-- what is done stays so
+done_more : (t : Ticket) (s : Step) (past : List Step) → done t past ≡ true → done t (s ∷ past) ≡ true
+done_more t (Step.Commit u r) past is = or_right (same_ticket u t) (done t past) is
+done_more t (Step.Busy u) past is = or_right (same_ticket u t) (done t past) is
+done_more t (Step.Enter e) past is = is
+done_more t (Step.Full u) past is = is
+done_more t (Step.Abort rule) past is = is
+done_more t (Step.Reset c) past is = is
+done_more t (Step.Resize n) past is = is
+done_more t (Step.Leave u) past is = is
+
+done_drop : (t : Ticket) (n m : ℕ) (h : List Step) → m ≤ n → done t (drop n h) ≡ true → done t (drop m h) ≡ true
+done_drop t n m [] le is = let none : done t (drop n []) ≡ false = of_none t n in absurd (let no : false ≡ true = sym none ∙ is in cc)
+  where
+    of_none : (t : Ticket) (n : ℕ) → done t (drop n []) ≡ false
+    of_none t zero = refl
+    of_none t (suc n) = refl
+done_drop t zero zero (s ∷ past) le is = is
+done_drop t zero (suc m) (s ∷ past) le is = absurd (omega (arith, le))
+done_drop t (suc n) zero (s ∷ past) le is = done_more t s past (done_drop t n zero past (omega arith) is)
+done_drop t (suc n) (suc m) (s ∷ past) le is = done_drop t n m past (omega (arith, le)) is
+
+-- whatever is left once the flush behind a command is over has all that it changed
+through_been : (o : Opening) (steps : List Step) (t : Ticket) (since b : ℕ) (s : Storage) (left : List ℕ) → done t (as_of since steps) ≡ true
+    → IsLeftSince o steps since s b → (left ≡ s.kept b) ⊎ Contains (s.unkept b) left → HasBeenBehind o steps t b left
+through_been o steps t since b s left ran was leaves = elim leaves [
+  | inl same ↦ been (s.kept b) was.0 same
+  | inr is ↦ been left (All-contains (HasBeenSince o steps since b) (s.unkept b) left was.1 is) refl
+]
+  where
+    been : (x : List ℕ) → HasBeenSince o steps since b x → left ≡ x → HasBeenBehind o steps t b left
+    been x was same =
+        record {
+          place = was.place;
+          past = was.past;
+          ran = (let later = was.later in done_drop t (length steps - since) (length steps - was.place) steps (omega (arith, later)) ran);
+          is = same ∙ was.is;
+        }
+
+pub over_through : (o : Opening) (steps : List Step) (f : Fence) (d : Disk) → f.ran ≡ true → HasBegun o steps f (disks.hosted_of d) → IsOver d
+    → IfSome (disks.storage_of d) (λ l. IsThrough o steps l f.ticket)
+over_through o steps f (Whole s) behind was over = tt
+over_through o steps f (Backed s) behind was over = λ left leaves b.
+    through_been o steps f.ticket was.since b (storage_by (backed.ledger_of s.store)) (left b) (was.ran behind) ((was.has b).0 (over (b / 8))) (leaves b)
 
 pub kept_durable : (o : Opening) (steps : List Step) (e : Entry) (d : Disk) → enabled e steps ≡ true
     → ((b : ℕ) → disks.blocks_of d b ≡ blocks_of o steps b) → IsKeptWhole d → IfSome (disks.storage_of d) (λ l. IsDurable o steps l e)
@@ -209,7 +273,7 @@ pub said_fenced : (o : Opening) (steps : List Step) (f : Option Fence) (d : Deal
     → AreFenced o steps f x → AreFenced o steps f (option_map (hosted_after d) x)
 said_fenced o steps None d x same still was = tt
 said_fenced o steps (Some f) d None same still was = was
-said_fenced o steps (Some f) d (Some h) same still was = begun_with o steps f.place (Some h) (Some (hosted_after d h)) was (
+said_fenced o steps (Some f) d (Some h) same still was = begun_with o steps f (Some h) (Some (hosted_after d h)) was (
     λ b. (
       λ is. left_as o steps was.since b (storage_by h.ledger) (storage_by (and_then d h.ledger)) ((was.has b).0 (ap (λ (p : Progress). p.kept (b / 8)) (sym (still h.progress)) ∙ is))
           (ap (λ (s : Storage). s.kept b) (storage_then d h.ledger ∙ same (storage_by h.ledger)))
@@ -225,7 +289,7 @@ pub gave_fenced : (o : Opening) (steps : List Step) (f : Option Fence) (page : �
 gave_fenced o steps None page bytes x now was = tt
 gave_fenced o steps (Some f) page bytes None now was = was
 gave_fenced o steps (Some f) page bytes (Some h) now was =
-    begun_with o steps f.place (Some h) (Some (hosted_after (Dealing.Give page bytes) h)) was
+    begun_with o steps f (Some h) (Some (hosted_after (Dealing.Give page bytes) h)) was
     (λ b. (λ is. left_of b is (b / 8 == page) refl, λ is. by_test b (b / 8 == page) refl is))
   where
     after : storage_by (and_then (Dealing.Give page bytes) h.ledger) ≡ dealt (Dealing.Give page bytes) (storage_by h.ledger)
@@ -259,7 +323,7 @@ pub kept_fenced : (o : Opening) (steps : List Step) (f : Option Fence) (page : �
 kept_fenced o steps None page x was = tt
 kept_fenced o steps (Some f) page None was = was
 kept_fenced o steps (Some f) page (Some h) was =
-    begun_with o steps f.place (Some h) (Some (hosted_after (Dealing.Keep page) h)) was
+    begun_with o steps f (Some h) (Some (hosted_after (Dealing.Keep page) h)) was
     (λ b. (λ is. by_test b (b / 8 == page) refl is, λ is. been_as ((was.has b).1 is) (ap (λ (s : Storage). s.given b) after)))
   where
     after : storage_by (and_then (Dealing.Keep page) h.ledger) ≡ dealt (Dealing.Keep page) (storage_by h.ledger)
@@ -284,10 +348,10 @@ pub cut_fenced : (o : Opening) (steps steps' : List Step) (f : Option Fence) (bl
     → AreFenced o steps' f (option_map (hosted_after (Dealing.Cut (min (capacity_of o steps) blocks))) x)
 cut_fenced o steps steps' None blocks x is was = tt
 cut_fenced o steps steps' (Some f) blocks None is was =
-    subst (λ w. AreFenced o w (Some f) None) (sym is) (begun_more o (Step.Resize blocks) steps f.place None None was tt)
+    subst (λ w. AreFenced o w (Some f) None) (sym is) (begun_more o (Step.Resize blocks) steps f None None was tt)
 cut_fenced o steps steps' (Some f) blocks (Some h) is was =
     subst (λ w. AreFenced o w (Some f) (Some (hosted_after (Dealing.Cut end) h))) (sym is)
-    (begun_more o (Step.Resize blocks) steps f.place (Some h) (Some (hosted_after (Dealing.Cut end) h)) was
+    (begun_more o (Step.Resize blocks) steps f (Some h) (Some (hosted_after (Dealing.Cut end) h)) was
     (λ b. (λ so. kept_at b (nat_lt b end) refl so, λ so. given_at b (nat_lt b end) refl so)))
   where
     end : ℕ
@@ -354,10 +418,26 @@ stands_at {o} {past} k t x place at is =
 pub may_begin : {o : Opening} {past : List Step} {block_at : Blocks} {pending : List Code} {tasks : List PlainTask}
     {last_tickets : List (Option ℕ)} {room : ℕ} (k : AreKept o past block_at pending tasks last_tickets room)
     (t : Ticket) (x : PlainTask) (place : ℕ) → task_at t tasks ≡ Some x → place ≡ x.seen.place → IsReady t x.seen.entry past
-    → (place < length past) × Might place (length past) past
+    → MayBegin past (fence_of t place false)
 may_begin {o} {past} k t x place at is ready =
     let stands = stands_at k t x place at is in
-    (stands.before, might_now x.seen.entry place past stands.entered ready.is_enabled)
+    record {
+      before = stands.before;
+      might = λ first. might_now x.seen.entry place past stands.entered ready.is_enabled;
+      ran = λ never. let no : false ≡ true = never in absurd (cc);
+    }
+
+-- the flush behind its command, once that ran
+pub may_follow : {o : Opening} {past : List Step} {block_at : Blocks} {pending : List Code} {tasks : List PlainTask}
+    {last_tickets : List (Option ℕ)} {room : ℕ} (k : AreKept o past block_at pending tasks last_tickets room)
+    (t : Ticket) (x : PlainTask) (place : ℕ) → task_at t tasks ≡ Some x → place ≡ x.seen.place → done t past ≡ true
+    → MayBegin past (fence_of t place true)
+may_follow {o} {past} k t x place at is ran =
+    record {
+      before = (stands_at k t x place at is).before;
+      might = λ never. let no : true ≡ false = never in absurd (cc);
+      ran = λ behind. ran;
+    }
 
 pub came_on : (keeps : Bool) (facts : Facts) (storage storage' : Option Ledger) (command : Command) (bytes : List ℕ) (p : Option PlainPerformed)
     (blocks blocks' : Blocks) (pending pending' : List Code) → storage' ≡ storage

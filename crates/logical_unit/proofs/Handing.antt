@@ -1,5 +1,5 @@
 -- Which jobs a unit hands out at a step, and which it keeps.
-use Rattle.std.proofs.Common.{◌≡◌, ℕ, Bool, true, false, not, ◌&&◌, cond, List, [], ◌∷◌, ◌++◌, filter, map, Option, Some, None, is_some, refl, sym, ◌∙◌, ap, subst}
+use Rattle.std.proofs.Common.{◌≡◌, ◌==◌, ℕ, Bool, true, false, not, ◌&&◌, cond, List, [], ◌∷◌, ◌++◌, filter, map, Option, Some, None, is_some, refl, sym, ◌∙◌, ap, subst}
 use Rattle.std.specs.List.{AllByRecursion}
 use Rattle.std.proofs.lemmas.List.{append-nil}
 use Rattle.ring_core.specs.declared.log.Ticket.{Ticket}
@@ -15,6 +15,7 @@ use Rattle.unit_model.specs.Steps.{Step, alive}
 use Rattle.unit_model.specs.Marks.{marked}
 use Rattle.unit_model.specs.Enabling.{enabled, is_parked, newly_enabled, newly_marked}
 use Rattle.unit_model.specs.Released.{released}
+use Rattle.command_model.specs.Statuses.{good}
 use Rattle.unit_model.specs.Seen.{Seen, seen, seen_at, tasks_of, entries, waits, finished, with_mark, freed, others}
 use Rattle.unit_model.specs.Contents.{Opening}
 use Rattle.unit_model.specs.Lawful.{IsLawful, May}
@@ -138,18 +139,19 @@ parked_reset o past blocks pending tasks last_tickets room c k =
     stay_are (with_mark rules.All reason.Reset) (newly_marked (Step.Reset c) past) tasks k.fit (reset_among o c past tasks k.set k.lawful)
 
 -- whoever ends keeps all jobs where they are
-finish_keeps : (t : Ticket) (tasks : List PlainTask) → AreFit tasks → parked_of (map (moved (finished t)) tasks) ≡ but_tasks [] (parked_of tasks)
-finish_keeps t tasks fit = stay_are (finished t) [] tasks fit (of_all (IsAmong [] (finished t)) (seen_of tasks) (λ s. without_out (waits s)))
+finish_keeps : (t : Ticket) (well : Bool) (tasks : List PlainTask) → AreFit tasks
+    → parked_of (map (moved (finished t well)) tasks) ≡ but_tasks [] (parked_of tasks)
+finish_keeps t well tasks fit = stay_are (finished t well) [] tasks fit (of_all (IsAmong [] (finished t well)) (seen_of tasks) (λ s. without_out (waits s)))
 
 pub parked_commit : (o : Opening) (past : List Step) (blocks : Blocks) (pending : List Code) (tasks : List PlainTask) (last_tickets : List (Option ℕ)) (room : ℕ) (t : Ticket) (r : PlainReply)
     → AreKept o past blocks pending tasks last_tickets room
-    → parked_of (map (moved (finished t)) tasks) ≡ but_tasks (released (Step.Commit t r) past) (parked_of tasks)
-parked_commit o past blocks pending tasks last_tickets room t r k = finish_keeps t tasks k.fit
+    → parked_of (map (moved (finished t (r.status == good))) tasks) ≡ but_tasks (released (Step.Commit t r) past) (parked_of tasks)
+parked_commit o past blocks pending tasks last_tickets room t r k = finish_keeps t (r.status == good) tasks k.fit
 
 pub parked_busy : (o : Opening) (past : List Step) (blocks : Blocks) (pending : List Code) (tasks : List PlainTask) (last_tickets : List (Option ℕ)) (room : ℕ) (t : Ticket)
     → AreKept o past blocks pending tasks last_tickets room
-    → parked_of (map (moved (finished t)) tasks) ≡ but_tasks (released (Step.Busy t) past) (parked_of tasks)
-parked_busy o past blocks pending tasks last_tickets room t k = finish_keeps t tasks k.fit
+    → parked_of (map (moved (finished t false)) tasks) ≡ but_tasks (released (Step.Busy t) past) (parked_of tasks)
+parked_busy o past blocks pending tasks last_tickets room t k = finish_keeps t false tasks k.fit
 
 pub parked_full : (past : List Step) (tasks : List PlainTask) (t : Ticket) → parked_of tasks ≡ but_tasks (released (Step.Full t) past) (parked_of tasks)
 parked_full past tasks t = sym (nothing_taken (parked_of tasks))

@@ -1,5 +1,5 @@
 -- What the parts of a unit are after each of its steps.
-use Rattle.std.proofs.Common.{◌≡◌, ℕ, ◌+◌, ◌<◌, ◌≤◌, min, nat_lt, true, false, ◌||◌, eqb, cond, List, [], ◌∷◌, ◌++◌, map, length, Option, Some, None, is_some, refl, sym, ◌∙◌, ap, subst, arith}
+use Rattle.std.proofs.Common.{◌≡◌, ◌==◌, ℕ, ◌+◌, ◌<◌, ◌≤◌, min, nat_lt, true, false, ◌||◌, eqb, cond, List, [], ◌∷◌, ◌++◌, map, length, Option, Some, None, is_some, refl, sym, ◌∙◌, ap, subst, arith}
 use Rattle.std.specs.Option.{option_map}
 use Rattle.ring_core.specs.declared.log.Ticket.{Ticket}
 use Rattle.sense.specs.declared.Sense.{Sense}
@@ -25,6 +25,7 @@ use Rattle.unit_model.specs.Tasks.{Entry, task_of, is_blocked}
 use Rattle.unit_model.specs.Steps.{Step, alive, done, next_number}
 use Rattle.unit_model.specs.Marks.{marked}
 use Rattle.unit_model.specs.Enabling.{enabled}
+use Rattle.command_model.specs.Statuses.{good}
 use Rattle.unit_model.specs.Seen.{Seen, seen, tasks_of, entries, seen_at, others, joined, finished, with_mark, freed, owed}
 use Rattle.unit_model.specs.Contents.{Opening, is_capacity, capacity_of, capacity_changed, blocks_of, block_with, pending_at_start, pending_of, taken_by, oldest, facts_after, reply_after, MayReply}
 use Rattle.unit_model.specs.Lawful.{IsReady, May, IsLawful}
@@ -225,10 +226,10 @@ module _ {o : Opening} {past : List Step} {block_at : Blocks} {pending : List Co
 
   pub keep_commit : (t : Ticket) (e : Entry) (r : PlainReply) (block_at' : Blocks) (pending' : List Code) (room' : ℕ) → IsReady t e past → MayReply o e past r
       → ((b : ℕ) → block_at' b ≡ block_after e.command e.data_out r.status block_at b) → pending' ≡ taken e.command pending → room ≤ room' + 1
-      → AreKept o (Step.Commit t r ∷ past) block_at' pending' (map (moved (finished t)) tasks) last_tickets room'
+      → AreKept o (Step.Commit t r ∷ past) block_at' pending' (map (moved (finished t (r.status == good))) tasks) last_tickets room'
   keep_commit t e r block_at' pending' room' ready is stored pends reserve =
       let lawful : IsLawful o (Step.Commit t r ∷ past) = (k.lawful, may_commit t e r ready is) in
-      let set = seen_moved (finished t) tasks ∙ ap (map (finished t)) k.set ∙ sym (tasks_commit t r past) in
+      let set = seen_moved (finished t (r.status == good)) tasks ∙ ap (map (finished t (r.status == good))) k.set ∙ sym (tasks_commit t r past) in
       record {
         lawful = lawful;
         stored = λ b.
@@ -236,7 +237,7 @@ module _ {o : Opening} {past : List Step} {block_at : Blocks} {pending : List Co
             ∙ ap (λ x. block_with x r.status (blocks_of o past) b) (sym ready.is_there);
         pends = pends ∙ ap (λ w. taken e.command w) k.pends ∙ ap (λ x. taken_by x (pending_of o past)) (sym ready.is_there);
         set = set;
-        fit = fit_moved (finished t) (finished_waits t) (λ s. refl) tasks k.fit;
+        fit = fit_moved (finished t (r.status == good)) (finished_waits t (r.status == good)) (λ s. refl) tasks k.fit;
         floors = k.floors;
         reserved =
             let same = ap owed set in let was = ap owed k.set in let now = k.reserved in
@@ -245,16 +246,16 @@ module _ {o : Opening} {past : List Step} {block_at : Blocks} {pending : List Co
 
   pub keep_busy : (t : Ticket) (e : Entry) (block_at' : Blocks) (pending' : List Code) (room' : ℕ) → IsReady t e past
       → ((b : ℕ) → block_at' b ≡ block_at b) → pending' ≡ pending → room ≤ room' + 1
-      → AreKept o (Step.Busy t ∷ past) block_at' pending' (map (moved (finished t)) tasks) last_tickets room'
+      → AreKept o (Step.Busy t ∷ past) block_at' pending' (map (moved (finished t false)) tasks) last_tickets room'
   keep_busy t e block_at' pending' room' ready stored pends reserve =
       let lawful : IsLawful o (Step.Busy t ∷ past) = (k.lawful, may_busy t e ready) in
-      let set = seen_moved (finished t) tasks ∙ ap (map (finished t)) k.set ∙ sym (tasks_busy t past) in
+      let set = seen_moved (finished t false) tasks ∙ ap (map (finished t false)) k.set ∙ sym (tasks_busy t past) in
       record {
         lawful = lawful;
         stored = λ b. stored b ∙ k.stored b;
         pends = pends ∙ k.pends;
         set = set;
-        fit = fit_moved (finished t) (finished_waits t) (λ s. refl) tasks k.fit;
+        fit = fit_moved (finished t false) (finished_waits t false) (λ s. refl) tasks k.fit;
         floors = k.floors;
         reserved =
             let same = ap owed set in let was = ap owed k.set in let now = k.reserved in

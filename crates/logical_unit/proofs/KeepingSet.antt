@@ -47,8 +47,8 @@ seen_push tasks x = map-append (λ (y : PlainTask). y.seen) tasks (x ∷ [])
 abbrev pub WaitsLess : (Seen → Seen) → Type 0
 WaitsLess f = (s : Seen) → waits (f s) ≡ true → waits s ≡ true
 
-pub finished_waits : (t : Ticket) → WaitsLess (finished t)
-finished_waits t s h = h
+pub finished_waits : (t : Ticket) (well : Bool) → WaitsLess (finished t well)
+finished_waits t well s h = h
 
 by_mark : (on met : Bool) (m : Option Reason) (why : Reason) → (not on && not (is_some (first_mark m met why))) ≡ true → (not on && not (is_some m)) ≡ true
 by_mark on met None why h =

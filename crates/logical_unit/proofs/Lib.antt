@@ -4,6 +4,7 @@ pub mod Basing
 pub mod Fitting
 pub mod Handing
 pub mod Stepping
+pub mod Through
 pub mod Entering
 pub mod Noting
 pub mod Begun

@@ -1,12 +1,12 @@
 //! The run of a task's command on its unit.
 
-ghost use Rattle.std.specs.Prelude.{◌≡◌, ◌+◌, ◌<◌, ◌≤◌, ◌∷◌, ℕ, false, length, map, IfSome, IfNone, IsSome};
+ghost use Rattle.std.specs.Prelude.{◌≡◌, ◌⊎◌, ◌+◌, ◌<◌, ◌≤◌, ◌∷◌, ℕ, false, length, map, IfSome, IfNone, IsSome};
 ghost use Rattle.std.specs.Option.{option_map};
 ghost use Rattle.cdb.specs.Need.{need_of};
 ghost use Rattle.logical_unit.specs.Endings.{FitsNeed};
 ghost use Rattle.unit_model.specs.Seen.{finished};
 ghost use Rattle.task_set.specs.Inner.Tasks.{moved};
-ghost use Rattle.logical_unit.specs.Inner.Performing.{IsKeptReply, performed_of, step_for};
+ghost use Rattle.logical_unit.specs.Inner.Performing.{IsKeptReply, performed_of, ran_well, step_for};
 ghost use Rattle.logical_unit.specs.Inner.Outcomes.{outcome_for};
 
 use crate::flushing::has_to_wait;
@@ -17,7 +17,7 @@ use crate::turn::{Turn, turn_of};
 use crate::unit::UnitState;
 use block_store::{Prepared, Store};
 use cdb::Command;
-use command_model::Reply;
+use command_model::{GOOD, Reply};
 use foundation::NoMemory;
 use ring_core::Ticket;
 use scsi_codec::Address;
@@ -67,17 +67,18 @@ fn record_run(
     ensures room { log.old.room ≤ log.new.room + 1 }
     ensures base { log.new.base ≡ log.old.base }
     ensures forgotten { log.new.forgotten ≡ log.old.forgotten }
-    ensures tasks { tasks.new ≡ map (moved (finished ticket)) tasks.old }
+    ensures tasks { tasks.new ≡ map (moved (finished ticket (ran_well (option_map performed_of performed)))) tasks.old }
     ensures fits { (room : ℕ) → IfSome performed (λ p. length p.reply.payload.items ≤ room) → FitsNeed room result }
 {
     let place = log.len();
-    tasks.finish(ticket);
     match performed {
         None => {
+            tasks.finish(ticket, false);
             log.push(RecordedStep::Busy(ticket), None);
             Outcome::Busy
         }
         Some(Performed { reply, kept }) => {
+            tasks.finish(ticket, reply.status == GOOD);
             log.push(
                 RecordedStep::Commit(ticket, RecordedReply::of(&reply)),
                 kept,
@@ -89,7 +90,8 @@ fn record_run(
 
 impl UnitState {
     ghost use Rattle.unit_model.specs.Unit.{is_backed};
-    ghost use Rattle.logical_unit.specs.Calls.{Commits, Waits};
+    ghost use Rattle.logical_unit.specs.Calls.{Commits, Waits, Withholds, Concludes};
+    ghost use Rattle.logical_unit.specs.Inner.Calls.{Runs};
 
     /// Runs the command of a job's task whole, in one hold of the unit's lock. Tested first to last: `Unknown`; the
     /// mark, which answers `Aborted`; `Busy`, where memory was refused to the command itself, or to the copy of its
@@ -160,6 +162,10 @@ impl UnitState {
     /// a flush, until the host's storage has each change of the disk that was made before it was tried first, and one that comes
     /// while another waits. A task that is marked, and one that may not run, never waits. Nor does a command on a disk that isn't
     /// backed, nor one that needs no block and is no flush.
+    ///
+    /// Where the disk is backed, and the unit tells of no volatile write cache (SBC-3 §6.5), a command that may change blocks is
+    /// told of GOOD only once the host's storage has all that was changed by then: its command ran, and `None` until that is so.
+    /// The caller tries the job again.
     #[inline(always)]
     pub fn commit_ready(
         &mut self,
@@ -167,7 +173,26 @@ impl UnitState {
         prepared: Option<PreparedWrite>,
         spare: &mut Option<Prepared>,
     ) -> Option<Outcome>
-        ensures step { IfSome result (λ outcome. Commits self.old job.now outcome self.new) }
+        ensures step { IfSome result (λ outcome. Commits self.old job.now outcome self.new ⊎ Concludes self.old job.now outcome self.new) }
+        ensures fits { IfSome result (λ outcome. FitsNeed (need_of job.now.entry.command).into outcome) }
+        ensures waits { IfNone result (Waits self.old job.now self.new ⊎ Withholds self.old job.now self.new) }
+        ensures whole { is_backed self.old ≡ false → IsSome result }
+    {
+        if self.writes_through(&job.command()) {
+            return self.commit_through(job, prepared, spare);
+        }
+        self.run_ready(job, prepared, spare)
+    }
+
+    /// Runs the command of a job's task as [`UnitState::commit_ready`] does, but for when its reply may be told.
+    #[inline(always)]
+    pub(crate) fn run_ready(
+        &mut self,
+        job: &Job,
+        prepared: Option<PreparedWrite>,
+        spare: &mut Option<Prepared>,
+    ) -> Option<Outcome>
+        ensures step { IfSome result (λ outcome. Runs self.old job.now outcome self.new) }
         ensures fits { IfSome result (λ outcome. FitsNeed (need_of job.now.entry.command).into outcome) }
         ensures waits { IfNone result (Waits self.old job.now self.new) }
         ensures whole { is_backed self.old ≡ false → IsSome result }

@@ -1,23 +1,25 @@
-//! A flush that waits until the host's storage has what was changed before it.
+//! A flush that waits until the host's storage has what was changed before it, and a reply that isn't told before that.
 
-ghost use Rattle.std.specs.Prelude.{◌≡◌, ◌≢◌, ℕ, ◌<◌, List, length, is_some, true, false, None, IsTrue, IsFalse, IfSome};
+ghost use Rattle.std.specs.Prelude.{◌≡◌, ◌≢◌, ℕ, List, is_some, true, false, None, IsTrue, IsFalse, IfSome};
 ghost use Rattle.backed_store.specs.Disks.{is_backed, size_of, blocks_of, hosted_of, storage_of, owes, IsOver, IsKeptWhole};
 ghost use Rattle.command_model.specs.Waiting.{is_flush as flushes};
 ghost use Rattle.unit_model.specs.Steps.{Step};
 ghost use Rattle.unit_model.specs.Contents.{Opening, blocks_of as unit_blocks};
-ghost use Rattle.logical_unit.specs.Inner.Flushes.{Might, HasBegun, AreFenced, without};
+ghost use Rattle.logical_unit.specs.Inner.Flushes.{MayBegin, HasBegun, AreFenced, fence_of, without};
 
 use backed_store::Disk;
 use cdb::Command;
 use ring_core::Ticket;
 
-/// A flush that waits.
-#[derive(Clone, Copy)]
+/// A flush that waits: that of a command which is one, or behind one that ran.
+#[derive(Clone, Copy, PartialEq, Eq)]
 pub(crate) struct Fence {
     /// The ticket of its task.
     pub(crate) ticket: Ticket,
     /// The place of the Enter of its task.
     pub(crate) place: u64,
+    /// True if the command of its task ran before it began.
+    pub(crate) ran: bool,
 }
 
 /// Returns true if a command ends only once the host's storage has what was written before it.
@@ -30,18 +32,15 @@ fn is_flush(command: &Command) -> bool
     }
 }
 
-/// Has the flush of a task that entered at a place be the latest of its disk, where no other waits. Returns true if it is. The task
-/// may run now.
-fn take_turn(fence: &mut Option<Fence>, disk: &mut Disk, ticket: Ticket, place: u64) -> bool
-    ensures fenced { (o : Opening) (steps : List Step) → place < length steps → Might place (length steps) steps →
-        ((b : ℕ) → blocks_of disk.old b ≡ unit_blocks o steps b) → AreFenced o steps fence.old (hosted_of disk.old) →
-        AreFenced o steps fence.new (hosted_of disk.new) }
-    ensures since { (o : Opening) (steps : List Step) → place < length steps → Might place (length steps) steps →
-        ((b : ℕ) → blocks_of disk.old b ≡ unit_blocks o steps b) → AreFenced o steps fence.old (hosted_of disk.old) → IsTrue result →
-        HasBegun o steps place (hosted_of disk.new) }
+/// Has a flush be the latest of its disk, where no other waits. Returns true if it is. Its task may run now, or ran.
+fn take_turn(fence: &mut Option<Fence>, disk: &mut Disk, own: Fence) -> bool
+    ensures fenced { (o : Opening) (steps : List Step) → MayBegin steps own → ((b : ℕ) → blocks_of disk.old b ≡ unit_blocks o steps b) →
+        AreFenced o steps fence.old (hosted_of disk.old) → AreFenced o steps fence.new (hosted_of disk.new) }
+    ensures since { (o : Opening) (steps : List Step) → MayBegin steps own → ((b : ℕ) → blocks_of disk.old b ≡ unit_blocks o steps b) →
+        AreFenced o steps fence.old (hosted_of disk.old) → IsTrue result → HasBegun o steps own (hosted_of disk.new) }
     ensures stands { IsTrue (is_some fence.new) }
-    ensures own { IsTrue result → IfSome fence.new (λ f. f.place ≡ place) }
-    ensures another { IsFalse result → IfSome fence.new (λ f. f.place ≢ place) }
+    ensures own { IsTrue result → IfSome fence.new (λ f. f ≡ own) }
+    ensures another { IsFalse result → IfSome fence.new (λ f. f ≢ own) }
     ensures waits { IsTrue (is_some fence.old) → (fence.new ≡ fence.old) × (disk.new ≡ disk.old) }
     ensures blocks { blocks_of disk.new ≡ blocks_of disk.old }
     ensures size { size_of disk.new ≡ size_of disk.old }
@@ -50,16 +49,41 @@ fn take_turn(fence: &mut Option<Fence>, disk: &mut Disk, ticket: Ticket, place: 
     match *fence {
         None => {
             disk.begin_flush();
-            *fence = Some(Fence { ticket, place });
+            *fence = Some(own);
             true
         }
-        Some(other) => other.place == place,
+        Some(other) => other == own,
     }
 }
 
-/// Returns true if a command of a ticket, whose task entered at a place, waits for the host's storage: it is a flush, and a change
-/// is owed that was made before it began, or another flush waits. Then its fence is kept until it is over. Nothing waits on a disk
-/// that isn't backed.
+/// Returns true if a flush waits for the host's storage: a change is owed that was made before it began, or another flush
+/// waits. Then its fence is kept until it is over.
+fn is_behind(fence: &mut Option<Fence>, disk: &mut Disk, own: Fence) -> bool
+    ensures fenced { (o : Opening) (steps : List Step) → MayBegin steps own → ((b : ℕ) → blocks_of disk.old b ≡ unit_blocks o steps b) →
+        AreFenced o steps fence.old (hosted_of disk.old) → AreFenced o steps fence.new (hosted_of disk.new) }
+    ensures since { (o : Opening) (steps : List Step) → MayBegin steps own → ((b : ℕ) → blocks_of disk.old b ≡ unit_blocks o steps b) →
+        AreFenced o steps fence.old (hosted_of disk.old) → IsFalse result → HasBegun o steps own (hosted_of disk.new) }
+    ensures over { IsFalse result → IsOver disk.new }
+    // The own flush waits for what is owed, and is kept; that of another stays as it is.
+    ensures owed { IsTrue result → IfSome fence.new (λ f. f ≡ own → (p : ℕ) × IsTrue (owes disk.new p)) }
+    ensures kept { IsTrue result → IsTrue (is_some fence.new) }
+    ensures waits { IsTrue result → IsTrue (is_some fence.old) → (fence.new ≡ fence.old) × (disk.new ≡ disk.old) }
+    ensures blocks { blocks_of disk.new ≡ blocks_of disk.old }
+    ensures size { size_of disk.new ≡ size_of disk.old }
+    ensures storage { storage_of disk.new ≡ storage_of disk.old }
+{
+    if !take_turn(fence, disk, own) {
+        return true;
+    }
+    if disk.is_flush_over() {
+        *fence = None;
+        return false;
+    }
+    true
+}
+
+/// Returns true if a command of a ticket, whose task entered at a place, waits for the host's storage: it is a flush that
+/// waits. Nothing waits on a disk that isn't backed.
 #[inline(always)]
 pub(crate) fn has_to_wait(
     fence: &mut Option<Fence>,
@@ -70,15 +94,14 @@ pub(crate) fn has_to_wait(
 ) -> bool
     ensures backed { IsTrue result → is_backed disk.old ≡ true }
     ensures flush { IsTrue result → IsTrue (flushes command.now) }
-    ensures fenced { (o : Opening) (steps : List Step) → place < length steps → Might place (length steps) steps →
+    ensures fenced { (o : Opening) (steps : List Step) → MayBegin steps (fence_of ticket place false) →
         ((b : ℕ) → blocks_of disk.old b ≡ unit_blocks o steps b) → AreFenced o steps fence.old (hosted_of disk.old) →
         AreFenced o steps fence.new (hosted_of disk.new) }
-    ensures since { (o : Opening) (steps : List Step) → place < length steps → Might place (length steps) steps →
+    ensures since { (o : Opening) (steps : List Step) → MayBegin steps (fence_of ticket place false) →
         ((b : ℕ) → blocks_of disk.old b ≡ unit_blocks o steps b) → AreFenced o steps fence.old (hosted_of disk.old) →
-        IsFalse result → IsTrue (flushes command.now) → HasBegun o steps place (hosted_of disk.new) }
+        IsFalse result → IsTrue (flushes command.now) → HasBegun o steps (fence_of ticket place false) (hosted_of disk.new) }
     ensures over { IsFalse result → IsTrue (flushes command.now) → IsOver disk.new }
-    // The own flush waits for what is owed, and is kept; that of another stays as it is.
-    ensures owed { IsTrue result → IfSome fence.new (λ f. f.place ≡ place → (p : ℕ) × IsTrue (owes disk.new p)) }
+    ensures owed { IsTrue result → IfSome fence.new (λ f. f ≡ fence_of ticket place false → (p : ℕ) × IsTrue (owes disk.new p)) }
     ensures kept { IsTrue result → IsTrue (is_some fence.new) }
     ensures waits { IsTrue result → IsTrue (is_some fence.old) → (fence.new ≡ fence.old) × (disk.new ≡ disk.old) }
     ensures blocks { blocks_of disk.new ≡ blocks_of disk.old }
@@ -91,14 +114,46 @@ pub(crate) fn has_to_wait(
     if !is_flush(command) {
         return false;
     }
-    if !take_turn(fence, disk, ticket, place) {
-        return true;
-    }
-    if disk.is_flush_over() {
-        *fence = None;
-        return false;
-    }
-    true
+    is_behind(
+        fence,
+        disk,
+        Fence {
+            ticket,
+            place,
+            ran: false,
+        },
+    )
+}
+
+/// Returns true if the host's storage has what the command of a ticket changed, which ran, and whose task entered at a place: so
+/// its reply may be told. Else that waits, as a flush does.
+pub(crate) fn is_through(
+    fence: &mut Option<Fence>,
+    disk: &mut Disk,
+    ticket: Ticket,
+    place: u64,
+) -> bool
+    ensures fenced { (o : Opening) (steps : List Step) → MayBegin steps (fence_of ticket place true) →
+        ((b : ℕ) → blocks_of disk.old b ≡ unit_blocks o steps b) → AreFenced o steps fence.old (hosted_of disk.old) →
+        AreFenced o steps fence.new (hosted_of disk.new) }
+    ensures since { (o : Opening) (steps : List Step) → MayBegin steps (fence_of ticket place true) →
+        ((b : ℕ) → blocks_of disk.old b ≡ unit_blocks o steps b) → AreFenced o steps fence.old (hosted_of disk.old) →
+        IsTrue result → HasBegun o steps (fence_of ticket place true) (hosted_of disk.new) }
+    ensures over { IsTrue result → IsOver disk.new }
+    ensures owed { IsFalse result → IfSome fence.new (λ f. f ≡ fence_of ticket place true → (p : ℕ) × IsTrue (owes disk.new p)) }
+    ensures blocks { blocks_of disk.new ≡ blocks_of disk.old }
+    ensures size { size_of disk.new ≡ size_of disk.old }
+    ensures storage { storage_of disk.new ≡ storage_of disk.old }
+{
+    !is_behind(
+        fence,
+        disk,
+        Fence {
+            ticket,
+            place,
+            ran: true,
+        },
+    )
 }
 
 /// Returns true if a command would wait that comes now, while no other flush waits.

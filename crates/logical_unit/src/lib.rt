@@ -34,6 +34,7 @@ mod serving;
 mod turn;
 mod unit;
 mod views;
+mod withholding;
 
 pub use answering::Answering;
 pub use changes::{Changes, Range};

@@ -5,7 +5,7 @@ ghost use Rattle.std.specs.Option.{option_map};
 ghost use Rattle.command_model.specs.PlainReply.{plain_of};
 ghost use Rattle.logical_unit.specs.Inner.Calls.{entered_of};
 
-use command_model::Reply;
+use command_model::{GOOD, Reply};
 use ring_core::Ticket;
 use scsi_codec::Address;
 use std::error::Error;
@@ -64,6 +64,23 @@ pub enum Outcome {
 }
 
 impl Outcome {
+    ghost use Rattle.logical_unit.specs.Inner.Calls.{ends_well};
+
+    /// Returns true if its command ran, and ended with GOOD.
+    pub(crate) fn ends_well(&self) -> bool
+        ensures { result ≡ ends_well self.now }
+    {
+        match self {
+            Outcome::Reply(
+                Receipt {
+                    reply: Some(reply),
+                    ..
+                },
+            ) => reply.status == GOOD,
+            _ => false,
+        }
+    }
+
     /// Returns its reply, if it has one, to be let go.
     pub(crate) fn into_reply(self) -> Option<Reply> {
         match self {

@@ -155,7 +155,7 @@ impl UnitState {
     /// Serves a request to its end: its task enters, its command runs, its answer is written, and its task leaves.
     /// Returns true then, and the caller uses the chain. It does so only where no task is alive, the request names the
     /// unit, no replies are kept, and the ticket is above the last of its queue. The pages that the command needs have to
-    /// be in memory, too, and room for its steps to be had. Else nothing is changed.
+    /// be in memory, too, room for its steps to be had, and its reply may be told at once. Else nothing is changed.
     #[inline(always)]
     pub fn serve_alone<A: Answering>(&mut self, arrival: &Arrival, answering: &mut A) -> bool
         requires may { A.may_answer answering.old arrival.now }
@@ -165,6 +165,9 @@ impl UnitState {
     {
         let ticket = arrival.ticket();
         if self.tasks.len() > 0 {
+            return false;
+        }
+        if self.writes_through(&arrival.command()) {
             return false;
         }
         if !is_named(&self.facts, arrival) {

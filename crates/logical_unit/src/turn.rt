@@ -58,7 +58,7 @@ fn is_same(command: Command, other: Command) -> bool
 }
 
 /// Returns true if the task entered with what the job says.
-fn is_as_asked(task: &Task, job: &Job) -> bool
+pub(crate) fn is_as_asked(task: &Task, job: &Job) -> bool
     ensures yes { IsTrue result → asked_of task.now.seen.entry ≡ asked_of job.now.entry }
     ensures no { IsFalse result → asked_of task.now.seen.entry ≢ asked_of job.now.entry }
 {

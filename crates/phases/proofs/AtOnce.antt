@@ -1,8 +1,11 @@
 -- What a request that is served at once is, by what the calls of its unit answer.
-use Rattle.std.proofs.Common.{◌≡◌, ◌++◌, ℕ, ◌+◌, Bool, true, false, List, [], ◌∷◌, Option, Some, None, length, refl, ap, sym, ◌∙◌, subst, arith, inl, inr}
+use Rattle.std.proofs.Common.{◌≡◌, ◌++◌, ℕ, ◌+◌, ◌&&◌, ◌||◌, ◌==◌, not, is_some, Bool, true, false, List, [], ◌∷◌, Option, Some, None, length, refl, ap, sym, ◌∙◌, subst, arith, inl, inr}
+use Rattle.std.proofs.lemmas.Bool.{false≢true}
 use Rattle.cdb.specs.declared.commands.Command.{Command}
 use Rattle.cdb.specs.Need.{need_of}
+use Rattle.command_model.specs.Effects.{changes_medium}
 use Rattle.command_model.specs.Statuses.{good}
+use Rattle.command_model.specs.Waiting.{waits_at}
 use Rattle.command_model.specs.PlainReply.{success}
 use Rattle.command_model.specs.Inner.PlainReply.{good_data}
 use Rattle.request_intake.specs.declared.answer.ChainLengths.{ChainLengths}
@@ -12,18 +15,24 @@ use Rattle.guest_mem.specs.Stores.{Store}
 use Rattle.ring_core.specs.State.{PlainChain}
 use Rattle.ring_core.specs.Writes.{Write, Wrote, scatter_writes, stores_of}
 use Rattle.ring_core.specs.Offer.{used_writes}
+use Rattle.unit_model.specs.Contents.{Opening, capacity_of}
 use Rattle.unit_model.specs.Endings.{Ending, answer_of}
-use Rattle.unit_model.specs.Steps.{Step}
+use Rattle.unit_model.specs.Lawful.{May, IsLawful, IsReady}
+use Rattle.unit_model.specs.Steps.{Step, alive}
+use Rattle.unit_model.specs.Tasks.{Entry, is_blocked}
+use Rattle.unit_model.proofs.Blocking.{enabled_entering}
+use Rattle.unit_model.proofs.Fresh.{above_fresh, fresh_unmarked, fresh_undone}
 use Rattle.unit_model.specs.Released.{released}
 use Rattle.unit_model.specs.Asking.{Asked}
 use Rattle.unit_model.specs.Jobs.{PlainJob, Jobs, of_tasks}
 use Rattle.logical_unit.specs.Serving.{ServesAlone}
-use Rattle.unit_model.specs.Unit.{PlainUnit, may_wait, Steps}
+use Rattle.unit_model.specs.Unit.{PlainUnit, IsUnit, HasToWait, is_backed, may_wait, tells_no_cache, Steps}
 use Rattle.logical_unit.specs.Calls as calls
 use Rattle.logical_unit.specs.Endings.{ending_of}
 use Rattle.logical_unit.specs.declared.outcomes.Outcome as answers
 use Rattle.logical_unit.specs.declared.outcomes.Entered.TheVariants as entered
 use Rattle.device_model.specs.Parts.{Outcome, Slot, Hand, lengths_of}
+use Rattle.device_model.proofs.Handed.{open_entered}
 use Rattle.virtqueue.specs.Queue.{BareQueue, completing}
 use Rattle.virtqueue.specs.Completing.{SeenBehind}
 use Rattle.phases.specs.Units.{EntersAs, Commits, Leaves}
@@ -45,6 +54,18 @@ use Rattle.phases.proofs.Stored.{answer_stored}
 -- what came of the commit
 abbrev came : answers.Outcome → Outcome
 came what = Outcome.Ended (ending_of what)
+
+-- a task that enters and isn't blocked may run
+ready_once : (o : Opening) (e : Entry) (past : List Step) → IsLawful o past → May o (Step.Enter e) past
+    → is_blocked e (alive (Step.Enter e ∷ past)) ≡ false → IsReady e.ticket e (Step.Enter e ∷ past)
+ready_once o e past lawful may free =
+    let none = above_fresh o e.ticket past lawful may.1 in
+    record {
+      is_there = (open_entered o e past lawful may free).0;
+      is_enabled = enabled_entering e past none ∙ ap not free;
+      is_unmarked = ap is_some (fresh_unmarked e.ticket past none);
+      is_undone = fresh_undone o e.ticket past lawful none;
+    }
 
 -- a job that was handed out is committed, whatever the seat
 commits : (x : PlainJob) (u v : PlainUnit) (what : answers.Outcome) → calls.Commits u x what v
@@ -128,6 +149,30 @@ only_entered shared stored x u u' q may s s' out none enters =
     hands_on shared stored x u u' q may s s' [] out out none (inl refl)
     (λ list. subst (λ (jobs : Jobs). EntersAs x u list u' s' jobs) (with_none list) (enters list)) (with_none out)
 
+-- a reply is withheld only of a command that may have to wait
+withheld_waits : (backed pages no_cache changes well : Bool) → (backed && (no_cache && (changes && well))) ≡ true
+    → (backed && (pages || (no_cache && changes))) ≡ true
+withheld_waits true true true true well h = refl
+withheld_waits true false true true well h = refl
+withheld_waits true pages true false well h = absurd (false≢true h)
+withheld_waits true pages false changes well h = absurd (false≢true h)
+withheld_waits false pages no_cache changes well h = absurd (false≢true h)
+
+-- so is a task that has to wait
+may_have_to : (u : PlainUnit) (t : Ticket) (e : Entry) → HasToWait u t e → may_wait u e.command ≡ true
+may_have_to u t e (inl (ready, waits)) = waits
+may_have_to u t e (inr (r, withheld)) =
+    withheld_waits (is_backed u) (waits_at (capacity_of u.opening u.steps) e.command) (tells_no_cache u)
+    (changes_medium e.command) (r.status == good) withheld.waits
+
+-- the job that was handed out may run
+pub ready_entered : (u v : PlainUnit) (x y : PlainJob) → IsUnit u → calls.Enters u x (entered.Run y) v
+    → IsReady y.entry.ticket y.entry v.steps
+ready_entered u v x y lawful (is, named, free, step) =
+    subst (λ (z : PlainUnit). IsReady y.entry.ticket y.entry z.steps) (sym step.is)
+    (subst (λ (j : PlainJob). IsReady j.entry.ticket j.entry (Step.Enter x.entry ∷ u.steps)) (sym is)
+    (ready_once u.opening x.entry u.steps lawful.lawful step.may free))
+
 -- the request entered, and its job waits for its unit's disk
 pub waits_on : (shared : Bool) (stored : List Write → Type 0) (x y : PlainJob) (u v u' : PlainUnit) (q : BareQueue)
     (may : List ℕ → Type 0) (s s' : Slot) (out out' : Jobs) → stored [] → s' ≡ Slot.Empty
@@ -136,7 +181,8 @@ pub waits_on : (shared : Bool) (stored : List Write → Type 0) (x y : PlainJob)
 waits_on shared stored x y u v u' q may s s' out out' none empty enters waits jobs =
     let is : y ≡ x = enters.0 in
     let asked : waits.entry.command ≡ x.entry.command = ap (λ (a : Asked). a.command) waits.of.as_asked ∙ ap (λ (j : PlainJob). j.entry.command) is in
-    let waits_there : may_wait u waits.entry.command ≡ true = sym (ap (λ (z : PlainUnit). may_wait z waits.entry.command) enters.3.is) ∙ waits.waits in
+    let waits_there : may_wait u waits.entry.command ≡ true = sym (ap (λ (z : PlainUnit). may_wait z waits.entry.command) enters.3.is)
+    ∙ may_have_to v y.entry.ticket waits.entry waits.waits in
     hands_on shared stored x u u' q may s s' (y ∷ []) out out' none
     (inr (ap (λ (j : PlainJob). j ∷ []) is, sym (ap (λ (k : Command). may_wait u k) asked) ∙ waits_there))
     (λ list.

@@ -1,6 +1,6 @@
 -- What a commit that may wait is, as a transition; and a visit of a function is a mark or a look.
 use Rattle.std.proofs.Common.{ℕ, ◌≡◌, Bool, true, false, List, [], ◌∷◌, Option, Some, None, refl, ap, sym, ◌∙◌, subst, inl, inr}
-use Rattle.std.specs.Prelude.{is_some, IsTrue, IsFalse, IfSome}
+use Rattle.std.specs.Prelude.{◌⊎◌, is_some, IsTrue, IsFalse, IfSome}
 use Rattle.std.proofs.lemmas.Bool.{false≢true}
 use Rattle.request_intake.specs.Inventory.{PlainInventory}
 use Rattle.unit_model.specs.Jobs.{PlainJob, Jobs}
@@ -15,8 +15,8 @@ use Rattle.phases.specs.DoingUnit.{with_more}
 use Rattle.phases.specs.Outcomes.{PlainJobInHand}
 use Rattle.phases.specs.Parts.{hand_with, committing_unit}
 use Rattle.phases.specs.Units.{Commits, MarksUnit, Marks, MarksNext}
-use Rattle.phases.specs.Inner.Units.{CommitsOrDefers, VisitsUnit, VisitsNext, Visits}
-use Rattle.phases.proofs.Commits.{taken}
+use Rattle.phases.specs.Inner.Units.{PutsAside, CommitsOrDefers, VisitsUnit, VisitsNext, Visits}
+use Rattle.phases.proofs.Commits.{Ends, taken}
 use Rattle.phases.specs.declared.marking.Visited.{Visited}
 use Rattle.phases.specs.declared.marking.Visited.TheVariants as visited
 
@@ -25,8 +25,8 @@ job_with x o = record { job = x; outcome = o }
 
 -- what came of a commit that is over
 pub came : (x : PlainJob) (u v : PlainUnit) (made : Option outcome_type.Outcome) (b : Bool) → b ≡ is_some made
-    → IfSome made (λ o. calls.Commits u x o v) → IsTrue b
-    → (o : outcome_type.Outcome) × calls.Commits u x o v × (job_with x made ≡ job_with x (Some o))
+    → IfSome made (λ o. Ends u x o v) → IsTrue b
+    → (o : outcome_type.Outcome) × Ends u x o v × (job_with x made ≡ job_with x (Some o))
 came x u v None b is ran on = absurd (false≢true (sym is ∙ on))
 came x u v (Some o) b is ran on = (o, ran, refl)
 
@@ -38,12 +38,17 @@ over (Hand.Taken x) u v h' aside c = inl (c, refl)
 over (Hand.Done x o) u v h' aside c = (c, refl)
 over (Hand.Answered unit_index t) u v h' aside c = (c, refl)
 
+-- a job that waits, or whose reply does, is in the hand still
+still_taken : (x : PlainJob) (u v : PlainUnit) (g : Hand) → Commits (Hand.Taken x) u false v g → g ≡ Hand.Taken x
+still_taken x u v g (inl s) = s.hand
+still_taken x u v g (inr s) = s.hand
+
 -- where no job is to be committed nothing changes
 pub none_over : (h g : Hand) (u v : PlainUnit) (aside : Jobs) → committing_unit g ≡ None → Commits h u false v g
     → CommitsOrDefers h u aside false v g aside
 none_over Hand.Empty g u v aside none s = (s, refl)
 none_over (Hand.Taken x) g u v aside none s =
-    let is : Some x.unit ≡ None = sym (ap committing_unit s.hand) ∙ none in
+    let is : Some x.unit ≡ None = sym (ap committing_unit (still_taken x u v g s)) ∙ none in
     absurd (cc)
 none_over (Hand.Done x o) g u v aside none s = (s, refl)
 none_over (Hand.Answered unit_index t) g u v aside none s = (s, refl)
@@ -54,39 +59,52 @@ pub to_commit : (x : PlainJob) (o : Option outcome_type.Outcome) (p : ℕ) → S
 to_commit x None p is = refl
 to_commit x (Some o) p is = absurd (cc)
 
--- a job whose command waits is to be committed still
+-- a job whose command waits, or its reply, is to be committed still
 pub waits_still : (x : PlainJob) (before : Option outcome_type.Outcome) (u v : PlainUnit) (made : PlainJobInHand)
-    → is_some before ≡ false → calls.Waits u x v → made ≡ job_with x None
+    → is_some before ≡ false → calls.Waits u x v ⊎ calls.Withholds u x v → made ≡ job_with x None
     → Commits (hand_with x before) u false v (hand_with made.job made.outcome)
-waits_still x None u v made not_over waits same =
-    record {
+waits_still x None u v made not_over (inl waits) same =
+    inl (record {
       unit = waits.same;
       hand = ap (λ (y : PlainJobInHand). hand_with y.job y.outcome) same;
       entry = waits.entry;
-      ready = waits.ready;
       waits = waits.waits;
-    }
+    })
+waits_still x None u v made not_over (inr withholds) same =
+    inr (record {
+      reply = withholds.reply;
+      does = λ k. record {
+        asks = (withholds.entry, withholds.ready, withholds.replies, withholds.waits);
+        is = withholds.steps.is;
+      };
+      hand = ap (λ (y : PlainJobInHand). hand_with y.job y.outcome) same;
+    })
 waits_still x (Some o) u v made not_over waits same = absurd (false≢true (sym not_over))
 
 -- by whether its commit is over
 pub commits_or_waits : (x : PlainJob) (before : Option outcome_type.Outcome) (u v : PlainUnit) (made : PlainJobInHand) (b : Bool)
     → is_some before ≡ false
-    → (IsTrue b → (o : outcome_type.Outcome) × calls.Commits u x o v × (made ≡ job_with x (Some o)))
-    → (IsFalse b → calls.Waits u x v × (made ≡ job_with x None))
+    → (IsTrue b → (o : outcome_type.Outcome) × Ends u x o v × (made ≡ job_with x (Some o)))
+    → (IsFalse b → (calls.Waits u x v ⊎ calls.Withholds u x v) × (made ≡ job_with x None))
     → Commits (hand_with x before) u b v (hand_with made.job made.outcome)
 commits_or_waits x before u v made true not_over ran_so waits =
     let (what, ran, same) = ran_so refl in taken x before u v what made not_over ran same
 commits_or_waits x before u v made false not_over ran_so waits =
     let (still, same) = waits refl in waits_still x before u v made not_over still same
 
+-- what puts the job aside, by a seat
+put_aside : (k : ℕ) (x : PlainJob) (u v : PlainUnit) (g : Hand) → Commits (Hand.Taken x) u false v g → PutsAside k x u v
+put_aside k x u v g (inl s) = inl (record { asks = (s.entry, s.waits); is = s.unit })
+put_aside k x u v g (inr s) = inr (s.reply, s.does k)
+
 -- the job goes behind those that wait
 pub deferred : (h g : Hand) (x : PlainJob) (u v : PlainUnit) (aside aside' : Jobs) → g ≡ Hand.Taken x → Commits h u false v g
     → aside' ≡ with_more (x ∷ []) aside → CommitsOrDefers h u aside true v Hand.Empty aside'
 deferred Hand.Empty g x u v aside aside' there s more = let e = sym there ∙ s.1 in absurd (cc)
 deferred (Hand.Taken y) g x u v aside aside' there s more =
-    let e : Hand.Taken x ≡ Hand.Taken y = sym there ∙ s.hand in
+    let e : Hand.Taken x ≡ Hand.Taken y = sym there ∙ still_taken y u v g s in
     let one : x ≡ y = cc in
-    inr (λ k. (record { asks = (s.entry, s.ready, s.waits); is = s.unit }, refl, more ∙ ap (λ (z : PlainJob). with_more (z ∷ []) aside) one))
+    inr (λ k. (put_aside k y u v g s, refl, more ∙ ap (λ (z : PlainJob). with_more (z ∷ []) aside) one))
 deferred (Hand.Done y o) g x u v aside aside' there s more = let e = sym there ∙ s.1 in absurd (cc)
 deferred (Hand.Answered unit_index t) g x u v aside aside' there s more = let e = sym there ∙ s.1 in absurd (cc)
 

@@ -1,14 +1,14 @@
 -- What the phases do that work on a unit.
 use Rattle.std.specs.Prelude.{ℕ, ◌≡◌, ◌⊎◌, Bool, true, false, List, [], ◌∷◌, length}
+use Rattle.command_model.specs.PlainReply.{PlainReply}
 use Rattle.request_intake.specs.Inventory.{PlainInventory}
 use Rattle.unit_model.specs.Tasks.{Entry, task_of}
 use Rattle.unit_model.specs.Steps.{Step, alive}
 use Rattle.unit_model.specs.Endings.{Ending}
-use Rattle.unit_model.specs.Lawful.{IsReady}
 use Rattle.unit_model.specs.Clearing.{is_clear}
 use Rattle.unit_model.specs.Seen.{any_met}
 use Rattle.unit_model.specs.Jobs.{PlainJob, Jobs}
-use Rattle.unit_model.specs.Unit.{PlainUnit, may_wait}
+use Rattle.unit_model.specs.Unit.{PlainUnit, HasToWait}
 use Rattle.logical_unit.specs.Calls.{CannotLeave}
 use Rattle.task_mgmt.specs.Functions.{marking, asking, failing, checking, step_by}
 use Rattle.task_mgmt.specs.declared.kind.Kind.{Kind}
@@ -66,6 +66,7 @@ IsCommitting k x (Transition.Commit j y r) = (j ≡ k) × (y ≡ x)
 IsCommitting k x (Transition.CommitBusy j y) = (j ≡ k) × (y ≡ x)
 IsCommitting k x (Transition.CommitAborted j y why) = (j ≡ k) × (y ≡ x)
 IsCommitting k x (Transition.CommitUnknown j y) = (j ≡ k) × (y ≡ x)
+IsCommitting k x (Transition.Conclude j y r) = (j ≡ k) × (y ≡ x)
 IsCommitting k x d = ⊥
 
 -- how the job ended
@@ -73,21 +74,27 @@ abbrev pub ending_after : Transition → Ending
 ending_after (Transition.Commit k x r) = Ending.Replied r
 ending_after (Transition.CommitBusy k x) = Ending.Busy
 ending_after (Transition.CommitAborted k x why) = Ending.Aborted why
+ending_after (Transition.Conclude k x r) = Ending.Replied r
 ending_after d = Ending.Lost
 
--- nothing changed: the command of the job may run, and may have to wait at its unit
+-- nothing changed: the command of the job has to wait before it runs, or its reply is withheld
 pub record WaitsInHand (x : PlainJob) (u u' : PlainUnit) (h' : Hand) : Type 0 where
   pub unit : u' ≡ u
   pub hand : h' ≡ Hand.Taken x
   pub entry : Entry
-  pub ready : IsReady x.entry.ticket entry u.steps
-  pub waits : may_wait u entry.command ≡ true
+  pub waits : HasToWait u x.entry.ticket entry
 
--- a commit; or the job waits, so only where it may have to
+-- the command of the job runs, and its reply is withheld, whatever the seat; never where the unit's disk isn't backed
+pub record WithholdsInHand (x : PlainJob) (u u' : PlainUnit) (h' : Hand) : Type 0 where
+  pub reply : PlainReply
+  pub does : (k : ℕ) → DoesUnit (Transition.Withhold k x reply) u u'
+  pub hand : h' ≡ Hand.Taken x
+
+-- a commit; or the job waits, so only where it has to; or its reply does
 abbrev pub Commits : Hand → PlainUnit → Bool → PlainUnit → Hand → Type 0
 Commits (Hand.Taken x) u true u' h' =
     (k : ℕ) → (d : Transition) × IsCommitting k x d × DoesUnit d u u' × (h' ≡ Hand.Done x (Outcome.Ended (ending_after d)))
-Commits (Hand.Taken x) u false u' h' = WaitsInHand x u u' h'
+Commits (Hand.Taken x) u false u' h' = WaitsInHand x u u' h' ⊎ WithholdsInHand x u u' h'
 Commits h u true u' h' = ⊥
 Commits h u false u' h' = (u' ≡ u) × (h' ≡ h)
 

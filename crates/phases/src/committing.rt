@@ -1,6 +1,7 @@
 //! The steps in which a job's command runs, and its task leaves.
 
-ghost use Rattle.std.specs.Prelude.{◌<◌, IsTrue, length};
+ghost use Rattle.std.specs.Prelude.{◌≡◌, ◌<◌, false, IsTrue, length};
+ghost use Rattle.unit_model.specs.Unit.{is_backed};
 ghost use Rattle.phases.specs.Parts.{hand_of};
 ghost use Rattle.phases.specs.Units.{Commits, Leaves};
 ghost use Rattle.phases.specs.Inner.Units.{CommitsOrDefers};
@@ -14,10 +15,12 @@ use std::mem;
 /// Commits the job in the hand at its unit, which the caller found by the hand: its command runs whole, or it was
 /// marked, or memory was refused. Returns true if the hand then has what came of it. Nothing changes where no job is in
 /// the hand that is to be committed. Nor does it where the job waits for its unit's backed disk, as
-/// [`UnitState::commit_ready`] says; then what was made of its WRITE is let go.
+/// [`UnitState::commit_ready`] says; then what was made of its WRITE is let go. Where the job's reply is withheld until the
+/// host's storage has what its command changed, that command ran, and the job is still to be committed: then its reply is
+/// told.
 pub fn phase_commit(unit: &mut UnitState, hand: &mut Hand) -> bool
     ensures commits { Commits (hand_of hand.old) unit.old result unit.new (hand_of hand.new) }
-    ensures kept { IsTrue result → KeepsOutcome hand.old unit.old unit.new hand.new }
+    ensures kept { IsTrue result → is_backed unit.old ≡ false → KeepsOutcome hand.old unit.old unit.new hand.new }
 {
     match hand {
         Hand::Job(held) => {
@@ -30,9 +33,9 @@ pub fn phase_commit(unit: &mut UnitState, hand: &mut Hand) -> bool
     }
 }
 
-/// Commits the job in the hand as [`phase_commit`] does. Where it waits, it goes from the hand behind those that wait, in a
-/// list in which the caller sees to it that there is room. Returns true if something changed: not where no job is
-/// in the hand that is to be committed.
+/// Commits the job in the hand as [`phase_commit`] does. Where it waits, or its reply does, it goes from the hand behind
+/// those that wait, in a list in which the caller sees to it that there is room. Returns true if something changed: not
+/// where no job is in the hand that is to be committed.
 pub fn phase_commit_or_defer(unit: &mut UnitState, hand: &mut Hand, aside: &mut JobList) -> bool
     requires room { length aside.old.jobs < aside.old.limit }
     ensures { CommitsOrDefers (hand_of hand.old) unit.old aside.old result unit.new (hand_of hand.new) aside.new }

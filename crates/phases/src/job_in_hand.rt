@@ -1,7 +1,7 @@
 //! A job in hand.
 
-ghost use Rattle.std.specs.Prelude.{◌≡◌, is_some, Some, IsTrue, IsFalse};
-ghost use Rattle.logical_unit.specs.Calls.{Commits, Waits};
+ghost use Rattle.std.specs.Prelude.{◌≡◌, ◌⊎◌, is_some, Some, IsTrue, IsFalse};
+ghost use Rattle.logical_unit.specs.Calls.{Commits, Concludes, Waits, Withholds};
 
 use crate::response::write_outcome;
 use block_store::Prepared;
@@ -82,11 +82,13 @@ impl JobInHand {
     }
 
     /// Commits the job at its unit, with the pages of its WRITE, if they were made. Where it waits for its unit's disk, it is
-    /// still to be committed, and these pages are let go. Returns true if its commit is over.
+    /// still to be committed, and these pages are let go. So it is where its command ran and its reply is withheld. Returns
+    /// true if its commit is over.
     pub(crate) fn commit_if_ready(&mut self, unit: &mut UnitState) -> bool
-        ensures over { IsTrue result → (o : answers.Outcome) × Commits unit.old self.old.job o unit.new
+        ensures over { IsTrue result → (o : answers.Outcome)
+            × (Commits unit.old self.old.job o unit.new ⊎ Concludes unit.old self.old.job o unit.new)
             × (self.new ≡ record { job = self.old.job; outcome = Some o }) }
-        ensures waits { IsFalse result → Waits unit.old self.old.job unit.new
+        ensures waits { IsFalse result → (Waits unit.old self.old.job unit.new ⊎ Withholds unit.old self.old.job unit.new)
             × (self.new ≡ record { job = self.old.job; outcome = None }) }
     {
         self.outcome = unit.commit_ready(&self.job, self.pages.take(), &mut self.spare);

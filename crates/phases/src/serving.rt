@@ -139,7 +139,8 @@ fn serve_alone<M: WritableMemory>(
 pub enum Brought {
     /// It was answered. True if its unit knew the task when that left.
     Answered(bool),
-    /// It wasn't. Its task waits at its unit, its command for the unit's disk, or what refuses it stands in the slot.
+    /// It wasn't. Its task waits at its unit, its command for the unit's disk, or what refuses it stands in the slot. Or its
+    /// command writes through, and is still to run.
     Waits,
 }
 
@@ -166,8 +167,9 @@ fn serve_by_steps<M: WritableMemory>(
     ensures reading { M.is_open memory.old → M.is_open memory.new }
     ensures room { (n : ℕ) → n ≤ 60 → M.has_room memory.old n → M.has_room memory.new n }
 {
+    unit.stands();
     match unit.enter(arrival) {
-        Entered::Run(job) => match unit.commit_ready(&job, None, &mut None) {
+        Entered::Run(job) => match unit.commit_at_once(&job) {
             Some(outcome) => {
                 let answered = answer_job(queue, memory, job, &outcome);
                 unit.keep_room(outcome);
@@ -198,7 +200,7 @@ fn serve_by_steps<M: WritableMemory>(
 /// that, its chain is used, and the task leaves. This is what [`phase_enter`](crate::phase_enter),
 /// [`phase_commit`](crate::phase_commit), [`phase_answer`](crate::phase_answer) and [`phase_leave`](crate::phase_leave)
 /// do one after another, with its job in no list and no hand between them. Else the job of a command that waits for its
-/// unit's disk is appended to the list, to be committed later.
+/// unit's disk, or that writes through to its host's storage, is appended to the list, to be committed later.
 ///
 /// The queue owns the chain, and the list has room for 64 jobs, which the caller sees to. Where it uses the chain, it begins a
 /// new phase of the memory behind that. What was stored are the bytes that answer the request, and then its used entry.

@@ -98,10 +98,10 @@ impl Header {
         Ok(())
     }
 
-    /// Returns true if no disk is on a storage, but where memory isn't live and its unit tells of a cache.
+    /// Returns true if no disk is on a storage, but where memory isn't live.
     fn may_be_stored(&self, is_live: bool) -> bool {
-        for (unit, cache) in self.units.iter().zip(self.caches.iter()) {
-            if cache.is_some() && (is_live || !unit.identity.write_cache) {
+        for cache in self.caches.iter() {
+            if cache.is_some() && is_live {
                 return false;
             }
         }
@@ -109,7 +109,7 @@ impl Header {
     }
 
     /// Returns the device that the header asks for. `BadConfig` where a line lacks, the rings can't begin where one says,
-    /// or a disk is on a storage while memory is live or its unit tells of no cache.
+    /// or a disk is on a storage while memory is live.
     pub(crate) fn wanted(self, alloc: Global) -> Result<Wanted, Stop> {
         let (Some(memory), Some(form), Some(queues)) = (self.memory, self.form, self.queues) else {
             return Err(Stop::Fault(LineFault::BadConfig));

@@ -55,6 +55,8 @@ transition_keeps (Transition.EnterFull x) w served k v at =
     changed (stepped (Step.Full x.entry.ticket)) x.unit w.units (λ u. plainly refl refl) k v at
 transition_keeps (Transition.Commit i x r) w served k v at =
     changed (stepped (Step.Commit x.entry.ticket r)) x.unit w.units (λ u. plainly refl refl) k v at
+transition_keeps (Transition.Withhold i x r) w served k v at =
+    changed (stepped (Step.Commit x.entry.ticket r)) x.unit w.units (λ u. plainly refl refl) k v at
 transition_keeps (Transition.CommitBusy i x) w served k v at =
     changed (stepped (Step.Busy x.entry.ticket)) x.unit w.units (λ u. plainly refl refl) k v at
 transition_keeps (Transition.Leave i p t jobs) w served k v at =

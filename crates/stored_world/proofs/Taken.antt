@@ -6,7 +6,7 @@ use Rattle.std.proofs.lemmas.Bool.{and_parts}
 use Rattle.std.proofs.lemmas.Bool.Decides.{nat_tests}
 use Rattle.std.proofs.lemmas.Option.{slice_get_within}
 use Rattle.backed_store.specs.declared.disk.Disk.{Disk}
-use Rattle.request_intake.specs.Inventory.{address_of, is_rising, has_cache}
+use Rattle.request_intake.specs.Inventory.{address_of, is_rising}
 use Rattle.request_intake.specs.declared.inventory.UnitSpec.{UnitSpec}
 use Rattle.config.specs.Config.{is_config, is_config_for, has_pages, is_unit, has_lun_0, has_own_naa, are_queues, are_units, form_of, size_of}
 use Rattle.config.specs.declared.config.Config.{Config}
@@ -48,18 +48,10 @@ few_blocks c k u is at =
     let sized = (and_parts (nat_le u.lun 16383 && nat_le 1 u.blocks && nat_le u.blocks (2 ^ 40)) _ one).0 in
     below u.blocks (2 ^ 40) (and_parts (nat_le u.lun 16383 && nat_le 1 u.blocks) (nat_le u.blocks (2 ^ 40)) sized).1
 
--- units that may have the disks that were made may have the caches that they were made for
+-- there is a cache for each unit, since a disk was made for each
 pub caches_for : (wanted : List UnitSpec) (caches : List (Option ℕ)) (ds : List Disk) (hs : List (Option HostedDisk))
     → AreMade wanted caches ds hs → AreDisksFor wanted ds → AreCachesFor wanted caches
-caches_for wanted caches ds hs made may =
-    record {
-      count = made.asked;
-      told = λ k u budget at has.
-          let within = slice_get_within wanted k u at in
-          let disk = below_found ds k (omega (arith, within, made.count)) in
-          let stored = below_found hs k (omega (arith, within, made.storages)) in
-          (may.each k u disk.0 at disk.1).cache (made.are k u (Some budget) disk.0 stored.0 at has disk.1 stored.1).backed;
-    }
+caches_for wanted caches ds hs made may = record { count = made.asked }
 
 -- and the other way round
 pub disks_for : (wanted : List UnitSpec) (caches : List (Option ℕ)) (ds : List Disk) (hs : List (Option HostedDisk))
@@ -71,14 +63,8 @@ disks_for wanted caches ds hs made may =
           let within = slice_get_within wanted k u at in
           let cache = below_found caches k (omega (arith, within, made.asked)) in
           let stored = below_found hs k (omega (arith, within, made.storages)) in
-          let is = made.are k u cache.0 d stored.0 at cache.1 there stored.1 in
-          record { size = is.size; cache = λ backed. told k u at cache.0 cache.1 (sym is.backed ∙ backed) };
+          record { size = (made.are k u cache.0 d stored.0 at cache.1 there stored.1).size };
     }
-  where
-    told : (k : ℕ) (u : UnitSpec) → slice_get wanted k ≡ Some u → (o : Option ℕ) → slice_get caches k ≡ Some o → is_some o ≡ true
-        → has_cache u ≡ true
-    told k u at None has is = absurd (cc)
-    told k u at (Some budget) has is = may.told k u budget at has
 
 -- where the disks that were made are refused, so are the caches
 pub refused : (c : Config) (caches : List (Option ℕ)) (ds : List Disk) (hs : List (Option HostedDisk)) (fault : StartFault)

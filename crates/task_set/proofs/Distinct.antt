@@ -1,5 +1,5 @@
 -- The tickets of the tasks of a set stay distinct.
-use Rattle.std.proofs.Common.{◌≡◌, ℕ, ◌≤◌, true, false, cond, List, [], ◌∷◌, ◌++◌, length, take, map, Some, None, refl, sym, ◌∙◌, ap, subst, arith}
+use Rattle.std.proofs.Common.{Bool, ◌≡◌, ℕ, ◌≤◌, true, false, cond, List, [], ◌∷◌, ◌++◌, length, take, map, Some, None, refl, sym, ◌∙◌, ap, subst, arith}
 use Rattle.std.specs.List.{refill, remove}
 use Rattle.std.proofs.lemmas.List.{map-append, append-nil, drop_all, take_all, length-map}
 use Rattle.ring_core.specs.declared.log.Ticket.{Ticket}
@@ -54,8 +54,9 @@ entries_kept : (f : Seen → Seen) → ((s : Seen) → (f s).entry ≡ s.entry) 
 entries_kept f same [] = refl
 entries_kept f same (x ∷ tasks) = ap (λ e. e ∷ entries_of (map (moved f) tasks)) (same x.seen) ∙ ap (λ w. x.seen.entry ∷ w) (entries_kept f same tasks)
 
-pub distinct_finished : (t : Ticket) (tasks : List PlainTask) → AreDistinct (entries_of tasks) → AreDistinct (entries_of (map (moved (finished t)) tasks))
-distinct_finished t tasks d = subst AreDistinct (sym (entries_kept (finished t) (λ s. refl) tasks)) d
+pub distinct_finished : (t : Ticket) (well : Bool) (tasks : List PlainTask) → AreDistinct (entries_of tasks)
+    → AreDistinct (entries_of (map (moved (finished t well)) tasks))
+distinct_finished t well tasks d = subst AreDistinct (sym (entries_kept (finished t well) (λ s. refl) tasks)) d
 
 pub distinct_with_mark : (rule : Rule) (reason : Reason) (tasks : List PlainTask) → AreDistinct (entries_of tasks) → AreDistinct (entries_of (map (moved (with_mark rule reason)) tasks))
 distinct_with_mark rule reason tasks d = subst AreDistinct (sym (entries_kept (with_mark rule reason) (λ s. refl) tasks)) d

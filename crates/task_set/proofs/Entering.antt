@@ -39,7 +39,7 @@ blocked_last e es h =
 -- a task that entered, whether it was blocked or not
 abbrev entered : ℕ → PlainJob → Bool → PlainTask
 entered place j blocked = record {
-  seen = record { entry = j.entry; enabled = not blocked; done = false; mark = None; place = place };
+  seen = record { entry = j.entry; enabled = not blocked; done = false; ended_well = false; mark = None; place = place };
   parked = if blocked then Some j else None;
 }
 

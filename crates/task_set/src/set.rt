@@ -128,12 +128,12 @@ impl TaskSet {
         Ok(Some(job))
     }
 
-    /// Tells that the command of this ticket ran, or was answered BUSY: from here on no abort marks its task. Nothing
-    /// changes where no task of it is alive.
-    pub fn finish(&mut self, ticket: Ticket)
-        ensures { self.new ≡ map (moved (finished ticket)) self.old }
+    /// Tells that the command of this ticket ran, and ended with GOOD where `well` is true, or was answered BUSY: from here on
+    /// no abort marks its task. Nothing changes where no task of it is alive.
+    pub fn finish(&mut self, ticket: Ticket, well: bool)
+        ensures { self.new ≡ map (moved (finished ticket well)) self.old }
     {
-        finish_all(self.tasks.as_mut_slice(), ticket);
+        finish_all(self.tasks.as_mut_slice(), ticket, well);
     }
 
     /// Marks each task that the rule meets and that is neither done nor marked: it ends for this reason, without having

@@ -27,6 +27,7 @@ pub struct Task {
     shared: Option<SharedRequest>,
     enabled: bool,
     done: bool,
+    ended_well: bool,
     mark: Option<Reason>,
     place: u64,
     parked: Option<Job>,
@@ -43,6 +44,7 @@ impl Model for Task {
         entry = entry_of_request t.ticket (request_of t.request t.shared);
         enabled = t.enabled;
         done = t.done;
+        ended_well = t.ended_well;
         mark = t.mark;
         place = t.place;
       };
@@ -64,6 +66,7 @@ impl Default for Task {
             shared: None,
             enabled: true,
             done: false,
+            ended_well: false,
             mark: None,
             place: 0,
             parked: None,
@@ -175,6 +178,13 @@ impl Task {
         self.done
     }
 
+    /// Returns true if its command ran, and ended with GOOD.
+    pub fn has_ended_well(&self) -> bool
+        ensures { result ≡ self.now.seen.ended_well }
+    {
+        self.ended_well
+    }
+
     /// Returns why it ends without having run; `None` where it runs.
     pub fn mark(&self) -> Option<Reason>
         ensures { result ≡ self.now.seen.mark }
@@ -195,7 +205,7 @@ impl Task {
     /// Makes a task that enters at this place of its unit's history and may run, and its job.
     pub(crate) fn enabled(arrival: Arrival, place: u64) -> (Task, Job)
         ensures task { result.0 ≡ record {
-          seen = record { entry = arrival.entry; enabled = true; done = false; mark = None; place = place };
+          seen = record { entry = arrival.entry; enabled = true; done = false; ended_well = false; mark = None; place = place };
           parked = None;
         } }
         ensures job { result.1 ≡ arrival }
@@ -207,6 +217,7 @@ impl Task {
             shared: None,
             enabled: true,
             done: false,
+            ended_well: false,
             mark: None,
             place,
             parked: None,
@@ -217,7 +228,7 @@ impl Task {
     /// Makes a task that enters at this place of its unit's history and waits, with its job.
     pub(crate) fn waiting(arrival: Arrival, place: u64) -> Task
         ensures { result ≡ record {
-          seen = record { entry = arrival.entry; enabled = false; done = false; mark = None; place = place };
+          seen = record { entry = arrival.entry; enabled = false; done = false; ended_well = false; mark = None; place = place };
           parked = Some arrival;
         } }
     {
@@ -228,18 +239,22 @@ impl Task {
             shared: None,
             enabled: false,
             done: false,
+            ended_well: false,
             mark: None,
             place,
             parked: Some(job),
         }
     }
 
-    /// Tells that the command of this ticket ran, or was answered BUSY.
-    pub(crate) fn finish(&mut self, ticket: Ticket)
-        ensures { self.new ≡ moved (finished ticket) self.old }
+    /// Tells that the command of this ticket ran, and ended with GOOD where `well` is true, or was answered BUSY.
+    pub(crate) fn finish(&mut self, ticket: Ticket, well: bool)
+        ensures { self.new ≡ moved (finished ticket well) self.old }
     {
         if ticket == self.ticket {
             self.done = true;
+            if well {
+                self.ended_well = true;
+            }
         }
     }
 

@@ -42,11 +42,11 @@ pub(crate) fn index_of(tasks: &[Task], ticket: Ticket) -> Option<usize>
 }
 
 /// Tells that the command of this ticket ran, or was answered BUSY.
-pub(crate) fn finish_all(tasks: &mut [Task], ticket: Ticket)
-    ensures { tasks.new ≡ map (moved (finished ticket)) tasks.old }
+pub(crate) fn finish_all(tasks: &mut [Task], ticket: Ticket, well: bool)
+    ensures { tasks.new ≡ map (moved (finished ticket well)) tasks.old }
 {
     for task in tasks.iter_mut() {
-        task.finish(ticket);
+        task.finish(ticket, well);
     }
 }
 

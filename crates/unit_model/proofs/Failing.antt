@@ -11,7 +11,7 @@ use Rattle.unit_model.specs.Tasks.{Entry, task_of}
 use Rattle.unit_model.specs.Steps.{Step, alive}
 use Rattle.unit_model.specs.Contents.{Opening, blocks_of, block_with, facts_after, reply_after, IsUnreadAfter, MayReply}
 use Rattle.unit_model.specs.Lawful.{May}
-use Rattle.unit_model.specs.Unit.{PlainUnit, is_backed, HasLost, Replies, MayCommit, dealing}
+use Rattle.unit_model.specs.Unit.{PlainUnit, is_backed, HasLost, Replies, MayCommit, MayWithhold, dealing}
 
 none_with : (o : Option Entry) (blocks : Blocks) (b : ℕ) → block_with o 2 blocks b ≡ blocks b
 none_with None blocks b = refl
@@ -37,7 +37,11 @@ weaker u e r (inr (p, h, lost)) = inr (p, h)
 
 -- what may be committed is a step that may come next
 pub commit_steps : (u : PlainUnit) (t : Ticket) (r : PlainReply) → MayCommit u t r → May u.opening (Step.Commit t r) u.steps
-commit_steps u t r (e, ready, replies) = (e, ready, weaker u e r replies)
+commit_steps u t r (e, ready, replies, at_once) = (e, ready, weaker u e r replies)
+
+pub withhold_steps : (u : PlainUnit) (t : Ticket) (r : PlainReply) → MayWithhold u t r
+    → May u.opening (Step.Commit t r) u.steps
+withhold_steps u t r (e, ready, replies, waits) = (e, ready, weaker u e r replies)
 
 -- a unit whose disk is in memory replies as its history says
 pub replies_in_memory : (u : PlainUnit) (e : Entry) (r : PlainReply) → Replies u e r → is_backed u ≡ false

@@ -28,7 +28,7 @@ replies_durably u e r l (inr (p, unread, lost)) ends flush at =
 pub durable : (u : PlainUnit) (t : Ticket) (e : Entry) (r : PlainReply) (l : Ledger) (left : Blocks) (b : ℕ) → MayCommit u t r
     → r.status ≡ good → task_of t (alive u.steps) ≡ Some e → is_flush e.command ≡ true → u.storage ≡ Some l → IsLeft l left → is_in_flush e.command b ≡ true
     → HasBeen u.opening u.steps e b (left b)
-durable u t e r l left b (d, ready, replies) ends there flush at leaves named =
+durable u t e r l left b (d, ready, replies, at_once) ends there flush at leaves named =
     let same : d ≡ e = same_entry (task_of t (alive u.steps)) d e ready.is_there there in
     let kept : IsDurable u.opening u.steps l e = subst (λ x. IsDurable u.opening u.steps l x) same (replies_durably u d r l replies ends (ap (λ (x : Entry). is_flush x.command) same ∙ flush) at) in
     kept left leaves b named

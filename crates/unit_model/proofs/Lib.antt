@@ -8,6 +8,7 @@ pub mod Progress
 pub mod Clearing
 pub mod WorkedCases
 pub mod Weight
+pub mod Withheld
 pub mod Parked
 pub mod Entering
 pub mod Leaving

@@ -1,5 +1,5 @@
 -- How many steps the tasks alive may still take, after each step.
-use Rattle.std.proofs.Common.{◌≡◌, ℕ, ◌+◌, ◌*◌, ◌<◌, ◌≤◌, Bool, true, false, ◌||◌, cond, List, [], ◌∷◌, ◌++◌, map, length, Some, None, is_some, refl, sym, ◌∙◌, ap, arith}
+use Rattle.std.proofs.Common.{◌≡◌, ℕ, ◌==◌, ◌+◌, ◌*◌, ◌<◌, ◌≤◌, Bool, true, false, ◌||◌, cond, List, [], ◌∷◌, ◌++◌, map, length, Some, None, is_some, refl, sym, ◌∙◌, ap, arith}
 use Rattle.ring_core.specs.declared.log.Ticket.{Ticket}
 use Rattle.unit_attention.specs.declared.code.Code.{Code}
 use Rattle.command_model.specs.PlainReply.{PlainReply}
@@ -8,6 +8,7 @@ use Rattle.unit_model.specs.declared.rule.Rule.TheVariants as rules
 use Rattle.unit_model.specs.declared.reason.Reason.{Reason}
 use Rattle.unit_model.specs.declared.reason.Reason.TheVariants as reason
 use Rattle.unit_model.specs.Tasks.{Entry, same_ticket, task_of}
+use Rattle.command_model.specs.Statuses.{good}
 use Rattle.unit_model.specs.Steps.{Step, alive, is_alive, done}
 use Rattle.unit_model.specs.Seen.{Seen, seen, tasks_of, entries, seen_at, others, joined, finished, with_mark, freed, owed}
 use Rattle.unit_model.specs.Contents.{Opening}
@@ -45,28 +46,29 @@ owed_append (x ∷ xs) ys = let h = owed_append xs ys in omega (arith, h)
 pub owed_joined : (place : ℕ) (es : List Entry) (e : Entry) (tasks : List Seen) → owed (tasks ++ joined place es e ∷ []) ≡ owed tasks + 2
 owed_joined place es e tasks = let h = owed_append tasks (joined place es e ∷ []) in omega (arith, h)
 
-finished_less : (t : Ticket) (tasks : List Seen) → owed (map (finished t) tasks) ≤ owed tasks
-finished_less t [] = omega arith
-finished_less t (s ∷ tasks) =
-    let h = finished_less t tasks in
+finished_less : (t : Ticket) (well : Bool) (tasks : List Seen) → owed (map (finished t well) tasks) ≤ owed tasks
+finished_less t well [] = omega arith
+finished_less t well (s ∷ tasks) =
+    let h = finished_less t well tasks in
     let here = left_less (same_ticket t s.entry.ticket) s.done in
     omega (arith, h, here)
 
 -- a Commit or a Busy is one of them
-pub owed_finished : (t : Ticket) (s : Seen) (tasks : List Seen) → seen_at t tasks ≡ Some s → s.done ≡ false → owed (map (finished t) tasks) + 1 ≤ owed tasks
-owed_finished t s [] at undone = absurd (nothing at)
-owed_finished t s (x ∷ tasks) at undone =
+pub owed_finished : (t : Ticket) (well : Bool) (s : Seen) (tasks : List Seen) → seen_at t tasks ≡ Some s → s.done ≡ false
+    → owed (map (finished t well) tasks) + 1 ≤ owed tasks
+owed_finished t well s [] at undone = absurd (nothing at)
+owed_finished t well s (x ∷ tasks) at undone =
     (elim (same_ticket x.entry.ticket t) as (λ b. (same_ticket x.entry.ticket t ≡ b) → cond b (Some x) (seen_at t tasks) ≡ Some s
-    → (left (same_ticket t x.entry.ticket || x.done) + owed (map (finished t) tasks)) + 1 ≤ left x.done + owed tasks) [
+    → (left (same_ticket t x.entry.ticket || x.done) + owed (map (finished t well) tasks)) + 1 ≤ left x.done + owed tasks) [
       | true ↦ λ k q.
           let same : x ≡ s = cc in
           let now = ap (λ b. left (b || x.done)) (eq-same t x.entry.ticket (sym (same-true x.entry.ticket t k))) in
           let was = ap left (ap (λ (w : Seen). w.done) same ∙ undone) in
-          let rest = finished_less t tasks in
+          let rest = finished_less t well tasks in
           omega (arith, now, was, rest)
       | false ↦ λ k q.
           let here = left_less (same_ticket t x.entry.ticket) x.done in
-          let rest = owed_finished t s tasks q undone in
+          let rest = owed_finished t well s tasks q undone in
           omega (arith, here, rest)
     ]) refl at
 
@@ -106,16 +108,17 @@ owed_two (s ∷ tasks) = let rest = owed_two tasks in let here = left_few s.done
 pub owed_few : (tasks : List Seen) → length tasks ≤ 64 → owed tasks ≤ 128
 owed_few tasks few = let two = owed_two tasks in omega (arith, two, few)
 
-ready_owed : (t : Ticket) (e : Entry) (past : List Step) → IsReady t e past → owed (map (finished t) (tasks_of past)) + 1 ≤ owed (tasks_of past)
-ready_owed t e past ready =
-    owed_finished t (seen past e) (tasks_of past) (seen_there t past e ready.is_there)
+ready_owed : (t : Ticket) (well : Bool) (e : Entry) (past : List Step) → IsReady t e past
+    → owed (map (finished t well) (tasks_of past)) + 1 ≤ owed (tasks_of past)
+ready_owed t well e past ready =
+    owed_finished t well (seen past e) (tasks_of past) (seen_there t past e ready.is_there)
     (ap (λ n. done n past) (sym (task_ticket t (alive past) e ready.is_there)) ∙ ready.is_undone)
 
 pub commit_owed : (o : Opening) (t : Ticket) (r : PlainReply) (past : List Step) → IsLawful o (Step.Commit t r ∷ past) → owed (tasks_of (Step.Commit t r ∷ past)) + 1 ≤ owed (tasks_of past)
-commit_owed o t r past l = let same = ap owed (tasks_commit t r past) in let fewer = ready_owed t l.1.0 past l.1.1 in omega (arith, same, fewer)
+commit_owed o t r past l = let same = ap owed (tasks_commit t r past) in let fewer = ready_owed t (r.status == good) l.1.0 past l.1.1 in omega (arith, same, fewer)
 
 pub busy_owed : (o : Opening) (t : Ticket) (past : List Step) → IsLawful o (Step.Busy t ∷ past) → owed (tasks_of (Step.Busy t ∷ past)) + 1 ≤ owed (tasks_of past)
-busy_owed o t past l = let same = ap owed (tasks_busy t past) in let fewer = ready_owed t l.1.0 past l.1.1 in omega (arith, same, fewer)
+busy_owed o t past l = let same = ap owed (tasks_busy t past) in let fewer = ready_owed t false l.1.0 past l.1.1 in omega (arith, same, fewer)
 
 pub leave_owed : (o : Opening) (t : Ticket) (past : List Step) → IsLawful o (Step.Leave t ∷ past) → owed (tasks_of (Step.Leave t ∷ past)) + 1 ≤ owed (tasks_of past)
 leave_owed o t past l =

@@ -8,7 +8,8 @@ use Rattle.unit_model.specs.Marks.{marked}
 use Rattle.unit_model.specs.Enabling.{enabled}
 use Rattle.unit_model.specs.Jobs.{PlainJob}
 use Rattle.unit_model.specs.Receipts.{unit_address}
-use Rattle.unit_model.specs.Unit.{PlainUnit}
+use Rattle.command_model.specs.PlainReply.{PlainReply}
+use Rattle.unit_model.specs.Unit.{PlainUnit, IsWithheld}
 
 -- the request names the unit (SAM-5 §4.7): no other unit takes it
 abbrev pub IsNamed : PlainJob → PlainUnit → Type 0
@@ -39,3 +40,7 @@ CannotCommit None j steps = ⊤
 CannotCommit (Some e) j steps =
     (asked_of e ≢ asked_of j.entry)
     ⊎ ((done e.ticket steps ≡ true) ⊎ ((marked e.ticket steps ≡ false) × (enabled e steps ≡ false)))
+
+-- own: no reply to the job's task is withheld
+abbrev pub IsNotWithheld : PlainJob → PlainUnit → Type 0
+IsNotWithheld j u = (e : Entry) (r : PlainReply) → IsOf j e u.steps → IsWithheld u j.entry.ticket e r → ⊥

@@ -5,7 +5,8 @@ use Rattle.block_store.specs.Storage.{Ledger, IsLeft}
 use Rattle.cdb.specs.declared.commands.Command.{Command}
 use Rattle.cdb.specs.declared.commands.Command.TheVariants.{SynchronizeCache}
 use Rattle.unit_model.specs.Tasks.{Entry}
-use Rattle.unit_model.specs.Steps.{Step, as_of}
+use Rattle.ring_core.specs.declared.log.Ticket.{Ticket}
+use Rattle.unit_model.specs.Steps.{Step, as_of, done}
 use Rattle.unit_model.specs.Enabling.{enabled}
 use Rattle.unit_model.specs.Contents.{Opening, blocks_of}
 
@@ -27,3 +28,15 @@ pub record HasBeen (o : Opening) (steps : List Step) (e : Entry) (b : ℕ) (byte
 abbrev pub IsDurable : Opening → List Step → Ledger → Entry → Type 0
 IsDurable o steps l e =
     (left : Blocks) → IsLeft l left → (b : ℕ) → is_in_flush e.command b ≡ true → HasBeen o steps e b (left b)
+
+-- own: block b of a unit had these bytes at a moment by which the command of a ticket's task had run
+pub record HasBeenBehind (o : Opening) (steps : List Step) (t : Ticket) (b : ℕ) (bytes : List ℕ) : Type 0 where
+  pub place : ℕ
+  pub past : place ≤ length steps
+  pub ran : done t (as_of place steps) ≡ true
+  pub is : bytes ≡ blocks_of o (as_of place steps) b
+
+-- whatever a crash leaves, it leaves of each block what the block was once the command of a ticket's task had run, or later: so
+-- what that changed, and all that ran before it
+abbrev pub IsThrough : Opening → List Step → Ledger → Ticket → Type 0
+IsThrough o steps l t = (left : Blocks) → IsLeft l left → (b : ℕ) → HasBeenBehind o steps t b (left b)

@@ -5,15 +5,17 @@ use Rattle.ring_core.specs.declared.log.Ticket.{Ticket}
 use Rattle.unit_model.specs.declared.rule.Rule.{Rule}
 use Rattle.unit_model.specs.declared.reason.Reason.{Reason}
 use Rattle.unit_model.specs.Tasks.{Entry, same_ticket, is_blocked, meets}
-use Rattle.unit_model.specs.Steps.{Step, alive, done}
+use Rattle.unit_model.specs.Steps.{Step, alive, done, ended_well}
 use Rattle.unit_model.specs.Marks.{mark_of, first_mark}
 use Rattle.unit_model.specs.Enabling.{enabled}
 
--- own: the task, whether it may run, whether it did or was answered BUSY, why it won't, and the place of its Enter
+-- own: the task, whether it may run, whether it did or was answered BUSY, whether it did and ended with GOOD, why it won't, and
+-- the place of its Enter
 pub record Seen : Type 0 where
   pub entry : Entry
   pub enabled : Bool
   pub done : Bool
+  pub ended_well : Bool
   pub mark : Option Reason
   pub place : ℕ
 
@@ -30,6 +32,7 @@ seen h e =
       entry = e;
       enabled = enabled e h;
       done = done e.ticket h;
+      ended_well = ended_well e.ticket h;
       mark = mark_of e.ticket h;
       place = entered_at e.ticket h;
     }
@@ -59,11 +62,15 @@ waits s = not s.enabled && not (is_some s.mark)
 -- own: a task that enters at a place; with it these are alive
 abbrev pub joined : ℕ → List Entry → Entry → Seen
 joined place tasks e =
-    record { entry = e; enabled = not (is_blocked e tasks); done = false; mark = None; place = place }
+    record { entry = e; enabled = not (is_blocked e tasks); done = false; ended_well = false; mark = None; place = place }
 
--- own: a task after the Commit or Busy of a ticket
-abbrev pub finished : Ticket → Seen → Seen
-finished t s = record s { done = same_ticket t s.entry.ticket || s.done }
+-- own: a task after the Commit of a ticket, with GOOD or not, or after its Busy
+abbrev pub finished : Ticket → Bool → Seen → Seen
+finished t well s =
+    record s {
+      done = same_ticket t s.entry.ticket || s.done;
+      ended_well = (same_ticket t s.entry.ticket && well) || s.ended_well;
+    }
 
 -- own: a task after an Abort or a Reset
 abbrev pub with_mark : Rule → Reason → Seen → Seen

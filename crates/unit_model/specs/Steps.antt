@@ -1,6 +1,7 @@
 -- The steps of a unit, and which tasks are alive and done after them.
-use Rattle.std.specs.Prelude.{ℕ, ◌+◌, ◌-◌, Bool, false, ◌==◌, ◌||◌, is_some, List, [], ◌∷◌, ◌++◌, length, drop, if◌then◌else◌}
+use Rattle.std.specs.Prelude.{ℕ, ◌+◌, ◌-◌, Bool, false, ◌==◌, ◌&&◌, ◌||◌, is_some, List, [], ◌∷◌, ◌++◌, length, drop, if◌then◌else◌}
 use Rattle.command_model.specs.PlainReply.{PlainReply}
+use Rattle.command_model.specs.Statuses.{good}
 use Rattle.ring_core.specs.declared.log.Ticket.{Ticket}
 use Rattle.unit_attention.specs.declared.code.Code.{Code}
 use Rattle.unit_model.specs.declared.rule.Rule.{Rule}
@@ -48,6 +49,12 @@ done t [] = false
 done t (Step.Commit u r ∷ past) = same_ticket u t || done t past
 done t (Step.Busy u ∷ past) = same_ticket u t || done t past
 done t (step ∷ past) = done t past
+
+-- own: the task has a Commit with GOOD
+abbrev pub ended_well : Ticket → List Step → Bool
+ended_well t [] = false
+ended_well t (Step.Commit u r ∷ past) = (same_ticket u t && r.status == good) || ended_well t past
+ended_well t (step ∷ past) = ended_well t past
 
 -- own: the task has a Leave
 abbrev pub has_left : Ticket → List Step → Bool

@@ -1,18 +1,20 @@
 -- A logical unit as a plain value: what it opened with, its history, and the jobs that it holds.
-use Rattle.std.specs.Prelude.{ℕ, ◌≡◌, ◌⊎◌, ◌++◌, ◌&&◌, Bool, true, min, List, [], ◌∷◌, map, filter, Option, Some, None, is_some, IfSome, ⊤}
+use Rattle.std.specs.Prelude.{ℕ, ◌≡◌, ◌⊎◌, ◌++◌, ◌==◌, ◌&&◌, ◌||◌, not, Bool, true, min, List, [], ◌∷◌, map, filter, Contains, Option, Some, None, is_some, IfSome, ⊤}
 use Rattle.std.specs.Option.{option_map}
 use Rattle.block_store.specs.Storage.{Ledger, Dealing, IsPageOf, IsLostIn, and_then}
 use Rattle.cdb.specs.declared.commands.Command.{Command}
 use Rattle.command_model.specs.PlainReply.{PlainReply}
+use Rattle.command_model.specs.Effects.{changes_medium}
+use Rattle.command_model.specs.Replies.{cache_told}
 use Rattle.command_model.specs.Waiting.{is_flush, waits_at}
 use Rattle.command_model.specs.Statuses.{good}
 use Rattle.ring_core.specs.declared.log.Ticket.{Ticket}
-use Rattle.unit_model.specs.Tasks.{Entry}
+use Rattle.unit_model.specs.Tasks.{Entry, task_of}
 use Rattle.unit_model.specs.Steps.{Step, alive}
 use Rattle.unit_model.specs.Enabling.{is_parked}
 use Rattle.unit_model.specs.Released.{released}
-use Rattle.unit_model.specs.Contents.{Opening, blocks_of, capacity_of, reply_after, IsUnreadAfter}
-use Rattle.unit_model.specs.Flushing.{IsDurable}
+use Rattle.unit_model.specs.Contents.{Opening, blocks_of, capacity_of, facts_after, reply_after, IsUnreadAfter}
+use Rattle.unit_model.specs.Flushing.{IsDurable, IsThrough}
 use Rattle.unit_model.specs.Lawful.{May, IsLawful, IsReady}
 use Rattle.unit_model.specs.Jobs.{PlainJob, Jobs, of_tasks, but_tasks}
 
@@ -31,9 +33,19 @@ pub record PlainUnit : Type 0 where
 abbrev pub is_backed : PlainUnit → Bool
 is_backed u = is_some u.storage
 
--- own: whether a command may have to wait at the unit: for pages of its disk, or for what was changed before it
+-- own: whether the unit tells of no volatile write cache (SBC-3 §6.5), so that what it answers is on the medium
+abbrev pub tells_no_cache : PlainUnit → Bool
+tells_no_cache u = not (cache_told (facts_after u.opening u.steps))
+
+-- own: whether a command may have to wait at the unit: for pages of its disk, for what was changed before it, or, where the unit
+-- tells of no cache, for what it changes itself
 abbrev pub may_wait : PlainUnit → Command → Bool
-may_wait u command = is_backed u && waits_at (capacity_of u.opening u.steps) command
+may_wait u command =
+    is_backed u && (waits_at (capacity_of u.opening u.steps) command || (tells_no_cache u && changes_medium command))
+
+-- own: whether the answer of a command that ended with this status waits until the host's storage has what it changed
+abbrev pub waits_behind : PlainUnit → Command → ℕ → Bool
+waits_behind u command status = is_backed u && (tells_no_cache u && (changes_medium command && status == good))
 
 -- own: the host's last word of reading page p of the unit's disk is that it can't
 abbrev pub HasLost : PlainUnit → ℕ → Type 0
@@ -49,9 +61,33 @@ abbrev pub Replies : PlainUnit → Entry → PlainReply → Type 0
 Replies u e r =
     ((r ≡ reply_after u.opening e u.steps) × Flushes u e r) ⊎ ((p : ℕ) × IsUnreadAfter u.opening e u.steps p r × HasLost u p)
 
--- own: the command of a ticket's task may run next at the unit, and be replied to so
+-- own: a command whose answer waits is answered at once only where whatever a crash leaves has all that it changed
+abbrev pub EndsAtOnce : PlainUnit → Ticket → Entry → PlainReply → Type 0
+EndsAtOnce u t e r =
+    waits_behind u e.command r.status ≡ true → IfSome u.storage (λ l. IsThrough u.opening (Step.Commit t r ∷ u.steps) l t)
+
+-- own: the command of a ticket's task may run next at the unit, be replied to so, and be answered at once
 abbrev pub MayCommit : PlainUnit → Ticket → PlainReply → Type 0
-MayCommit u t r = (e : Entry) × IsReady t e u.steps × Replies u e r
+MayCommit u t r = (e : Entry) × IsReady t e u.steps × Replies u e r × EndsAtOnce u t e r
+
+-- own: it may run next at the unit, and be replied to so, which is told once the host's storage has what it changed
+abbrev pub MayWithhold : PlainUnit → Ticket → PlainReply → Type 0
+MayWithhold u t r = (e : Entry) × IsReady t e u.steps × Replies u e r × (waits_behind u e.command r.status ≡ true)
+
+-- own: the command of a ticket's task ran, and was replied to so, which isn't told yet
+pub record IsWithheld (u : PlainUnit) (t : Ticket) (e : Entry) (r : PlainReply) : Type 0 where
+  pub is_there : task_of t (alive u.steps) ≡ Some e
+  pub ran : Contains u.steps (Step.Commit t r)
+  pub waits : waits_behind u e.command r.status ≡ true
+
+-- own: such a reply may be told: whatever a crash leaves has all that the command changed
+abbrev pub MayConclude : PlainUnit → Ticket → PlainReply → Type 0
+MayConclude u t r =
+    (e : Entry) × IsWithheld u t e r × IfSome u.storage (λ l. IsThrough u.opening u.steps l t)
+
+-- own: the command of a task has to wait before it runs, or its reply is withheld
+abbrev pub HasToWait : PlainUnit → Ticket → Entry → Type 0
+HasToWait u t e = (IsReady t e u.steps × (may_wait u e.command ≡ true)) ⊎ ((r : PlainReply) × IsWithheld u t e r)
 
 -- own: a unit of which no step was taken, with all of its disk in memory
 abbrev pub opening_unit : Opening → Bool → PlainUnit

@@ -203,8 +203,8 @@ enum vscsi_cause {
   VSCSI_CAUSE_UNIT_BLOCKS = 10, /* no blocks, or more than VSCSI_MOST_BLOCKS */
   VSCSI_CAUSE_UNIT_ORDER = 11,  /* a unit that doesn't stand above the one before it */
   VSCSI_CAUSE_NO_LUN_0 = 12,    /* a unit whose target has no LUN 0 */
-  VSCSI_CAUSE_UNIT_DISK = 13,   /* a unit that is given no disk, or one of another capacity; a backed one where the unit is
-                                   narrow, or the device is none on live memory */
+  VSCSI_CAUSE_UNIT_DISK = 13,   /* a unit that is given no disk, or one of another capacity; a backed one where the device is
+                                   none on live memory */
   VSCSI_CAUSE_UNIT_PROFILE = 14, /* a unit whose profile isn't among `enum vscsi_profile`. Since 1.5 */
   VSCSI_CAUSE_UNIT_IDENTITY = 15, /* a unit that says of itself what none may, or a narrow one that says anything or
                                      is read-only. Since 1.6 */
@@ -572,9 +572,10 @@ enum vscsi_answer vscsi_live_destroy(struct vscsi_live *device);
  * has the bytes from 4,096 * n on; what lies behind the disk's last block is zeros. The host reads and writes pages by any means,
  * as many at once as it likes and in any order, while the device serves.
  *
- * The unit has the wide profile, and tells its guest of a volatile write cache: WCE is 1 and DPOFUA 0 (docs/COMMANDS.md). A WRITE
- * is answered as it stands in memory. SYNCHRONIZE CACHE waits until the host said that it kept each page that was changed before the
- * command might run. A command that needs a page which isn't in memory waits, alone.
+ * A unit of the wide profile tells its guest of a volatile write cache: WCE is 1 and DPOFUA 0 (docs/COMMANDS.md). A WRITE is answered
+ * as it stands in memory. One of the narrow profile tells of none: a command that may change blocks is answered GOOD only once the
+ * host said that it kept each page that was changed by then. So waits SYNCHRONIZE CACHE, for what was changed before it might run, one
+ * command of a disk at a time. A command that needs a page which isn't in memory waits, alone.
  *
  * What the host owes, and nothing checks:
  * - What it hands in by vscsi_live_load is what its storage had of the page when the disk was made, or what it last said by

@@ -95,7 +95,8 @@ left_due h h' at u out b v out' e did = none_due h' (left_none (hand_of h) at u 
 made_due : (h : Hand) (at : ℕ) (u : PlainUnit) (b : Bool) (v : PlainUnit) (h' : declared.Hand) → committing_unit h ≡ Some at
     → Commits h u b v (hand_of h') → receipts_due h' ≡ receipts_made b h'
 made_due (Hand.Taken x) at u true v h' e did = refl
-made_due (Hand.Taken x) at u false v h' e did = taken_due h' x did.hand
+made_due (Hand.Taken x) at u false v h' e (inl waits) = taken_due h' x waits.hand
+made_due (Hand.Taken x) at u false v h' e (inr withholds) = taken_due h' x withholds.hand
 made_due Hand.Empty at u b v h' e did = cc
 made_due (Hand.Done x o) at u b v h' e did = cc
 made_due (Hand.Answered unit_index t) at u b v h' e did = cc

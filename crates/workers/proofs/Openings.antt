@@ -1,5 +1,5 @@
 -- The queues and units of a device that opens.
-use Rattle.std.proofs.Common.{◌≡◌, ◌<◌, ℕ, List, [], ◌∷◌, Bool, Some, length, refl, zero, suc, ap, sym, ◌∙◌, subst, arith}
+use Rattle.std.proofs.Common.{◌≡◌, ◌<◌, ℕ, List, [], ◌∷◌, Bool, false, Some, length, refl, zero, suc, ap, sym, ◌∙◌, subst, arith}
 use Rattle.std.specs.Prelude.{slice_get}
 use Rattle.std.proofs.lemmas.Option.{slice_get_within}
 use Rattle.ring_core.specs.State.{opening}
@@ -9,7 +9,7 @@ use Rattle.ring_core.specs.declared.layout.Features.{Features}
 use Rattle.ring_core.specs.declared.layout.Layout.{Layout}
 use Rattle.virtqueue.specs.Queue.{opening_queue}
 use Rattle.request_intake.specs.declared.inventory.UnitSpec.{UnitSpec}
-use Rattle.unit_model.specs.Unit.{PlainUnit}
+use Rattle.unit_model.specs.Unit.{PlainUnit, is_backed}
 use Rattle.device_model.proofs.Lists.{same}
 use Rattle.device_opening.specs.Opening.{AreFresh}
 
@@ -26,17 +26,21 @@ stands_at [] k lt = absurd (omega (arith, lt))
 stands_at (x ∷ xs) zero lt = (x, refl)
 stands_at (x ∷ xs) (suc k) lt = stands_at xs k (omega (arith, lt))
 
--- of units that open no step was taken
+-- of a unit no step was taken, and its disk isn't backed
+abbrev pub IsFresh : PlainUnit → Type 0
+IsFresh u = (u.steps ≡ []) × (is_backed u ≡ false)
+
+-- so it is of units that open
 pub no_steps : (keeps : Bool) (wanted : List UnitSpec) (units : List PlainUnit) → AreFresh keeps wanted units
-    → (k : ℕ) (u : PlainUnit) → slice_get units k ≡ Some u → u.steps ≡ []
+    → (k : ℕ) (u : PlainUnit) → slice_get units k ≡ Some u → IsFresh u
 no_steps keeps wanted units fresh k u at =
     let found = stands_at wanted k (omega (arith, slice_get_within units k u at, fresh.count)) in
-    subst (λ (v : PlainUnit). v.steps ≡ []) (same (sym (fresh.each k found.0 found.1) ∙ at)) refl
+    subst IsFresh (same (sym (fresh.each k found.0 found.1) ∙ at)) (refl, refl)
 
 -- nor of the first of them and of the others
 pub first_fresh : (now rest : List PlainUnit) (u : PlainUnit) → now ≡ u ∷ rest
-    → ((k : ℕ) (v : PlainUnit) → slice_get now k ≡ Some v → v.steps ≡ [])
-    → (u.steps ≡ []) × ((k : ℕ) (v : PlainUnit) → slice_get rest k ≡ Some v → v.steps ≡ [])
+    → ((k : ℕ) (v : PlainUnit) → slice_get now k ≡ Some v → IsFresh v)
+    → IsFresh u × ((k : ℕ) (v : PlainUnit) → slice_get rest k ≡ Some v → IsFresh v)
 first_fresh now rest u is fresh = (
   fresh 0 u (ap (λ (us : List PlainUnit). slice_get us 0) is),
   λ k v at. fresh (suc k) v (ap (λ (us : List PlainUnit). slice_get us (suc k)) is ∙ at),

@@ -1,7 +1,7 @@
 //! The parts of a device that is wanted, of which nothing has happened yet.
 
-ghost use Rattle.std.specs.Prelude.{ℕ, ◌≡◌, ◌+◌, ◌*◌, ◌≤◌, true, [], length, slice_get, Some, vec_len, IfOk};
-ghost use Rattle.unit_model.specs.Unit.{PlainUnit};
+ghost use Rattle.std.specs.Prelude.{ℕ, ◌≡◌, ◌+◌, ◌*◌, ◌≤◌, true, false, [], length, slice_get, Some, vec_len, IfOk};
+ghost use Rattle.unit_model.specs.Unit.{PlainUnit, is_backed};
 ghost use Rattle.request_intake.specs.Inventory.{inventory_of};
 ghost use Rattle.config.specs.Config.{is_config};
 ghost use Rattle.lock_scopes.specs.Ledgers.{most_commits};
@@ -26,13 +26,13 @@ pub(crate) struct Ledgers<C: Ledger + Weighing, W: Ledger> {
     pub(crate) book: Book<W>,
 }
 
-/// Puts units of which no step was taken under locks, each with its parts of the ledgers.
+/// Puts units of which no step was taken, and whose disks aren't backed, under locks, each with its parts of the ledgers.
 fn lock_units<C: Ledger + Weighing, W: Ledger>(
     alloc: Global,
     units: Vec<UnitState>,
     ledgers: &mut Ledgers<C, W>,
 ) -> Result<Vec<Mutex<CountedUnit<C, W>>>, NoMemory>
-    requires fresh { (k : ℕ) (u : PlainUnit) → slice_get units.items k ≡ Some u → u.steps ≡ [] }
+    requires fresh { (k : ℕ) (u : PlainUnit) → slice_get units.items k ≡ Some u → (u.steps ≡ []) × (is_backed u ≡ false) }
     requires of_acts { length units.items ≤ ledgers.old.acts.parts }
     requires of_receipts { length units.items ≤ ledgers.old.receipts.parts }
     requires new { (ledgers.old.acts.amount ≡ 0) × (ledgers.old.receipts.amount ≡ 0) × (ledgers.old.book.total ≡ 0) }

@@ -148,7 +148,7 @@ impl World {
         let _ = &self.memory;
     }
 
-    /// Shows that where no unit's disk is one whose pages come and go, no job waits for pages, and none is to be tried
+    /// Shows that where no unit's disk is one whose pages come and go, no job waits for its disk, and none is to be tried
     /// again.
     pub fn none_waits(&self)
         ensures aside { NoneIsBacked self.now → self.now.aside ≡ [] }
@@ -243,9 +243,15 @@ impl World {
     /// with whatever was begun before, of each queue.
     ///
     /// `more` is true exactly where an event is left that would change something: then it took `most` steps. If it is
-    /// false, every chain that was accepted was used, but for event buffers that are held and for commands that wait
-    /// for pages of their disks, or behind one that does. Nothing else waits then, and none of those queues has a
-    /// chain, unless a fault broke it. Chains of the other queues are left as they are.
+    /// false, every chain that was accepted was used, but for
+    ///
+    /// - event buffers that are held;
+    /// - commands that wait for their unit's disk, or behind one that does;
+    /// - commands that ran, and whose replies are withheld until the host's storage has what they changed;
+    /// - a function that waits for a command whose reply is withheld.
+    ///
+    /// Nothing else waits then. None of those queues has a chain, unless a fault broke it, or it is the control queue of
+    /// such a function. Chains of the other queues are left as they are.
     ///
     /// It takes at most
     ///
@@ -287,9 +293,10 @@ impl World {
     }
 
     /// Serves what the guest made available, on each queue and until nothing is left: `serve` with all queues and no
-    /// bound. Answers how many steps it took. Then every chain that was accepted was used, but for event buffers that
-    /// are held and for commands that wait for pages of their disks, or behind one that does. Nothing else is left that
-    /// waits, and no queue has a chain, unless a fault broke it.
+    /// bound. Answers how many steps it took. Then every chain that was accepted was used, but for those that
+    /// [`World::serve`] lists: each of them is held, or waits for a unit's backed disk. Nothing else is left that waits, and
+    /// no queue has a chain, unless a fault broke it, or a function is open that waits for a command whose reply is
+    /// withheld.
     ///
     /// A guest whose own requests make chains available, as a READ that writes descriptors into a ring, keeps it busy
     /// for as long as it likes. A host that must have its thread back calls `serve` with a bound.

@@ -1,6 +1,6 @@
 -- A queue takes its next chain: a request arrives, an answer is decided directly, a function opens, an event buffer is held or
 -- used at once, or a fault breaks the queue.
-use Rattle.std.specs.Prelude.{ℕ, zero, suc, ◌≡◌, ◌≤◌, ◌⊎◌, ◌||◌, true, false, if◌then◌else◌, List, [], ◌∷◌, Some, None, slice_get, ⊤, ◌+◌, ◌&&◌, ◌++◌}
+use Rattle.std.specs.Prelude.{ℕ, zero, suc, ◌≡◌, ◌≤◌, ◌⊎◌, ◌||◌, true, false, if◌then◌else◌, List, [], ◌∷◌, Some, None, slice_get, ⊤, ◌&&◌, ◌++◌}
 use Rattle.scsi_codec.specs.EventQueue.{event_bytes, missed_event}
 use Rattle.scsi_codec.specs.ControlQueue.{IsControl}
 use Rattle.scsi_codec.specs.declared.control_queue.Control.{Control}

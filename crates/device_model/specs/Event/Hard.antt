@@ -35,7 +35,7 @@ pub record Resets (w : PlainWorld) (p : MarkAt) (jobs : List PlainJob) : Type 0 
   pub seat : Seat
   pub seat_there : slice_get w.seats w.workers ≡ Some seat
 
--- the operator's seat has the jobs that may run now; the driver is to be told; each job that waits for pages is to be
+-- the operator's seat has the jobs that may run now; the driver is to be told; each job that waits is to be
 -- tried again, since a task that is marked ends without them
 abbrev pub after_hard : MarkAt → List PlainJob → PlainWorld → PlainWorld
 after_hard p jobs w =

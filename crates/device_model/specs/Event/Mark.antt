@@ -34,7 +34,7 @@ pub record Marks (w : PlainWorld) (t : Ticket) (p : MarkAt) (m : MarkBy) (jobs :
   pub seat : Seat
   pub seat_there : slice_get w.seats 0 ≡ Some seat
 
--- the first worker's seat has the jobs that may run now; each job that waits for pages is to be tried again, since a
+-- the first worker's seat has the jobs that may run now; each job that waits is to be tried again, since a
 -- task that is marked ends without them
 abbrev pub after_mark : Ticket → MarkAt → MarkBy → List PlainJob → PlainWorld → PlainWorld
 after_mark t p m jobs w =

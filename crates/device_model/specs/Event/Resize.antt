@@ -1,5 +1,5 @@
 -- The operator changes how many blocks a unit has.
-use Rattle.std.specs.Prelude.{ℕ, Bool, if◌then◌else◌, List, [], ◌∷◌, Some, None, slice_get, ◌+◌, ◌++◌, Option}
+use Rattle.std.specs.Prelude.{ℕ, Bool, if◌then◌else◌, List, [], ◌∷◌, Some, None, slice_get, ◌++◌, Option}
 use Rattle.scsi_codec.specs.declared.event_queue.Event.{Event as EventRecord}
 use Rattle.scsi_codec.specs.EventQueue.{param_change}
 use Rattle.unit_model.specs.Steps.{Step}

@@ -1,20 +1,18 @@
--- A job waits for pages of its unit's disk, is woken, and is taken again.
-use Rattle.std.specs.Prelude.{ℕ, ◌≡◌, ◌<◌, ◌++◌, true, List, [], ◌∷◌, drop}
+-- A job waits for its unit's disk, is woken, and is taken again.
+use Rattle.std.specs.Prelude.{ℕ, ◌≡◌, ◌<◌, ◌++◌, List, [], ◌∷◌, drop}
 use Rattle.unit_model.specs.Tasks.{Entry}
-use Rattle.unit_model.specs.Lawful as history
 use Rattle.unit_model.specs.Jobs.{PlainJob}
-use Rattle.unit_model.specs.Unit.{may_wait}
+use Rattle.unit_model.specs.Unit.{HasToWait}
 use Rattle.device_model.specs.Parts.{Hand}
 use Rattle.device_model.specs.World.{PlainWorld, change}
 use Rattle.device_model.specs.Found.{HandAtUnit, HasHand}
 use Rattle.device_model.specs.Changing.{with_hand}
 
--- the command of the job may run, and may have to wait at its unit
+-- the command of the job may run, and may have to wait at its unit, or its reply is withheld
 pub record Defers (w : PlainWorld) (k : ℕ) (x : PlainJob) : Type 0 where
   pub holds : HandAtUnit w k (Hand.Taken x) x.unit
   pub entry : Entry
-  pub ready : history.IsReady x.entry.ticket entry holds.unit.steps
-  pub waits : may_wait holds.unit entry.command ≡ true
+  pub waits : HasToWait holds.unit x.entry.ticket entry
 
 -- the hand is free, and the job waits behind those that do
 abbrev pub after_defer : ℕ → PlainJob → PlainWorld → PlainWorld

@@ -20,6 +20,7 @@ IsFull x d = ⊥
 
 abbrev pub IsCommit : PlainJob → PlainReply → Transition → Type 0
 IsCommit x r (Transition.Commit k y q) = (y ≡ x) × (q ≡ r)
+IsCommit x r (Transition.Withhold k y q) = (y ≡ x) × (q ≡ r)
 IsCommit x r d = ⊥
 
 abbrev pub IsBusy : PlainJob → Transition → Type 0

@@ -28,6 +28,8 @@ takes f (Transition.CommitBusy k x) = f.done x.chain.ticket
 takes f (Transition.CommitAborted k x why) = f.done x.chain.ticket
 takes f (Transition.CommitUnknown k x) = f.done x.chain.ticket
 takes f (Transition.Defer k x) = f.aside x.chain.ticket
+takes f (Transition.Withhold k x r) = f.aside x.chain.ticket
+takes f (Transition.Conclude k x r) = f.done x.chain.ticket
 takes f (Transition.Resume k x) = f.taken x.chain.ticket
 takes f (Transition.Answer k x o xs) = f.answered x.chain.ticket
 takes f d = 0
@@ -48,6 +50,8 @@ gives f (Transition.CommitBusy k x) = f.taken x.chain.ticket
 gives f (Transition.CommitAborted k x why) = f.taken x.chain.ticket
 gives f (Transition.CommitUnknown k x) = f.taken x.chain.ticket
 gives f (Transition.Defer k x) = f.taken x.chain.ticket
+gives f (Transition.Withhold k x r) = f.taken x.chain.ticket
+gives f (Transition.Conclude k x r) = f.taken x.chain.ticket
 gives f (Transition.Resume k x) = f.aside x.chain.ticket
 gives f (Transition.Answer k x o xs) = f.done x.chain.ticket
 gives f (Transition.Leave k unit_index t jobs) = f.answered t
@@ -69,6 +73,7 @@ ends p (Transition.Commit k x r) = p x.chain.ticket
 ends p (Transition.CommitBusy k x) = p x.chain.ticket
 ends p (Transition.CommitAborted k x why) = p x.chain.ticket
 ends p (Transition.CommitUnknown k x) = p x.chain.ticket
+ends p (Transition.Conclude k x r) = p x.chain.ticket
 ends p d = 0
 
 -- its task leaves its unit

@@ -1,10 +1,10 @@
 -- The flush of a unit that waits.
-use Rattle.std.specs.Prelude.{ℕ, ◌≡◌, ◌≤◌, ◌<◌, ◌+◌, ◌/◌, true, List, ◌∷◌, All, length, Option, Some, None, IfSome, if◌then◌else◌, ⊤}
+use Rattle.std.specs.Prelude.{ℕ, ◌≡◌, ◌≤◌, ◌<◌, ◌+◌, ◌/◌, Bool, true, false, List, ◌∷◌, All, length, Option, Some, None, IfSome, if◌then◌else◌, ⊤}
 use Rattle.block_store.specs.Storage.{Storage, storage_by}
 use Rattle.block_store.specs.Inner.Hosted.{Hosted}
 use Rattle.ring_core.specs.declared.log.Ticket.{Ticket}
 use Rattle.unit_model.specs.Tasks.{Entry, same_ticket}
-use Rattle.unit_model.specs.Steps.{Step, as_of}
+use Rattle.unit_model.specs.Steps.{Step, as_of, done}
 use Rattle.unit_model.specs.Enabling.{enabled}
 use Rattle.unit_model.specs.Contents.{Opening, blocks_of}
 use Rattle.logical_unit.specs.declared.flushing.Fence.{Fence}
@@ -37,18 +37,29 @@ EnteredAs e place steps = as_of (place + 1) steps ≡ Step.Enter e ∷ as_of pla
 abbrev pub Might : ℕ → ℕ → List Step → Type 0
 Might place since steps = (e : Entry) → EnteredAs e place steps → enabled e (as_of since steps) ≡ true
 
--- the flush of the task that entered at a place began once that might run
-pub record HasBegun (o : Opening) (steps : List Step) (place : ℕ) (hosted : Option Hosted) : Type 0 where
+-- the flush of a task
+abbrev pub fence_of : Ticket → ℕ → Bool → Fence
+fence_of t place ran = record { ticket = t; place = place; ran = ran }
+
+-- its command may run now, or ran
+pub record MayBegin (steps : List Step) (f : Fence) : Type 0 where
+  pub before : f.place < length steps
+  pub might : f.ran ≡ false → Might f.place (length steps) steps
+  pub ran : f.ran ≡ true → done f.ticket steps ≡ true
+
+-- the flush of a task began once its command might run, or, where that is so, once it ran
+pub record HasBegun (o : Opening) (steps : List Step) (f : Fence) (hosted : Option Hosted) : Type 0 where
   pub since : ℕ
-  pub before : place < length steps
+  pub before : f.place < length steps
   pub past : since ≤ length steps
-  pub might : Might place since steps
+  pub might : f.ran ≡ false → Might f.place since steps
+  pub ran : f.ran ≡ true → done f.ticket (as_of since steps) ≡ true
   pub has : AreSince o steps since hosted
 
 -- so of the flush that waits, if one waits
 abbrev pub AreFenced : Opening → List Step → Option Fence → Option Hosted → Type 0
 AreFenced o steps None hosted = ⊤
-AreFenced o steps (Some f) hosted = HasBegun o steps f.place hosted
+AreFenced o steps (Some f) hosted = HasBegun o steps f hosted
 
 -- the flush that waits, once that of ticket t doesn't
 abbrev pub without : Option Fence → Ticket → Option Fence

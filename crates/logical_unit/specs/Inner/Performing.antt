@@ -1,5 +1,5 @@
 -- What running a command leaves, by cases.
-use Rattle.std.specs.Prelude.{ℕ, ◌≡◌, ◌⊎◌, Bool, IsTrue, List, Option, Some, None, Result, Ok, Err, if◌then◌else◌, ⊤}
+use Rattle.std.specs.Prelude.{ℕ, ◌≡◌, ◌⊎◌, ◌==◌, Bool, false, IsTrue, List, Option, Some, None, Result, Ok, Err, if◌then◌else◌, ⊤}
 use Rattle.cdb.specs.declared.commands.Command.{Command}
 use Rattle.block_store.specs.Blocks.{Blocks}
 use Rattle.foundation.specs.declared.NoMemory.{NoMemory}
@@ -14,6 +14,7 @@ use Rattle.command_model.specs.Effects.{block_after}
 use Rattle.command_model.specs.Facts.{Facts}
 use Rattle.command_model.specs.Failing.{IsUnread}
 use Rattle.command_model.specs.Replies.{reply_of}
+use Rattle.command_model.specs.Statuses.{good}
 use Rattle.ring_core.specs.declared.log.Ticket.{Ticket}
 use Rattle.unit_model.specs.Steps.{Step}
 use Rattle.unit_model.specs.Contents.{oldest}
@@ -92,3 +93,8 @@ IsKeptReply keeps (Some p) = p.kept ≡ kept_reply keeps p.reply
 abbrev pub step_for : Ticket → Option PlainPerformed → Step
 step_for t None = Step.Busy t
 step_for t (Some p) = Step.Commit t p.reply
+
+-- own: it ran, and ended with GOOD
+abbrev pub ran_well : Option PlainPerformed → Bool
+ran_well None = false
+ran_well (Some p) = p.reply.status == good

@@ -2,6 +2,7 @@
 use Rattle.std.specs.Prelude.{ℕ, ◌≡◌, ◌⊎◌, Bool, true, false, List, [], ◌∷◌, length, Result, Ok, Err}
 use Rattle.foundation.specs.declared.NoMemory.{NoMemory}
 use Rattle.request_intake.specs.Inventory.{PlainInventory}
+use Rattle.command_model.specs.PlainReply.{PlainReply}
 use Rattle.unit_model.specs.Jobs.{PlainJob, Jobs}
 use Rattle.unit_model.specs.Unit.{PlainUnit, after as stepped}
 use Rattle.device_model.specs.Parts.{Hand}
@@ -23,10 +24,15 @@ MarksBy m u out (Ok place) u' out' =
     (place ≡ length u.steps) × (u' ≡ stepped (step_by m) u) × (out' ≡ with_more (handed_out u (step_by m)) out)
 MarksBy m u out (Err e) u' out' = (u' ≡ u) × (out' ≡ out)
 
--- the command waits for pages of its unit's disk: the hand is empty, and the job stands behind those that wait
+-- the command has to wait, or runs and its reply is withheld
+abbrev pub PutsAside : ℕ → PlainJob → PlainUnit → PlainUnit → Type 0
+PutsAside k x u u' =
+    DoesUnit (Transition.Defer k x) u u' ⊎ ((r : PlainReply) × DoesUnit (Transition.Withhold k x r) u u')
+
+-- the job is put aside: the hand is empty, and the job stands behind those that wait
 abbrev pub DefersTo : PlainJob → PlainUnit → Jobs → PlainUnit → Hand → Jobs → Type 0
 DefersTo x u aside u' h' aside' =
-    (k : ℕ) → DoesUnit (Transition.Defer k x) u u' × (h' ≡ Hand.Empty) × (aside' ≡ with_more (x ∷ []) aside)
+    (k : ℕ) → PutsAside k x u u' × (h' ≡ Hand.Empty) × (aside' ≡ with_more (x ∷ []) aside)
 
 -- a commit, or the job goes behind those that wait: it never stays in the hand
 abbrev pub CommitsOrDefers : Hand → PlainUnit → Jobs → Bool → PlainUnit → Hand → Jobs → Type 0

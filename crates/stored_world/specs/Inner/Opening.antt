@@ -5,7 +5,6 @@ use Rattle.block_store.specs.Storage.{Ledger}
 use Rattle.backed_store.specs.Disks.{size_of, blocks_of, is_backed, storage_of}
 use Rattle.backed_store.specs.declared.disk.Disk.{Disk}
 use Rattle.host_storage.specs.Inner.Storage.{given_blocks, kept_blocks}
-use Rattle.request_intake.specs.Inventory.{has_cache}
 use Rattle.request_intake.specs.declared.inventory.UnitSpec.{UnitSpec}
 use Rattle.config.specs.Config.{is_config}
 use Rattle.config.specs.declared.config.Config.{Config}
@@ -40,11 +39,9 @@ pub record IsStoredOpening (c : Config) (caches : List (Option ℕ)) (s : Stored
   pub each : (k : ℕ) (u : UnitSpec) (cache : Option ℕ) (d : Disk) (h : Option HostedDisk) → slice_get c.units.items k ≡ Some u
       → slice_get caches k ≡ Some cache → slice_get disks k ≡ Some d → slice_get s.disks.items k ≡ Some h → IsZeroDisk u.blocks cache d h
 
--- own: one for each unit: of how many pages its cache is, if it has one, as only a unit may that tells of its write cache
+-- own: one for each unit: of how many pages its cache is, if it has one
 pub record AreCachesFor (wanted : List UnitSpec) (caches : List (Option ℕ)) : Type 0 where
   pub count : length caches ≡ length wanted
-  pub told : (k : ℕ) (u : UnitSpec) (budget : ℕ) → slice_get wanted k ≡ Some u → slice_get caches k ≡ Some (Some budget)
-      → has_cache u ≡ true
 
 -- own: refused as such only where the configuration isn't valid, or these aren't caches of its units
 abbrev pub StoredRefusedAs : Config → List (Option ℕ) → StartFault → Type 0

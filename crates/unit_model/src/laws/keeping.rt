@@ -1,10 +1,11 @@
 //! Laws of what a task set keeps of its tasks after each step, told by what it kept before: it needs no history.
 
-ghost use Rattle.std.specs.Prelude.{ℕ, ◌≡◌, ◌∷◌, ◌++◌, List, [], length, map, Some};
+ghost use Rattle.std.specs.Prelude.{ℕ, ◌≡◌, ◌==◌, ◌∷◌, ◌++◌, List, [], length, map, false, Some};
 ghost use Rattle.std.specs.Option.{option_map};
 ghost use Rattle.ring_core.specs.declared.log.Ticket.{Ticket};
 ghost use Rattle.unit_attention.specs.declared.code.Code.{Code};
 ghost use Rattle.command_model.specs.PlainReply.{PlainReply};
+ghost use Rattle.command_model.specs.Statuses.{good};
 ghost use Rattle.unit_model.specs.declared.rule.Rule.{Rule as ARule};
 ghost use Rattle.unit_model.specs.declared.rule.Rule.TheVariants.{All};
 ghost use Rattle.unit_model.specs.declared.reason.Reason.TheVariants.{Aborted, Reset};
@@ -32,11 +33,11 @@ pub fn an_enter_appends()
     ensures resize { (blocks : ℕ) (past : List Step) → tasks_of (Step.Resize blocks ∷ past) ≡ tasks_of past }
 {}
 
-/// A task is done after its Commit or Busy, and no other changes.
+/// A task is done after its Commit or Busy, well after a Commit with GOOD, and no other changes.
 pub fn a_commit_or_busy_finishes()
     ensures commit { (t : Ticket) (r : PlainReply) (past : List Step) →
-        tasks_of (Step.Commit t r ∷ past) ≡ map (finished t) (tasks_of past) }
-    ensures busy { (t : Ticket) (past : List Step) → tasks_of (Step.Busy t ∷ past) ≡ map (finished t) (tasks_of past) }
+        tasks_of (Step.Commit t r ∷ past) ≡ map (finished t (r.status == good)) (tasks_of past) }
+    ensures busy { (t : Ticket) (past : List Step) → tasks_of (Step.Busy t ∷ past) ≡ map (finished t false) (tasks_of past) }
 {}
 
 /// An Abort and a Reset mark those that they meet, where they aren't done.

@@ -42,3 +42,17 @@ returns-clause-taken c =
       waiting = refl;
       tells = refl;
     }
+
+pub returns-clause-withheld : goal.returns-clause-withheld
+returns-clause-withheld c =
+    λ w k x r.
+    record {
+      memory = refl;
+      queues = refl;
+      units = refl;
+      function = refl;
+      buffers = refl;
+      missed = refl;
+      waiting = refl;
+      tells = refl;
+    }

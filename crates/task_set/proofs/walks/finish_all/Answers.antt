@@ -6,4 +6,4 @@ use Rattle.task_set.proofs.walks.finish_all.Goals as goal
 
 pub loop-task-preserved : goal.loop-task-preserved
 loop-task-preserved c =
-    mapped_more (moved (finished c.args.ticket)) c.args.tasks.now c.loop-task.tasks c.loop-task.task-index c.finish.new.self c.task-item.result (omega arith) c.loop-task.invariant c.finish.ensures
+    mapped_more (moved (finished c.args.ticket c.args.well)) c.args.tasks.now c.loop-task.tasks c.loop-task.task-index c.finish.new.self c.task-item.result (omega arith) c.loop-task.invariant c.finish.ensures

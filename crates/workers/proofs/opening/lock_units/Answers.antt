@@ -1,4 +1,4 @@
-use Rattle.std.proofs.Common.{rules, ℕ, ◌≡◌, ◌+◌, ◌*◌, [], vec_len, ap, sym, subst, arith}
+use Rattle.std.proofs.Common.{rules, ℕ, ◌≡◌, ◌+◌, ◌*◌, [], vec_len, List, ap, sym, ◌∙◌, subst, arith}
 use Rattle.std.specs.Prelude.{slice_get, Some}
 use Rattle.unit_model.specs.Steps.{Step}
 use Rattle.unit_model.specs.Unit.{PlainUnit}
@@ -10,15 +10,34 @@ use Rattle.workers.proofs.opening.lock_units.Goals as goal
 
 pub new-requires-in-loop-unit-clause-counted : goal.new-requires-in-loop-unit-clause-counted
 new-requires-in-loop-unit-clause-counted g c =
-    let none = (first_fresh _ _ c.in-Some.unit c.in-Some.ensures.steps.0 c.loop-unit.invariant.fresh).0 in
+    let none = (first_fresh _ _ c.in-Some.unit c.in-Some.ensures.steps.0 c.loop-unit.invariant.fresh).0.0 in
     let full : c.new.result.share.amount ≡ most_commits = search rules in
     omega (arith, full, ap commits_of none)
 
 pub new-requires-in-loop-unit-clause-acted : goal.new-requires-in-loop-unit-clause-acted
 new-requires-in-loop-unit-clause-acted g c =
-    let none = (first_fresh _ _ c.in-Some.unit c.in-Some.ensures.steps.0 c.loop-unit.invariant.fresh).0 in
+    let none = (first_fresh _ _ c.in-Some.unit c.in-Some.ensures.steps.0 c.loop-unit.invariant.fresh).0.0 in
     let zero : c.new-acts.result.share.amount ≡ 0 = search rules in
     subst (λ steps. c.new-acts.result.share.amount ≡ weight_of g.C.Weighing.weight (unit_address c.in-Some.unit.opening) steps) (sym none) zero
+
+pub new-requires-in-loop-unit-clause-resident : goal.new-requires-in-loop-unit-clause-resident
+new-requires-in-loop-unit-clause-resident g c =
+    (first_fresh _ _ c.in-Some.unit c.in-Some.ensures.steps.0 c.loop-unit.invariant.fresh).0.1
+
+pub loop-unit-init : goal.loop-unit-init
+loop-unit-init g c =
+    let gives = c.into_iter-unit-iterator.ensures.into_iter_gives in
+    let items : c.into_iter-unit-iterator.result.rest.items ≡ c.args.units.items = gives.0 in
+    record {
+      fresh = λ k u at. c.requires.fresh k u (ap (λ (us : List PlainUnit). slice_get us k) (sym items) ∙ at);
+      count = search rules;
+      room = search rules;
+      acts = search rules;
+      no_act = search rules;
+      receipts = search rules;
+      no_receipt = search rules;
+      book = search rules;
+    }
 
 pub loop-unit-preserved : goal.loop-unit-preserved
 loop-unit-preserved g c =

@@ -1,12 +1,12 @@
-use Rattle.std.specs.Prelude.{ℕ, ◌≡◌, ◌+◌, ◌*◌, ◌≤◌, [], length, slice_get, Some, vec_len}
+use Rattle.std.specs.Prelude.{ℕ, ◌≡◌, ◌+◌, ◌*◌, ◌≤◌, false, [], length, slice_get, Some, vec_len}
 use Rattle.std.specs.Vec.{vec_capacity}
-use Rattle.unit_model.specs.Unit.{PlainUnit}
+use Rattle.unit_model.specs.Unit.{PlainUnit, is_backed}
 use Rattle.lock_scopes.specs.Ledgers.{most_commits}
 use Rattle.workers.proofs.opening.lock_units.Given as goal
 
 abbrev pub invariant-loop-unit : goal.invariant-loop-unit
 invariant-loop-unit g l = record {
-  fresh : (k : ℕ) (u : PlainUnit) → slice_get l.unit-iterator.rest.items k ≡ Some u → u.steps ≡ [];
+  fresh : (k : ℕ) (u : PlainUnit) → slice_get l.unit-iterator.rest.items k ≡ Some u → (u.steps ≡ []) × (is_backed u ≡ false);
   count : vec_len l.locked + l.unit-iterator.rest.len ≡ length l.fn.units.items;
   room : length l.fn.units.items ≤ vec_capacity l.locked;
   acts : l.ledgers.acts.parts + vec_len l.locked ≡ l.fn.ledgers.acts.parts;

@@ -1,5 +1,5 @@
 use Rattle.std.proofs.Common.{rules}
-use Rattle.lock_scopes.proofs.Weights.{found, reset_made, reset_weighs}
+use Rattle.lock_scopes.proofs.Weights.{found, reset_made, reset_resident, reset_weighs}
 use Rattle.lock_scopes.proofs.counted.CountedUnit.hard.Goals as goal
 
 -- the act that was weighed is the step that the unit took
@@ -8,6 +8,7 @@ invariant_of-self-then-was_reset g c =
     let there = found _ _ _ _ c.as_slice.ensures.addresses c.in-Some.ensures.lookup.3.0 c.in-Some.ensures.lookup.1 in
     record {
       counted = search rules;
+      resident = reset_resident c.args.inventory.now c.args.at c.args.self.now.unit c.phase_hard-done.new.unit _ _ _ _ _ c.if-was_reset.true c.in_ok-was_reset.ensures c.args.self.now.resident;
       acted = reset_weighs g.C.Weighing.weight c.args.inventory.now c.args.at c.args.self.now.unit c.phase_hard-done.new.unit _ _ _ _ _ _ _ _ there c.if-was_reset.true c.in_ok-was_reset.ensures c.args.self.now.acted c.add.ensures.unit;
     }
 

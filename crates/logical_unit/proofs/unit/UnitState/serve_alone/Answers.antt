@@ -1,5 +1,8 @@
 use Rattle.std.proofs.Common.{◌≡◌, ◌≤◌, ◌+◌, ◌∷◌, false, Option, IfSome, ap, sym, ◌∙◌, arith, subst, refl}
 use Rattle.block_commands.specs.Inner.Told.{facts_of}
+use Rattle.cdb.specs.declared.commands.Command.{Command}
+use Rattle.logical_unit.specs.Fields.{plain_unit}
+use Rattle.logical_unit.specs.Inner.Calls.{writes_through}
 use Rattle.backed_store.specs.Disks as disks
 use Rattle.ring_core.specs.declared.log.Ticket.{Ticket}
 use Rattle.unit_model.specs.Endings.{Ending}
@@ -122,7 +125,8 @@ returns-clause-serves g c =
     subst (λ (x : Option Ledger). IfSome x (λ l. IsDurable (opening_of u) (Step.Enter c.args.arrival.now.entry ∷ u.log.steps) l c.args.arrival.now.entry))
     (hosted_ledger c.may_run.new.store u.store c.may_run.ensures.storage)
     (kept_durable (opening_of u) (Step.Enter c.args.arrival.now.entry ∷ u.log.steps) c.args.arrival.now.entry c.may_run.new.store on
-    (λ b. ap (λ f. f b) blocks ∙ c.self.invariant.kept.stored b) (c.may_run.ensures.flushed (c.if-not-may_run.false) flush))))
+    (λ b. ap (λ f. f b) blocks ∙ c.self.invariant.kept.stored b) (c.may_run.ensures.flushed (c.if-not-may_run.false) flush)))
+    (subst (λ (k : Command). writes_through (plain_unit u) k ≡ false) c.command.ensures (rw (← c.self.view_is) at (sym c.writes_through.ensures ∙ c.if-writes_through.false))))
 
 pub invariant_of-self-in_default : goal.invariant_of-self-in_default
 invariant_of-self-in_default g c =

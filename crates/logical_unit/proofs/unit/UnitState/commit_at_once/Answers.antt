@@ -1,0 +1,12 @@
+use Rattle.std.proofs.Common.{◌≡◌, false, sym, subst, ◌∙◌}
+use Rattle.cdb.specs.declared.commands.Command.{Command}
+use Rattle.logical_unit.specs.Inner.Calls.{writes_through}
+use Rattle.logical_unit.proofs.Through.{if_some, ran_commits, off_withheld}
+use Rattle.logical_unit.proofs.unit.UnitState.commit_at_once.Goals as goal
+
+pub returns-clause-step : goal.returns-clause-step
+returns-clause-step c =
+    let u = c.args.self.now in
+    let j = c.args.job.now in
+    let off = subst (λ (k : Command). writes_through u k ≡ false) c.command.ensures (sym c.writes_through.ensures ∙ c.if-writes_through.false) in
+    if_some c.run_ready.result _ _ (λ o ran. ran_commits u j o _ off ran (off_withheld u j off)) c.run_ready.ensures.step
