@@ -1,8 +1,9 @@
 -- Disks that are handed to a device, and back.
-use Rattle.std.proofs.Common.{◌≡◌, ℕ, ◌<◌, zero, suc, true, false, ◌&&◌, List, [], ◌∷◌, length, map, take, Option, Some, None, refl, sym, ap, ◌∙◌, subst, arith}
+use Rattle.std.proofs.Common.{◌≡◌, ℕ, ◌<◌, zero, suc, Bool, true, false, ◌&&◌, ◌||◌, List, [], ◌∷◌, length, map, take, Option, Some, None, refl, sym, ap, ◌∙◌, subst, arith}
 use Rattle.std.specs.Prelude.{slice_get, slice_set, is_some}
-use Rattle.std.specs.List.{list_all}
+use Rattle.std.specs.List.{list_all, list_any}
 use Rattle.std.proofs.lemmas.List.{length-map}
+use Rattle.backed_store.specs.Disks.{is_backed}
 use Rattle.backed_store.specs.declared.disk.Disk.{Disk as UnitDisk}
 use Rattle.request_intake.specs.declared.inventory.UnitSpec.{UnitSpec}
 use Rattle.unit_model.specs.Unit.{PlainUnit}
@@ -36,22 +37,45 @@ pub closed : (o : Option Served) (d : Served) (disks : List (Option UnitDisk)) (
 closed o d disks a after disks' there is = subst (λ (x : Option Served). Closes x disks a after disks') (sym there) is
 
 -- disks that fit are all there
-pub all_there : (units : List UnitSpec) (disks : List (Option UnitDisk)) → length disks ≡ length units → Fit units disks
-    → list_all is_some disks ≡ true
-all_there units [] many fit = refl
-all_there [] (x ∷ disks) many fit = absurd (omega (arith, many))
-all_there (u ∷ units) (None ∷ disks) many fit = absurd (fit zero u None refl refl)
-all_there (u ∷ units) (Some s ∷ disks) many fit =
-    all_there units disks (omega (arith, many)) (λ k v x at there. fit (suc k) v x at there)
+pub all_there : (is_live : Bool) (units : List UnitSpec) (disks : List (Option UnitDisk)) → length disks ≡ length units
+    → Fit is_live units disks → list_all is_some disks ≡ true
+all_there is_live units [] many fit = refl
+all_there is_live [] (x ∷ disks) many fit = absurd (omega (arith, many))
+all_there is_live (u ∷ units) (None ∷ disks) many fit = absurd (fit zero u None refl refl)
+all_there is_live (u ∷ units) (Some s ∷ disks) many fit =
+    all_there is_live units disks (omega (arith, many)) (λ k v x at there. fit (suc k) v x at there)
 
-pub are_for : (units : List UnitSpec) (disks : List (Option UnitDisk)) (stores : List UnitDisk) → length disks ≡ length units
-    → Fit units disks → disks ≡ map (λ s. Some s) stores → AreDisksFor units stores
-are_for units disks stores many fit are =
+pub are_for : (is_live : Bool) (units : List UnitSpec) (disks : List (Option UnitDisk)) (stores : List UnitDisk)
+    → length disks ≡ length units → Fit is_live units disks → disks ≡ map (λ s. Some s) stores → AreDisksFor units stores
+are_for is_live units disks stores many fit are =
     record {
       count = omega (arith, many, ap length are, length-map stores (λ s. Some s));
       each = λ k u s at there.
-          fit k u (Some s) at (ap (λ xs. slice_get xs k) are ∙ get_image (λ x. Some x) stores k s there);
+          (fit k u (Some s) at (ap (λ xs. slice_get xs k) are ∙ get_image (λ x. Some x) stores k s there)).0;
     }
+
+head : {X : Type 0} {x y : X} {xs ys : List X} → x ∷ xs ≡ y ∷ ys → x ≡ y
+head e = cc
+
+tail : {X : Type 0} {x y : X} {xs ys : List X} → x ∷ xs ≡ y ∷ ys → xs ≡ ys
+tail e = cc
+
+is_not : (b : Bool) → (b ≡ true → false ≡ true) → b ≡ false
+is_not true never = absurd (let f : false ≡ true = never refl in cc)
+is_not false never = refl
+
+-- where the device isn't on live memory, none has pages that come and go
+pub none_backed : (units : List UnitSpec) (disks : List (Option UnitDisk)) (stores : List UnitDisk) → length disks ≡ length units
+    → Fit false units disks → disks ≡ map (λ s. Some s) stores → list_any is_backed stores ≡ false
+none_backed units disks [] many fit are = refl
+none_backed units [] (s ∷ stores) many fit are = absurd (omega (arith, ap length are))
+none_backed [] (x ∷ disks) (s ∷ stores) many fit are = absurd (omega (arith, many))
+none_backed (u ∷ units) (x ∷ disks) (s ∷ stores) many fit are =
+    neither _ _ (is_not (is_backed s) (fit zero u (Some s) refl (ap (λ x. Some x) (head are))).1)
+    (none_backed units disks stores (omega (arith, many)) (λ k v y at there. fit (suc k) v y at there) (tail are))
+  where
+    neither : (a b : Bool) → a ≡ false → b ≡ false → (a || b) ≡ false
+    neither a b p q = cc
 
 -- a device gives as many disks as it has units
 pub as_many : (units : List PlainUnit) (stores : List UnitDisk) → AreDisksOf units stores → length stores ≡ length units
@@ -59,12 +83,6 @@ as_many [] [] are = refl
 as_many [] (s ∷ stores) are = absurd are
 as_many (u ∷ units) [] are = absurd are
 as_many (u ∷ units) (s ∷ stores) are = ap (λ n. suc n) (as_many units stores are.1)
-
-head : {X : Type 0} {x y : X} {xs ys : List X} → x ∷ xs ≡ y ∷ ys → x ≡ y
-head e = cc
-
-tail : {X : Type 0} {x y : X} {xs ys : List X} → x ∷ xs ≡ y ∷ ys → xs ≡ ys
-tail e = cc
 
 -- one more range is put
 pub put_next : (ranges : List Range) (room : List BlockRange) (k : ℕ) (b : BlockRange) → map range_of (take k room) ≡ take k ranges

@@ -113,31 +113,33 @@ SavesBlocks first count old new s a = ⊥
 abbrev pub Saves : ℕ → ℕ → List ℕ → List ℕ → UnitDisk → Answer → UnitDisk → Type 0
 Saves first count old new s a s' = SavesBlocks first count old new s a × IsUnchanged s s'
 
--- the device of a configuration that is taken, over disks, of which nobody was told anything
+-- the device of a configuration that is taken, over disks that are all in memory, of which nobody was told anything
 pub record MakesOver (c : Config) (stores : List UnitDisk) (d : Served) : Type 0 where
   pub taken : is_config c ≡ true
   pub disks : AreDisksFor c.units.items stores
+  pub resident : list_any is_backed stores ≡ false
   pub opening : IsOpeningOver c stores d.world
   pub opens : Opens d.world
   pub reaches : Reached d.world [] d.world
   pub told : d.told ≡ replicate 18 0
 
--- there is a disk that the unit may have
-abbrev pub Fits : UnitSpec → Option UnitDisk → Type 0
-Fits u None = ⊥
-Fits u (Some s) = IsDiskFor u s
+-- there is a disk that the unit may have: one whose pages come and go only where the device is on live memory, since no call
+-- loads or stores a page of another
+abbrev pub Fits : Bool → UnitSpec → Option UnitDisk → Type 0
+Fits is_live u None = ⊥
+Fits is_live u (Some s) = IsDiskFor u s × (is_backed s ≡ true → is_live ≡ true)
 
 -- the first unit that has no disk, or one that it may not have, stands at an index
-abbrev pub Lacks : List UnitSpec → List (Option UnitDisk) → ℕ → Type 0
-Lacks units disks unit_index = (u : UnitSpec) × (disk : Option UnitDisk) × (slice_get units unit_index ≡ Some u)
-    × (slice_get disks unit_index ≡ Some disk) × (Fits u disk → ⊥)
+abbrev pub Lacks : Bool → List UnitSpec → List (Option UnitDisk) → ℕ → Type 0
+Lacks is_live units disks unit_index = (u : UnitSpec) × (disk : Option UnitDisk) × (slice_get units unit_index ≡ Some u)
+    × (slice_get disks unit_index ≡ Some disk) × (Fits is_live u disk → ⊥)
     × ((k : ℕ) (v : UnitSpec) (other : Option UnitDisk) → k < unit_index → slice_get units k ≡ Some v
-    → slice_get disks k ≡ Some other → Fits v other)
+    → slice_get disks k ≡ Some other → Fits is_live v other)
 
 -- and that is told by the cause of number 13 and the unit's index
 pub record LacksDisk (c : Config) (disks : List (Option UnitDisk)) (told : Fault) : Type 0 where
   pub taken : is_config c ≡ true
-  pub lacks : Lacks c.units.items disks told.place
+  pub lacks : Lacks false c.units.items disks told.place
   pub named : plain_cause told ≡ record { cause = 13; place = told.place; detail = 0 }
 
 -- as `World::new_with`: the disks are the device's then; else all is as it was, but for why a configuration isn't taken

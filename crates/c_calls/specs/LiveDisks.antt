@@ -36,7 +36,7 @@ pub record MakesLiveOver (host_map : ℕ) (c : Config) (stores : List UnitDisk) 
 -- the first unit that has no disk, or one that it may not have, is told by the cause of number 13 and its index
 pub record LacksLiveDisk (c : Config) (disks : List (Option UnitDisk)) (told : Fault) : Type 0 where
   pub taken : is_config_for all_bytes c ≡ true
-  pub lacks : Lacks c.units.items disks told.place
+  pub lacks : Lacks true c.units.items disks told.place
   pub named : plain_cause told ≡ record { cause = 13; place = told.place; detail = 0 }
 
 -- as `LiveWorld::new_with`: the disks are the device's then; else all is as it was, but for why a configuration isn't taken

@@ -37,27 +37,33 @@ pub(crate) fn no_disk_at(unit_index: usize) -> Fault
     }
 }
 
-/// Returns true if a slot has a disk that a unit may have.
-fn has_disk_for(disk: &mut Disk, alloc: Global, unit: &UnitSpec) -> bool
-    ensures told { IsTrue result ↔ Fits unit.now (disk_at disk.old) }
+/// Returns true if a slot has a disk that a unit may have, of a device on live memory or of another.
+fn has_disk_for(disk: &mut Disk, alloc: Global, unit: &UnitSpec, is_live: bool) -> bool
+    ensures told { IsTrue result ↔ Fits is_live unit.now (disk_at disk.old) }
     ensures same { disk_at disk.new ≡ disk_at disk.old }
 {
     let Some(store) = disk.take(alloc) else {
         return false;
     };
-    let fits = is_disk_for(unit, &store);
+    let fits = is_disk_for(unit, &store) && (is_live || store.is_resident());
     disk.put(store);
     fits
 }
 
 /// Returns the index of the first unit that has no disk, or one that it may not have.
-pub(crate) fn lacking(units: &[UnitSpec], disks: &mut [Disk], alloc: Global) -> Option<usize>
+pub(crate) fn lacking(
+    units: &[UnitSpec],
+    disks: &mut [Disk],
+    alloc: Global,
+    is_live: bool,
+) -> Option<usize>
     requires { length disks.old ≡ length units.now }
-    ensures found { MatchOption result (Fit units.now (disks_at disks.old)) (λ unit_index. Lacks units.now (disks_at disks.old) unit_index) }
+    ensures found { MatchOption result (Fit is_live units.now (disks_at disks.old))
+        (λ unit_index. Lacks is_live units.now (disks_at disks.old) unit_index) }
     ensures same { disks_at disks.new ≡ disks_at disks.old }
 {
     for unit_index in 0..disks.len() {
-        if !has_disk_for(&mut disks[unit_index], alloc, &units[unit_index]) {
+        if !has_disk_for(&mut disks[unit_index], alloc, &units[unit_index], is_live) {
             return Some(unit_index);
         }
     }
@@ -109,7 +115,7 @@ pub fn create_with(
         *fault = fault_of(cause);
         return Answer::BadConfig;
     }
-    if let Some(unit_index) = lacking(config.units.as_slice(), disks, alloc) {
+    if let Some(unit_index) = lacking(config.units.as_slice(), disks, alloc, false) {
         *fault = no_disk_at(unit_index);
         return Answer::BadConfig;
     }

@@ -41,7 +41,7 @@ pub fn create_with(
         *fault = fault_of(cause);
         return Answer::BadConfig;
     }
-    if let Some(unit_index) = lacking(config.units.as_slice(), disks, alloc) {
+    if let Some(unit_index) = lacking(config.units.as_slice(), disks, alloc, true) {
         *fault = no_disk_at(unit_index);
         return Answer::BadConfig;
     }

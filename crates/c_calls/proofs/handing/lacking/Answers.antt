@@ -1,4 +1,4 @@
-use Rattle.std.proofs.Common.{arith, ◌≡◌, ◌⊎◌, inl, inr, sym, ap, subst, ◌∙◌, IsTrue, ℕ, ◌+◌, ◌<◌, List, Some, slice_get, slice_index_or}
+use Rattle.std.proofs.Common.{arith, ◌≡◌, ◌⊎◌, inl, inr, sym, ap, subst, ◌∙◌, IsTrue, Bool, ℕ, ◌+◌, ◌<◌, List, Some, slice_get, slice_index_or}
 use Rattle.std.specs.Prelude.{Option}
 use Rattle.std.proofs.lemmas.Option.{get_or_from_slice_get, slice_get_within}
 use Rattle.backed_store.specs.declared.disk.Disk.{Disk as UnitDisk}
@@ -12,10 +12,10 @@ below_or_at : (i n : ℕ) → i < n + 1 → (i < n) ⊎ (i ≡ n)
 below_or_at i n le = grind arith
 
 -- a disk that the unit at an index may have
-found : (units : List UnitSpec) (k : ℕ) (u d : UnitSpec) (x disk : Option UnitDisk) → slice_get units k ≡ Some u → x ≡ disk
-    → Fits (slice_index_or units k d) x → Fits u disk
-found units k u d x disk wanted is met =
-    subst (λ v. Fits v disk) (get_or_from_slice_get units k u d wanted) (subst (Fits (slice_index_or units k d)) is met)
+found : (is_live : Bool) (units : List UnitSpec) (k : ℕ) (u d : UnitSpec) (x disk : Option UnitDisk) → slice_get units k ≡ Some u → x ≡ disk
+    → Fits is_live (slice_index_or units k d) x → Fits is_live u disk
+found is_live units k u d x disk wanted is met =
+    subst (λ v. Fits is_live v disk) (get_or_from_slice_get units k u d wanted) (subst (Fits is_live (slice_index_or units k d)) is met)
 
 pub returns-then-not-has_disk_for-clause-same : goal.returns-then-not-has_disk_for-clause-same
 returns-then-not-has_disk_for-clause-same c =
@@ -33,7 +33,7 @@ loop-unit_index-preserved c =
       fit = λ k u disk less wanted there.
           elim (below_or_at k c.loop-unit_index.unit_index less) [
             | inl before ↦ c.loop-unit_index.invariant.fit k u disk before wanted there
-            | inr at ↦ found c.args.units.now c.loop-unit_index.unit_index u _ (disk_at (slice_index_or c.loop-unit_index.disks c.loop-unit_index.unit_index c.index-disks-unit_index.result)) disk
+            | inr at ↦ found c.args.is_live c.args.units.now c.loop-unit_index.unit_index u _ (disk_at (slice_index_or c.loop-unit_index.disks c.loop-unit_index.unit_index c.index-disks-unit_index.result)) disk
                 (subst (λ i. slice_get c.args.units.now i ≡ Some u) at wanted)
                 (reads disk_at c.loop-unit_index.disks c.loop-unit_index.unit_index c.index-disks-unit_index.result disk
                 (ap (λ xs. slice_get xs c.loop-unit_index.unit_index) c.loop-unit_index.invariant.same

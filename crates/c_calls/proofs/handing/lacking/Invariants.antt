@@ -11,6 +11,6 @@ invariant-loop-unit_index l =
     record {
       same : disks_at l.disks ≡ disks_at l.fn.disks;
       fit : (k : ℕ) (u : UnitSpec) (disk : Option UnitDisk) → k < l.unit_index → slice_get l.units k ≡ Some u
-          → slice_get (disks_at l.fn.disks) k ≡ Some disk → Fits u disk;
+          → slice_get (disks_at l.fn.disks) k ≡ Some disk → Fits l.is_live u disk;
       all : l.unit_index-end ≡ length l.disks;
     }

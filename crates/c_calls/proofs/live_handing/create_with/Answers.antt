@@ -36,8 +36,8 @@ returns-in-Some-lacking c =
       inr (record {
         taken = sym c.in_default-fault_for.ensures.none;
         lacks =
-            subst (λ k. Lacks c.in-Ok.config.units.items (disks_at c.args.disks.now) k) (sym (ap (λ (x : Cause). x.place) c.no_disk_at.ensures))
-            (subst (λ us. Lacks us (disks_at c.args.disks.now) c.in-Some-lacking.unit_index) c.as_slice.ensures.value c.in-Some-lacking.ensures.found);
+            subst (λ k. Lacks true c.in-Ok.config.units.items (disks_at c.args.disks.now) k) (sym (ap (λ (x : Cause). x.place) c.no_disk_at.ensures))
+            (subst (λ us. Lacks true us (disks_at c.args.disks.now) c.in-Some-lacking.unit_index) c.as_slice.ensures.value c.in-Some-lacking.ensures.found);
         named =
             c.no_disk_at.ensures
             ∙ ap (λ k. record { cause = 13; place = k; detail = 0 }) (sym (ap (λ (x : Cause). x.place) c.no_disk_at.ensures));
@@ -53,8 +53,8 @@ returns-in_default-open c =
 
 pub take_out-stores-requires-clause-there : goal.take_out-stores-requires-clause-there
 take_out-stores-requires-clause-there c =
-    let fit : Fit c.in-Ok.config.units.items (disks_at c.args.disks.now) =
-    subst (λ (us : _). Fit us (disks_at c.args.disks.now)) c.as_slice.ensures.value c.in_default-lacking.ensures.found in
+    let fit : Fit true c.in-Ok.config.units.items (disks_at c.args.disks.now) =
+    subst (λ (us : _). Fit true us (disks_at c.args.disks.now)) c.as_slice.ensures.value c.in_default-lacking.ensures.found in
     let many : length (disks_at c.args.disks.now) ≡ length c.in-Ok.config.units.items =
     omega (
       arith,
@@ -63,15 +63,15 @@ take_out-stores-requires-clause-there c =
       ap (λ us. length us) c.in-Ok.ensures.units_are,
       length-map c.args.units.now spec_of,
     ) in
-    subst (λ ds. list_all is_some ds ≡ true) (sym c.in_default-lacking.ensures.same) (all_there _ _ many fit)
+    subst (λ ds. list_all is_some ds ≡ true) (sym c.in_default-lacking.ensures.same) (all_there _ _ _ many fit)
 
 pub open-requires : goal.open-requires
 open-requires c = sym c.in_default-fault_for.ensures.none
 
 pub hand_in-requires : goal.hand_in-requires
 hand_in-requires c =
-    let fit : Fit c.in-Ok.config.units.items (disks_at c.args.disks.now) =
-    subst (λ (us : _). Fit us (disks_at c.args.disks.now)) c.as_slice.ensures.value c.in_default-lacking.ensures.found in
+    let fit : Fit true c.in-Ok.config.units.items (disks_at c.args.disks.now) =
+    subst (λ (us : _). Fit true us (disks_at c.args.disks.now)) c.as_slice.ensures.value c.in_default-lacking.ensures.found in
     let many : length (disks_at c.args.disks.now) ≡ length c.in-Ok.config.units.items =
     omega (
       arith,
@@ -91,15 +91,15 @@ hand_in-requires c =
             config = c.in-Ok.config;
             taken = subst (λ n. is_config_for n c.in-Ok.config ≡ true) (sym size) made.taken;
             opening = subst (λ n. IsOpeningApart n c.in-Ok.config d.world.device) (sym size) made.opening;
-            are = are_for _ _ _ many fit (sym c.in_default-lacking.ensures.same ∙ c.take_out-stores.ensures.were);
+            are = are_for _ _ _ _ many fit (sym c.in_default-lacking.ensures.same ∙ c.take_out-stores.ensures.were);
           });
     }
 
 pub returns : goal.returns
 returns c =
     let none = absent _ (sym c.is_there.ensures ∙ c.if-is_there.false) in
-    let fit : Fit c.in-Ok.config.units.items (disks_at c.args.disks.now) =
-    subst (λ (us : _). Fit us (disks_at c.args.disks.now)) c.as_slice.ensures.value c.in_default-lacking.ensures.found in
+    let fit : Fit true c.in-Ok.config.units.items (disks_at c.args.disks.now) =
+    subst (λ (us : _). Fit true us (disks_at c.args.disks.now)) c.as_slice.ensures.value c.in_default-lacking.ensures.found in
     let many : length (disks_at c.args.disks.now) ≡ length c.in-Ok.config.units.items =
     omega (
       arith,
@@ -123,7 +123,7 @@ returns c =
         over = ap (λ m. map_of (bus_of m)) c.hand_in.ensures.memory ∙ ap (λ d. map_of (bus_of d.world.memory)) same ∙ made.over;
         taken = made.taken;
         size = is;
-        disks = are_for _ _ _ many fit (sym c.in_default-lacking.ensures.same ∙ c.take_out-stores.ensures.were);
+        disks = are_for _ _ _ _ many fit (sym c.in_default-lacking.ensures.same ∙ c.take_out-stores.ensures.were);
         opening =
             subst (λ n. IsOpeningOverApart n c.in-Ok.config c.take_out-stores.result.items new.device) was
             (c.hand_in.ensures.over c.in-Ok.config
