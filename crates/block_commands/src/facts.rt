@@ -23,6 +23,8 @@ pub struct UnitFacts {
     pub profile: Profile,
     /// Names the unit to a host, as its configuration has it.
     pub identity: Identity,
+    /// True if its disk is one whose pages come and go.
+    pub backed: bool,
     // There are no more LUNs than flat space addresses tell apart (SAM-5 §4.7.7.3).
     ghost few: { length luns.items ≤ 16384 },
     ghost numbered: { number ≡ number_of address },

@@ -11,7 +11,7 @@ use Rattle.command_model.specs.Capacity.{is_in_range}
 use Rattle.command_model.specs.Facts.{Facts}
 use Rattle.command_model.specs.PlainReply.{PlainReply, refusal, sent_in}
 use Rattle.command_model.specs.Provisioning.{looked_at}
-use Rattle.command_model.specs.Replies.{cache_told, format_told, is_protected, unmap_answer}
+use Rattle.command_model.specs.Replies.{format_told, is_protected, unmap_answer}
 use Rattle.command_model.specs.UnmapList.{descriptors}
 
 -- own: a range that lies below the capacity has a block in page p, of blocks 8 p to 8 p + 7
@@ -67,9 +67,9 @@ abbrev pub unread : Facts → Command → ℕ → PlainReply
 unread facts command p = sent_in (format_told facts) (refusal (unrecovered_read_error (max (first_named command) (8 * p))))
 
 -- own: a command that meets no attention, and isn't refused by a read-only unit, ends so where it needs page p; only at a unit
--- that tells of a volatile write cache, since no other has pages that come and go
+-- whose disk is one whose pages come and go
 pub record IsUnread (facts : Facts) (command : Command) (bytes : List ℕ) (p : ℕ) (r : PlainReply) : Type 0 where
-  pub cached : cache_told facts ≡ true
+  pub backed : facts.backed ≡ true
   pub unmet : met command facts.pending ≡ None
   pub unprotected : is_protected facts command ≡ false
   pub needed : needs_page facts.capacity command bytes p ≡ true

@@ -1,5 +1,5 @@
 -- The units that a configuration opens with.
-use Rattle.std.specs.Prelude.{ℕ, ◌≡◌, Bool, List, [], length, map, slice_get, Some}
+use Rattle.std.specs.Prelude.{ℕ, ◌≡◌, Bool, false, List, [], length, map, slice_get, Some}
 use Rattle.unit_model.specs.Contents.{Opening}
 use Rattle.unit_model.specs.Unit.{PlainUnit}
 use Rattle.unit_model.specs.Unit as unit
@@ -19,6 +19,7 @@ opening_of inventory u =
       content = [];
       profile = u.profile;
       identity = u.identity;
+      backed = false;
     }
 
 -- a unit of which no step was taken, and whether it keeps the replies of its Commits

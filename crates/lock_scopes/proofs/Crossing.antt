@@ -94,7 +94,7 @@ log_sends : IsSend log_row
 log_sends = search (sendable, log_fields)
 
 facts_sends : IsSend facts_field.row
-facts_sends = struct_send (shape facts_type) (search sendable, (search sendable, (search crosses depth 30, (option_sends sense_row (search sendable depth 30), (search sendable depth 30, (search sendable depth 60 fits 50000, tt))))))
+facts_sends = struct_send (shape facts_type) (search sendable, (search sendable, (search crosses depth 30, (option_sends sense_row (search sendable depth 30), (search sendable depth 30, (search sendable depth 60 fits 50000, (search sendable, tt)))))))
 
 base_fields : IsSend base.the_row
 base_fields = recorded_send base.the_field.row _ _ base.the_type.to_one

@@ -1,5 +1,5 @@
 -- What the parts of a unit are after each of its steps.
-use Rattle.std.proofs.Common.{◌≡◌, ◌==◌, ℕ, ◌+◌, ◌<◌, ◌≤◌, min, nat_lt, true, false, ◌||◌, eqb, cond, List, [], ◌∷◌, ◌++◌, map, length, Option, Some, None, is_some, refl, sym, ◌∙◌, ap, subst, arith}
+use Rattle.std.proofs.Common.{◌≡◌, ◌==◌, ℕ, ◌+◌, ◌<◌, ◌≤◌, min, nat_lt, Bool, true, false, ◌||◌, eqb, cond, List, [], ◌∷◌, ◌++◌, map, length, Option, Some, None, is_some, refl, sym, ◌∙◌, ap, subst, arith}
 use Rattle.std.specs.Option.{option_map}
 use Rattle.ring_core.specs.declared.log.Ticket.{Ticket}
 use Rattle.sense.specs.declared.Sense.{Sense}
@@ -62,11 +62,11 @@ after_same command bytes code f g b same =
     ap (λ (x : List ℕ). block_after command bytes code (λ n. x) b) same
 
 same_facts : (target target' lun lun' : ℕ) (luns luns' : List ℕ) (size size' : ℕ) (first first' : Option Sense)
-    (profile profile' : Profile) (identity identity' : Identity)
-    → target ≡ target' → lun ≡ lun' → luns ≡ luns' → size ≡ size' → first ≡ first' → profile ≡ profile' → identity ≡ identity'
-    → let f : Facts = record { target = target; lun = lun; luns = luns; capacity = size; pending = first; profile = profile; identity = identity } in
-    let g : Facts = record { target = target'; lun = lun'; luns = luns'; capacity = size'; pending = first'; profile = profile'; identity = identity' } in f ≡ g
-same_facts target target' lun lun' luns luns' size size' first first' profile profile' identity identity' a b c d e h i = cc
+    (profile profile' : Profile) (identity identity' : Identity) (backed backed' : Bool)
+    → target ≡ target' → lun ≡ lun' → luns ≡ luns' → size ≡ size' → first ≡ first' → profile ≡ profile' → identity ≡ identity' → backed ≡ backed'
+    → let f : Facts = record { target = target; lun = lun; luns = luns; capacity = size; pending = first; profile = profile; identity = identity; backed = backed } in
+    let g : Facts = record { target = target'; lun = lun'; luns = luns'; capacity = size'; pending = first'; profile = profile'; identity = identity'; backed = backed' } in f ≡ g
+same_facts target target' lun lun' luns luns' size size' first first' profile profile' identity identity' backed backed' a b c d e h i j = cc
 
 -- Of a unit whose parts are what its history says:
 module _ {o : Opening} {past : List Step} {block_at : Blocks} {pending : List Code} {tasks : List PlainTask} {last_tickets : List (Option ℕ)} {room : ℕ}
@@ -137,12 +137,12 @@ module _ {o : Opening} {past : List Step} {block_at : Blocks} {pending : List Co
 
   -- what a command is told is what the history says of the unit
   pub told_is : (facts : UnitFacts) (size : ℕ) → facts.address.target ≡ o.target → facts.address.lun ≡ o.lun → facts.luns.items ≡ o.luns → facts.profile ≡ o.profile
-      → facts.identity ≡ o.identity
+      → facts.identity ≡ o.identity → facts.backed ≡ o.backed
       → size ≡ capacity_of o past
       → facts_of (told facts pending) size ≡ facts_after o past
-  told_is facts size target lun luns profile identity blocks =
+  told_is facts size target lun luns profile identity backed blocks =
       same_facts facts.address.target o.target facts.address.lun o.lun facts.luns.items o.luns size (capacity_of o past) (oldest pending) (oldest (pending_of o past))
-      facts.profile o.profile facts.identity o.identity target lun luns blocks (ap oldest k.pends) profile identity
+      facts.profile o.profile facts.identity o.identity facts.backed o.backed target lun luns blocks (ap oldest k.pends) profile identity backed
 
   -- parts that say the same, with no less room
   pub keep_same : (block_at' : Blocks) (pending' : List Code) (last_tickets' : List (Option ℕ)) (room' : ℕ)

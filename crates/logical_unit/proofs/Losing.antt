@@ -10,7 +10,7 @@ use Rattle.command_model.specs.Attention.{is_stopped, met}
 use Rattle.command_model.specs.Facts.{Facts}
 use Rattle.command_model.specs.Failing.{needs_page, unread}
 use Rattle.command_model.specs.PlainReply.{PlainReply}
-use Rattle.command_model.specs.Replies.{cache_told, is_protected}
+use Rattle.command_model.specs.Replies.{is_protected}
 use Rattle.unit_log.specs.Inner.Kept.{kept_reply}
 use Rattle.logical_unit.specs.Inner.Performing.{PlainPerformed, RanUnread, taken}
 
@@ -27,14 +27,14 @@ none_met command pending none = elim (is_stopped command) as (λ b. cond b pendi
 
 -- it ends so
 pub ran_unread : (keeps : Bool) (facts : Facts) (lost : ℕ → Type 0) (command : Command) (bytes : List ℕ) (page : ℕ) (p : PlainPerformed)
-    (blocks blocks' : Blocks) (pending pending' : List Code) → cache_told facts ≡ true → facts.pending ≡ None → is_protected facts command ≡ false
+    (blocks blocks' : Blocks) (pending pending' : List Code) → facts.backed ≡ true → facts.pending ≡ None → is_protected facts command ≡ false
     → needs_page facts.capacity command bytes page ≡ true → p.reply ≡ unread facts command page → lost page
     → p.kept ≡ kept_reply keeps p.reply → ((b : ℕ) → blocks' b ≡ blocks b) → pending' ≡ taken command pending
     → RanUnread keeps facts lost command bytes p blocks blocks' pending pending'
-ran_unread keeps facts lost command bytes page p blocks blocks' pending pending' cached calm writable needed is is_lost kept stored pends =
+ran_unread keeps facts lost command bytes page p blocks blocks' pending pending' backed calm writable needed is is_lost kept stored pends =
     record {
       page = page;
-      unread = record { cached = cached; unmet = none_met command facts.pending calm; unprotected = writable; needed = needed; is = is };
+      unread = record { backed = backed; unmet = none_met command facts.pending calm; unprotected = writable; needed = needed; is = is };
       is_lost = is_lost;
       kept = kept;
       stored = stored;

@@ -1,5 +1,5 @@
 -- The blocks that a unit opens with.
-use Rattle.std.proofs.Common.{◌≡◌, ℕ, zero, suc, ◌+◌, ◌*◌, ◌<◌, ◌≤◌, true, false, cond, nat_lt, List, [], ◌++◌, length, take, drop, Option, refl, sym, ◌∙◌, ap, subst, arith}
+use Rattle.std.proofs.Common.{◌≡◌, ℕ, zero, suc, ◌+◌, ◌*◌, ◌<◌, ◌≤◌, true, false, cond, nat_lt, Bool, List, [], ◌++◌, length, take, drop, Option, refl, sym, ◌∙◌, ap, subst, arith}
 use Rattle.std.proofs.Math.Seq.{take-append_seam, drop-append-add}
 use Rattle.std.proofs.lemmas.Bool.{ltb-true, ltb-false}
 use Rattle.std.proofs.lemmas.List.{drop_all}
@@ -64,12 +64,12 @@ kept_new o block_at pending last_tickets room steps tasks none idle pends stored
     (subst (λ ts. AreKept o [] block_at pending ts last_tickets room) (sym idle) (keep_new o block_at pending last_tickets room pends stored floors))
 
 -- a unit of which no step was taken opens with other blocks
-pub opens_again : (o : Opening) (blocks : ℕ) (content : List ℕ) (old new : Blocks) (pending : List Code) (last_tickets : List (Option ℕ)) (room : ℕ)
+pub opens_again : (o : Opening) (blocks : ℕ) (content : List ℕ) (backed : Bool) (old new : Blocks) (pending : List Code) (last_tickets : List (Option ℕ)) (room : ℕ)
     (steps : List Step) (tasks : List PlainTask) → steps ≡ [] → AreKept o steps old pending tasks last_tickets room
     → ((b : ℕ) → new b ≡ blocks_in content b)
-    → AreKept (record o { blocks = blocks; content = content }) steps new pending tasks last_tickets room
-opens_again o blocks content old new pending last_tickets room steps tasks none is stored =
-    subst (λ w. AreKept (record o { blocks = blocks; content = content }) w new pending tasks last_tickets room) (sym none)
+    → AreKept (record o { blocks = blocks; content = content; backed = backed }) steps new pending tasks last_tickets room
+opens_again o blocks content backed old new pending last_tickets room steps tasks none is stored =
+    subst (λ w. AreKept (record o { blocks = blocks; content = content; backed = backed }) w new pending tasks last_tickets room) (sym none)
     (let here = subst (λ w. AreKept o w old pending tasks last_tickets room) none is in
     record { lawful = tt; stored = stored; pends = here.pends; set = here.set; fit = here.fit; floors = here.floors; reserved = here.reserved })
 

@@ -12,9 +12,9 @@ use Rattle.unit_model.specs.Unit.{PlainUnit}
 abbrev pub disk_bytes : Disk → List ℕ
 disk_bytes disk = run (disks.blocks_of disk) 0 (disks.size_of disk)
 
--- what a unit opens with, but with the blocks of a disk, and as many
+-- what a unit opens with, but with a disk: its blocks, as many, and whether its pages come and go
 abbrev pub opening_over : Disk → Opening → Opening
-opening_over disk o = record o { blocks = disks.size_of disk; content = disk_bytes disk }
+opening_over disk o = record o { blocks = disks.size_of disk; content = disk_bytes disk; backed = disks.is_backed disk }
 
 -- what its host's storage has then, if the disk's pages come and go: what it had, cut off at the disk's end
 abbrev pub storage_over : Disk → Option Ledger

@@ -24,6 +24,7 @@ opening_of u =
       content = content_of u.opened.items;
       profile = u.facts.profile;
       identity = u.facts.identity;
+      backed = u.facts.backed;
     }
 
 abbrev pub plain_unit : Inside → PlainUnit

@@ -47,7 +47,7 @@ fn lost_page(
 
 /// Ends a command that waits for a page which its unit's host can't read, with MEDIUM ERROR. The page is forgotten, so that
 /// the next command that needs it has it asked for again. `None`, with nothing changed, where the command needs no such
-/// page: so always at a unit that tells of no write cache.
+/// page: so always at a unit whose disk is in memory.
 #[inline(never)]
 pub(crate) fn fail(
     alloc: Global,
@@ -67,7 +67,7 @@ pub(crate) fn fail(
     ensures storage { ⟦<Disk as Store>⟧.storage store.new ≡ ⟦<Disk as Store>⟧.storage store.old }
     ensures fits { IfSome result (λ p. length p.reply.payload.items ≤ (need_of command.now).into) }
 {
-    if !facts.cache_told() || facts.pending.is_some() {
+    if !facts.backed || facts.pending.is_some() {
         return None;
     }
     let (page, reply) = lost_page(alloc, facts, store, command, bytes)?;

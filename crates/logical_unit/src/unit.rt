@@ -155,7 +155,7 @@ fn cut_off(disk: Disk) -> Disk
 }
 
 impl UnitState {
-    ghost use Rattle.std.specs.Prelude.{◌≡◌, ◌+◌, ◌≤◌, [], length, IfOk, IfErr, OnOk, OnErr};
+    ghost use Rattle.std.specs.Prelude.{◌≡◌, ◌+◌, ◌≤◌, [], false, length, IfOk, IfErr, OnOk, OnErr};
     ghost use Rattle.unit_attention.specs.Code.{IsKnown};
     ghost use Rattle.unit_model.specs.Tasks.{task_of};
     ghost use Rattle.unit_model.specs.Steps.{Step, alive};
@@ -183,6 +183,7 @@ impl UnitState {
           content = [];
           profile = spec.now.profile;
           identity = spec.now.identity;
+          backed = false;
         }) keeps_replies) }
     {
         let luns = Vec::from_slice(alloc, luns)?;
@@ -195,6 +196,7 @@ impl UnitState {
                 pending: None,
                 profile: spec.profile,
                 identity: spec.identity,
+                backed: false,
             },
             calm: spec.calm,
             attentions: attentions_at_start(spec.calm),
@@ -221,6 +223,7 @@ impl UnitState {
     {
         self.opened = Record::new().and(&disk);
         self.opening_blocks = disk.capacity();
+        self.facts.backed = !disk.is_resident();
         self.store = cut_off(disk);
         self.fence = None;
     }

@@ -6,7 +6,6 @@ use Rattle.block_store.specs.Storage.{Ledger, Dealing, and_then, is_lost, IsLost
 use Rattle.block_store.proofs.Losing.{load-last, keep-last}
 use Rattle.ring_core.specs.declared.log.Ticket.{Ticket}
 use Rattle.command_model.specs.PlainReply.{PlainReply}
-use Rattle.command_model.specs.Replies.{cache_told}
 use Rattle.unit_model.specs.Tasks.{Entry, task_of}
 use Rattle.unit_model.specs.Steps.{Step, alive}
 use Rattle.unit_model.specs.Contents.{Opening, blocks_of, block_with, facts_after, reply_after, IsUnreadAfter, MayReply}
@@ -24,11 +23,11 @@ unread_blocks o e t past p r b h =
     ap (λ (x : PlainReply). block_with (task_of t (alive past)) x.status (blocks_of o past) b) h.is
     ∙ none_with (task_of t (alive past)) (blocks_of o past) b
 
--- a unit that tells of no cache never replies so
-pub uncached_replies : (o : Opening) (e : Entry) (past : List Step) (r : PlainReply) → MayReply o e past r
-    → cache_told (facts_after o past) ≡ false → r ≡ reply_after o e past
-uncached_replies o e past r (inl is) uncached = is
-uncached_replies o e past r (inr h) uncached = absurd (let f : false ≡ true = sym uncached ∙ h.1.cached in cc)
+-- a unit whose disk is in memory never replies so
+pub resident_replies : (o : Opening) (e : Entry) (past : List Step) (r : PlainReply) → MayReply o e past r
+    → o.backed ≡ false → r ≡ reply_after o e past
+resident_replies o e past r (inl is) resident = is
+resident_replies o e past r (inr h) resident = absurd (let f : false ≡ true = sym resident ∙ h.1.backed in cc)
 
 -- what a unit replies is what its history may reply
 pub weaker : (u : PlainUnit) (e : Entry) (r : PlainReply) → Replies u e r → MayReply u.opening e u.steps r

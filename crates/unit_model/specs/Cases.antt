@@ -1,5 +1,5 @@
 -- Small histories, which show what the definitions say.
-use Rattle.std.specs.Prelude.{ℕ, ◌+◌, true, List, [], ◌∷◌}
+use Rattle.std.specs.Prelude.{ℕ, ◌+◌, true, false, List, [], ◌∷◌}
 use Rattle.cdb.specs.declared.commands.Command.TheVariants.{TestUnitReady, Read, Write}
 use Rattle.cdb.specs.declared.profile.Profile.TheVariants.{Narrow}
 use Rattle.request_intake.specs.declared.attribute.TaskAttribute.{TaskAttribute}
@@ -11,9 +11,20 @@ use Rattle.unit_model.specs.Tasks.{Entry}
 use Rattle.unit_model.specs.Steps.{Step}
 use Rattle.unit_model.specs.Contents.{Opening}
 
--- a calm unit of 1,000 blocks at address 0:0, of the narrow profile
+-- a calm unit of 1,000 blocks in memory at address 0:0, of the narrow profile
 abbrev pub calm_unit : Opening
-calm_unit = record { target = 0; lun = 0; luns = 0 ∷ []; blocks = 1000; calm = true; content = []; profile = Narrow; identity = plain_identity }
+calm_unit =
+    record {
+      target = 0;
+      lun = 0;
+      luns = 0 ∷ [];
+      blocks = 1000;
+      calm = true;
+      content = [];
+      profile = Narrow;
+      identity = plain_identity;
+      backed = false;
+    }
 
 -- the chain of this number of queue 2
 abbrev pub nth : ℕ → Ticket

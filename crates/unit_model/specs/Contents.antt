@@ -19,8 +19,8 @@ use Rattle.unit_model.specs.Tasks.{Entry, task_of}
 use Rattle.unit_model.specs.Steps.{Step, alive}
 
 -- own: what a unit opens with: its address, the LUNs of its target by rising number, its capacity in blocks, whether
--- nothing is pending, the bytes of its blocks, end to end, its profile, and what its configuration says of it; bytes that
--- lack are zeros
+-- nothing is pending, the bytes of its blocks, end to end, its profile, what its configuration says of it, and whether its
+-- disk is one whose pages come and go; bytes that lack are zeros
 pub record Opening : Type 0 where
   pub target : ℕ
   pub lun : ℕ
@@ -30,6 +30,7 @@ pub record Opening : Type 0 where
   pub content : List ℕ
   pub profile : Profile
   pub identity : Identity
+  pub backed : Bool
 
 -- own: how many blocks a unit may have
 abbrev pub is_capacity : ℕ → Bool
@@ -94,6 +95,7 @@ facts_after o h =
       pending = oldest (pending_of o h);
       profile = o.profile;
       identity = o.identity;
+      backed = o.backed;
     }
 
 -- the reply to a task whose command runs next (SBC-3 §5, SPC-4 §6)

@@ -26,4 +26,5 @@ facts_of u blocks =
       pending = u.pending;
       profile = u.profile;
       identity = u.identity;
+      backed = u.backed;
     }

@@ -5,7 +5,7 @@ ghost use Rattle.std.specs.Option.{option_map};
 ghost use Rattle.ring_core.specs.declared.log.Ticket.{Ticket};
 ghost use Rattle.command_model.specs.PlainReply.{PlainReply};
 ghost use Rattle.command_model.specs.Statuses.{check_condition};
-ghost use Rattle.command_model.specs.Replies.{cache_told, format_told};
+ghost use Rattle.command_model.specs.Replies.{format_told};
 ghost use Rattle.command_model.specs.Failing.{first_named};
 ghost use Rattle.sense.specs.Conditions.{unrecovered_read_error};
 ghost use Rattle.sense.specs.Format.{in_format};
@@ -18,7 +18,7 @@ ghost use Rattle.block_store.specs.Storage.{Dealing};
 ghost use Rattle.unit_model.specs.Unit.{PlainUnit, is_backed, HasLost, Replies, MayCommit, dealing};
 
 /// A command that needs a page which can't be read ends with CHECK CONDITION and UNRECOVERED READ ERROR, and changes no
-/// block. No unit replies so that tells of no volatile write cache.
+/// block. No unit replies so whose disk is in memory.
 pub fn what_cant_be_read_changes_nothing()
     ensures status { (o : Opening) (e : Entry) (past : List Step) (p : ℕ) (r : PlainReply) → IsUnreadAfter o e past p r →
         r.status ≡ check_condition }
@@ -26,8 +26,8 @@ pub fn what_cant_be_read_changes_nothing()
         r.sense ≡ Some (in_format (format_told (facts_after o past)) (unrecovered_read_error (max (first_named e.command) (8 * p)))) }
     ensures blocks { (o : Opening) (e : Entry) (t : Ticket) (past : List Step) (p : ℕ) (r : PlainReply) (b : ℕ) →
         IsUnreadAfter o e past p r → blocks_of o (Step.Commit t r ∷ past) b ≡ blocks_of o past b }
-    ensures cached { (o : Opening) (e : Entry) (past : List Step) (r : PlainReply) → MayReply o e past r →
-        cache_told (facts_after o past) ≡ false → r ≡ reply_after o e past }
+    ensures resident { (o : Opening) (e : Entry) (past : List Step) (r : PlainReply) → MayReply o e past r → o.backed ≡ false →
+        r ≡ reply_after o e past }
 {}
 
 /// A unit replies as the history says but where its host said of a page that it can't read it. So a unit whose disk is in

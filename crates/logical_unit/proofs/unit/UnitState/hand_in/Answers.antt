@@ -13,7 +13,7 @@ invariant_of-self c =
     let opened : c.and-self-inside.result.items ≡ d ∷ [] = c.and-self-inside.ensures ∙ ap (λ w. w ++ d ∷ []) c.new.ensures in
     let fresh : c.self.inside.log.steps ≡ [] = ap (λ (u : PlainUnit). u.steps) c.self.view_is ∙ c.requires.fresh in
     record {
-      kept = opens_again _ _ _ _ _ _ _ _ _ _ fresh c.self.invariant.kept
+      kept = opens_again _ _ _ _ _ _ _ _ _ _ _ fresh c.self.invariant.kept
           (λ b.
           c.cut_off.ensures.blocks b ∙ content_blocks (disks.blocks_of d) (disks.size_of d) b (disks.length-block d)
           ∙ ap (λ w. blocks_in (content_of w) b) (sym opened));

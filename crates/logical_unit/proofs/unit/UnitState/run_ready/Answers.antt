@@ -86,7 +86,7 @@ invariant_of-self-in-Ready c =
           (facts_of (told c.self.inside.facts c.self.inside.attentions) (disks.size_of store)) (IsLostIn (disks.storage_of store))
           (option_map performed_of c.in-Ok.performed) _ _ _
           (is_ready kept c.ticket-ticket.result c.in-Some.task.now at turns.1 turns.2 turns.3)
-          (told_is kept c.self.inside.facts (disks.size_of store) refl refl refl refl refl sized)
+          (told_is kept c.self.inside.facts (disks.size_of store) refl refl refl refl refl refl sized)
           (rw (c.command-command.ensures, c.data-bytes.ensures.data) at c.in-Ok.ensures.performed) c.record_run.ensures.room);
       based =
           based_on _ _ n _ (step_for c.ticket-ticket.result _) c.self.inside.log.steps _ (seen_of c.self.inside.tasks) _ c.self.invariant.based (ran_folds c.ticket-ticket.result _)
@@ -151,7 +151,7 @@ returns-in-Ok-clause-step c =
     (disks.blocks_of c.perform_if_ready.new.store) c.perform_if_ready.new.attentions (hosted_ledger _ store c.perform_if_ready.ensures.storage ∙ c.has_to_wait.ensures.storage)
     (is_of kept c.args.job.now c.in-Some.task.now at turns.0)
     (is_ready kept c.args.job.now.entry.ticket c.in-Some.task.now at turns.1 turns.2 turns.3)
-    (told_is kept c.self.inside.facts (disks.size_of store) refl refl refl refl refl (c.has_to_wait.ensures.size ∙ c.self.invariant.sized))
+    (told_is kept c.self.inside.facts (disks.size_of store) refl refl refl refl refl refl (c.has_to_wait.ensures.size ∙ c.self.invariant.sized))
     (came_on _ _ _ _ _ _ _ _ _ _ _ c.has_to_wait.ensures.storage (rw keeps (rw (c.command-command.ensures, c.data-bytes.ensures.data) at c.in-Ok.ensures.performed)))
     (λ r ends flush.
     let is = rw (← c.command-command.ensures) at flush in

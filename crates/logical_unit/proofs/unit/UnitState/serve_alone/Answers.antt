@@ -50,7 +50,7 @@ invariant_of-self-2 g c =
           c.self.invariant.kept (no_tasks u.tasks (omega (arith, c.len.ensures.value, c.if-len-gt0.false))) c.args.arrival.now
           c.came.new.self le came (left + 2) (omega (arith, room, less))
           (facts_of (told u.facts u.attentions) (disks.size_of u.store)) (unkept c.run_and_answer-ran.result) (disks.blocks_of c.run_and_answer-ran.new.store)
-          c.run_and_answer-ran.new.attentions (told_is c.self.invariant.kept u.facts (disks.size_of u.store) refl refl refl refl refl c.self.invariant.sized)
+          c.run_and_answer-ran.new.attentions (told_is c.self.invariant.kept u.facts (disks.size_of u.store) refl refl refl refl refl refl c.self.invariant.sized)
           performed c.push_three.new.self.steps steps
           (left + 1) left (omega (arith)) (omega (arith)));
       based =
@@ -67,7 +67,7 @@ invariant_of-self-2 g c =
           c.self.invariant.kept (no_tasks u.tasks (omega (arith, c.len.ensures.value, c.if-len-gt0.false))) c.args.arrival.now
           c.came.new.self le came (left + 2) (omega (arith, room, less))
           (facts_of (told u.facts u.attentions) (disks.size_of u.store)) (unkept c.run_and_answer-ran.result) (disks.blocks_of c.run_and_answer-ran.new.store)
-          c.run_and_answer-ran.new.attentions (told_is c.self.invariant.kept u.facts (disks.size_of u.store) refl refl refl refl refl c.self.invariant.sized)
+          c.run_and_answer-ran.new.attentions (told_is c.self.invariant.kept u.facts (disks.size_of u.store) refl refl refl refl refl refl c.self.invariant.sized)
           performed c.push_three.new.self.steps steps
           _ _ _ _ c.self.invariant.noted refl
           (rw (c.command-command.ensures, c.data-bytes.ensures.data, c.len-2.ensures, c.in-Ok-make_way.ensures.steps) at c.note_command.ensures)
@@ -114,7 +114,7 @@ returns-clause-serves g c =
     c.self.invariant.kept (no_tasks u.tasks (omega (arith, c.len.ensures.value, c.if-len-gt0.false))) c.args.arrival.now
     c.came.new.self le came (left + 2) (omega (arith, room, less))
     (facts_of (told u.facts u.attentions) (disks.size_of u.store)) (unkept c.run_and_answer-ran.result) (disks.blocks_of c.run_and_answer-ran.new.store)
-    c.run_and_answer-ran.new.attentions (told_is c.self.invariant.kept u.facts (disks.size_of u.store) refl refl refl refl refl c.self.invariant.sized)
+    c.run_and_answer-ran.new.attentions (told_is c.self.invariant.kept u.facts (disks.size_of u.store) refl refl refl refl refl refl c.self.invariant.sized)
     performed c.push_three.new.self.steps steps
     answers c.self.inside.log.keeps c.push_three.new.self.keeps _ _
     (hosted_ledger _ u.store (c.run_and_answer-ran.ensures.storage ∙ c.may_run.ensures.storage)) (c.if-not-is_named.ensures.yes refl) keeps

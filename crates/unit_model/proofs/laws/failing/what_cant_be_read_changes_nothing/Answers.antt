@@ -1,6 +1,6 @@
 use Rattle.std.proofs.Common.{ap}
 use Rattle.command_model.specs.PlainReply.{PlainReply}
-use Rattle.unit_model.proofs.Failing.{unread_blocks, uncached_replies}
+use Rattle.unit_model.proofs.Failing.{unread_blocks, resident_replies}
 use Rattle.unit_model.proofs.laws.failing.what_cant_be_read_changes_nothing.Goals as goal
 
 pub returns-clause-status : goal.returns-clause-status
@@ -12,5 +12,5 @@ returns-clause-sense c = λ o e past p r h. ap (λ (x : PlainReply). x.sense) h.
 pub returns-clause-blocks : goal.returns-clause-blocks
 returns-clause-blocks c = unread_blocks
 
-pub returns-clause-cached : goal.returns-clause-cached
-returns-clause-cached c = uncached_replies
+pub returns-clause-resident : goal.returns-clause-resident
+returns-clause-resident c = resident_replies
