@@ -10,7 +10,7 @@ use phases::OpenFunction;
 use request_intake::Inventory;
 use std::marker::Model;
 
-/// The parts of the device but memory: queues with their slots, units, seats, the jobs that wait for pages, the hand-off,
+/// The parts of the device but memory: queues with their slots, units, seats, the jobs that wait for their disks, the hand-off,
 /// the function, the event port and the events that wait for it. A host keeps it beside its memory, and lends each step
 /// that memory.
 #[derive(Drop)]

@@ -3,8 +3,8 @@
 //! # Proved
 //!
 //! An event is taken exactly where it applies, and does what the model's event does, for every list of bytes that the
-//! memory may be. A turn takes the first event that applies. A job whose command waits for pages of its disk is put aside,
-//! and tried again in its turn once it is woken. `World` and `LiveWorld` are made of these
+//! memory may be. A turn takes the first event that applies. A job whose command waits for its disk, or whose reply is
+//! withheld, is put aside, and tried again in its turn once it is woken. `World` and `LiveWorld` are made of these
 //! steps, and crate `world` says what is promised of them.
 #![tactic(auto)]
 

@@ -381,7 +381,7 @@ impl Device {
         phase_leave(&mut self.units[unit_index], &mut seat.hand, &mut seat.out)
     }
 
-    /// Has the open function mark its next unit, or look at it. A mark has the jobs that wait for pages tried again. A host
+    /// Has the open function mark its next unit, or look at it. A mark has the jobs that wait for their disks tried again. A host
     /// calls it for a Mark.
     pub fn mark(&mut self) -> bool
         ensures { TurnsAlone self.old AnEvent.Mark result self.new }
@@ -475,7 +475,7 @@ impl Device {
         phase_answer_tmf_in(&mut self.bays[0].queue, memory, &mut self.function)
     }
 
-    /// Resets a unit for the operator, and has the jobs that wait for pages tried again. A host calls it for a Hard. `NoMemory`
+    /// Resets a unit for the operator, and has the jobs that wait for their disks tried again. A host calls it for a Hard. `NoMemory`
     /// where the step or its event was refused memory.
     pub fn hard(&mut self, unit_index: u16) -> Result<bool, NoMemory>
         requires seated { length self.old.seats ≡ self.old.workers + 1 }
@@ -559,7 +559,7 @@ impl Device {
         raised
     }
 
-    /// Has the jobs that wait for pages tried again. A host calls it for a Wake.
+    /// Has the jobs that wait for their disks tried again. A host calls it for a Wake.
     pub fn wake(&mut self) -> bool
         ensures { TurnsAlone self.old AnEvent.Wake result self.new }
     {

@@ -20,7 +20,7 @@ pub(crate) struct Trace {
     hands: Vec<Option<Ticket>>,
     /// The number of event buffers that were used.
     buffers: u64,
-    /// The number of requests that wait for pages, or are to be tried again.
+    /// The number of requests that wait for their disks, or are to be tried again.
     waiting: usize,
 }
 
@@ -139,7 +139,7 @@ impl Trace {
         None
     }
 
-    /// Returns true if one more request waits for pages than at the last look.
+    /// Returns true if one more request waits for its disk than at the last look.
     fn waits_now<M: Machine>(&mut self, machine: &M) -> bool {
         let before = self.waiting;
         self.waiting = machine.waiting();

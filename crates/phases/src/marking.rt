@@ -38,8 +38,8 @@ pub enum Visited {
 
 /// Marks the next unit of the open function, which the caller found by `next_unit`, or looks at it. Appends the jobs of
 /// tasks that wait there and are marked to the list. If memory is refused, or the unit isn't the one that the inventory
-/// names there, the function fails and leaves its other units. Returns whether it marked tasks: where jobs wait for pages
-/// of their disks, a mark wakes them.
+/// names there, the function fails and leaves its other units. Returns whether it marked tasks: where jobs wait for their
+/// disks, a mark wakes them.
 pub fn phase_visit(
     unit: &mut UnitState,
     inventory: &Inventory,

@@ -51,7 +51,7 @@ pub trait Machine: GuestMemory + Device + Drop {
     /// Returns the log of a queue; `None` where there is no such queue.
     fn log(&self, queue: u16) -> Option<&QueueLog>;
 
-    /// Returns how many requests wait for pages of their disks, or are to be tried again.
+    /// Returns how many requests wait for their disks, or are to be tried again.
     fn waiting(&self) -> usize;
 
     /// Returns true if a fault broke the queue.

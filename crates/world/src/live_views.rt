@@ -32,7 +32,7 @@ impl<M: WritableMemory> LiveWorld<M> {
         let _ = &self.memory;
     }
 
-    /// Shows that where no unit's disk is one whose pages come and go, no job waits for pages, and none is to be tried
+    /// Shows that where no unit's disk is one whose pages come and go, no job waits for its disk, and none is to be tried
     /// again.
     pub fn none_waits(&self)
         ensures aside { Everywhere (λ i u. is_backed u ≡ false) self.now.device.units → self.now.device.aside ≡ [] }
