@@ -85,7 +85,7 @@ static bool make(struct backend *backend, char *why, size_t room) {
   struct vscsi_unit units[DEVICE_MOST_UNITS];
   uint8_t profiles[DEVICE_MOST_UNITS];
   struct vscsi_identity identities[DEVICE_MOST_UNITS];
-  bool read_only[DEVICE_MOST_UNITS];
+  bool read_only[DEVICE_MOST_UNITS], write_through[DEVICE_MOST_UNITS];
   struct ring rings[DEVICE_MOST_QUEUES];
   for (size_t i = 0; i < backend->disks->count; i++) {
     const struct disk *disk = &backend->disks->disks[i];
@@ -94,6 +94,7 @@ static bool make(struct backend *backend, char *why, size_t room) {
     profiles[i] = disk->wide ? VSCSI_PROFILE_WIDE : VSCSI_PROFILE_NARROW;
     identities[i] = disk->names;
     read_only[i] = disk->is_protected;
+    write_through[i] = !disk->is_cached;
   }
   backend->made = count_of(backend);
   for (unsigned q = 0; q < backend->made; q++) rings[q] = backend->queues[q].ready ? backend->queues[q].ring : idle_ring();
@@ -107,7 +108,8 @@ static bool make(struct backend *backend, char *why, size_t room) {
                                            .unit_count = backend->disks->count,
                                            .profiles = profiles,
                                            .identities = identities,
-                                           .read_only = read_only};
+                                           .read_only = read_only,
+                                           .write_through = write_through};
   memset(backend->noted, 0, sizeof backend->noted);
   memset(backend->idle, 0, sizeof backend->idle);
   // What is under way at a disk that doesn't answer is waited for with messages and signals in between.

@@ -36,7 +36,7 @@ enum cached caches_take(struct disk *disk, const char *word, size_t length, char
   if (which == WORDS) return CACHED_NOT;
   const char *text = word + strlen(words[which]);
   size_t left = length - strlen(words[which]);
-  bool taken = which == WRITE_CACHE  ? take_one(text, left, "on", "off", &disk->has_cache, &disk->is_backed)
+  bool taken = which == WRITE_CACHE  ? take_one(text, left, "on", "off", &disk->has_cache, &disk->is_cached)
                : which == DIRECT     ? take_one(text, left, "on", "off", &disk->has_direct, &disk->is_direct)
                : which == READ_ERROR ? take_one(text, left, "stop", "report", &disk->has_read_error, &disk->stops_unread)
                                      : take_size(text, left, &disk->cache_blocks);
@@ -55,28 +55,36 @@ static const char *server_fault_of(const struct disk *disk) {
   if (disk->path) return is_rbd ? "rbd= stands in place of file=" : "nbd= stands in place of file=";
   if (is_rbd && !cluster_is_built()) return "rbd=: this daemon loads no libraries, since it is linked statically";
   if (!is_rbd && !export_is_built()) return "nbd=: this daemon is built without libnbd";
-  if (!disk->is_backed) return is_rbd ? "rbd= wants write-cache=on" : "nbd= wants write-cache=on";
   return disk->is_direct ? "direct=on wants file=PATH" : NULL;
 }
 
 static const char *fault_of(const struct disk *disk) {
-  const char *fault = disk->uri ? server_fault_of(disk) : NULL;
-  if (fault) return fault;
   if (!disk->is_rbd && (disk->rbd_conf || disk->rbd_user)) return "rbd-conf= and rbd-user= want rbd=IMAGE";
-  if (!disk->is_backed && disk->cache_blocks) return "cache-size= wants write-cache=on";
-  if (!disk->is_backed && disk->has_read_error) return "rerror= wants write-cache=on";
-  if (!disk->is_backed) return disk->is_direct ? "direct=on wants write-cache=on" : NULL;
-  if (!storage_is_built()) return "write-cache=on: this daemon is built without liburing";
-  if (!disk->path && !disk->uri) return "write-cache=on wants file=PATH, nbd=URI or rbd=IMAGE";
-  if (!disk->wide) return "write-cache=on wants profile=wide";
-  if (disk->read_only && !disk->is_protected) return "write-cache=on takes no snapshot";
+  if (!disk->is_backed && disk->has_read_error) return "rerror= wants write-cache=on or cache-size=";
+  if (!disk->is_backed) return disk->is_direct ? "direct=on wants write-cache=on or cache-size=" : NULL;
+  if (disk->is_cached && !disk->wide) return "write-cache=on wants profile=wide";
   return caches_pages(disk) < VSCSI_LEAST_PAGES ? "cache-size= is 33M at least" : NULL;
+}
+
+const char *caches_word(const struct disk *disk) {
+  if (disk->is_cached) return "write-cache=on";
+  return !disk->uri ? "cache-size=" : disk->is_rbd ? "rbd=" : "nbd=";
+}
+
+// Returns what such a disk can't be, behind that word.
+static const char *lack_of(const struct disk *disk) {
+  if (!storage_is_built()) return ": this daemon is built without liburing";
+  if (!disk->path && !disk->uri) return " wants file=PATH, nbd=URI or rbd=IMAGE";
+  return disk->read_only && !disk->is_protected ? " takes no snapshot" : NULL;
 }
 
 bool caches_suit(struct disk *disk, char *why, size_t room) {
   // A server's disk has a write cache without a word.
-  if (disk->uri && !disk->has_cache) disk->is_backed = true;
-  const char *fault = fault_of(disk);
+  if (disk->uri && !disk->has_cache) disk->is_cached = true;
+  disk->is_backed = disk->is_cached || disk->uri || disk->cache_blocks;
+  const char *fault = disk->uri ? server_fault_of(disk) : NULL, *lack = disk->is_backed && !fault ? lack_of(disk) : NULL;
+  if (lack) return snprintf(why, room, "%s%s", caches_word(disk), lack), false;
+  fault = fault ? fault : fault_of(disk);
   if (fault) snprintf(why, room, "%s", fault);
   return !fault;
 }

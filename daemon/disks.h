@@ -47,7 +47,9 @@ struct disk {
   bool has_new_naa; // the file that keeps its NAA wasn't there
   uint64_t length;  // of the image when it was opened, in bytes
   bool has_cache;   // its words say whether it has a write cache
-  bool is_backed;   // it has: its blocks are on its file, and a part of them in memory (paging.h)
+  bool is_cached;   // it has, and tells its guest so
+  bool is_backed;   // its blocks are on its file or its server, and a part of them in memory (paging.h). Without a write cache what changes them
+                    // is answered once they are there
   uint64_t cache_blocks;  // how many of them are in memory at most, or 0 where no word says that
   bool has_direct;  // its words say whether its file is read and written with no cache of the system's
   bool is_direct;   // it is

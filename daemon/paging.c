@@ -6,6 +6,7 @@
 #include <string.h>
 #include <sys/stat.h>
 
+#include "caches.h"
 #include "clock.h"
 #include "log.h"
 #include "rare.h"
@@ -35,7 +36,7 @@ static bool open_disk(struct disk *disk, char *why, size_t room) {
 
 bool paging_join(struct disks *disks, struct disk *disk, char *why, size_t room) {
   if (disks->storage) return open_disk(disk, why, room);
-  return snprintf(why, room, "write-cache=on: the daemon began without io_uring, which the system refused"), false;
+  return snprintf(why, room, "%s: the daemon began without io_uring, which the system refused", caches_word(disk)), false;
 }
 
 bool paging_open(struct disks *disks, bool comes, char *why, size_t room) {
@@ -599,9 +600,14 @@ static bool make_rest(struct disks *disks) {
   return true;
 }
 
+// What memory has that the file lacks.
+static const char *left_of(const struct disk *disk) {
+  return disk->is_cached ? "WRITEs behind the last SYNCHRONIZE CACHE" : "WRITEs that weren't answered";
+}
+
 void paging_lose(struct disk *disk) {
   struct paging *paging = disk->paging;
-  if (paging->is_left) log_say(LOG_ERROR, disk, "WRITEs behind the last SYNCHRONIZE CACHE are lost: memory was refused");
+  if (paging->is_left) log_say(LOG_ERROR, disk, "%s are lost: memory was refused", left_of(disk));
   paging->is_left = false;
   paging->run_count = 0;
 }
@@ -670,8 +676,7 @@ bool paging_finish(struct disks *disks, char *why, size_t room) {
     const char *cause = paging_error(disk) ? strerror(paging_error(disk)) : "memory was refused";
     const char *place = disk->path ? disk->path : disk->uri;
     if (!paging_is_left(disk)) continue;
-    snprintf(why, room, "disk %u:%u: %s: WRITEs behind the last SYNCHRONIZE CACHE aren't all kept: %s", disk->target, disk->lun, place,
-             cause);
+    snprintf(why, room, "disk %u:%u: %s: %s aren't all kept: %s", disk->target, disk->lun, place, left_of(disk), cause);
     return false;
   }
   return true;

@@ -259,6 +259,11 @@ static void older_live(void) {
   IS(vscsi_live_create(&device, &live, 0, &fault), VSCSI_BAD_CONFIG);
   IS(fault.cause, VSCSI_CAUSE_UNIT_IDENTITY);
   IS(fault.place, 0);
+  live.size = offsetof(struct vscsi_live_config, write_through);
+  IS(vscsi_live_create(&device, &live, 0, &fault), VSCSI_BAD_CONFIG);
+  IS(fault.cause, VSCSI_CAUSE_UNIT_IDENTITY);
+  live.size -= 1;
+  IS(vscsi_live_create(&device, &live, 0, &fault), VSCSI_BAD_LENGTH);
   live.size = sizeof live;
   IS(vscsi_live_create(&device, &live, 0, &fault), VSCSI_BAD_CONFIG);
   IS(fault.cause, VSCSI_CAUSE_UNIT_IDENTITY);

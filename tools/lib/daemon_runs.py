@@ -1079,8 +1079,10 @@ def test_cache_words(room):
                f"file={image},write-cache=on,direct=1": "direct= wants on or off", f"file={image},write-cache=on,cache-size=x": "cache-size= wants a size",
                f"file={image},write-cache=on,cache-size=64M,cache-size=64M": "cache-size= wants a size, once",
                f"file={image},write-cache=on,cache-size=0": "cache-size= wants a size", f"file={image},write-cache=on,cache-size=32M": "cache-size= is 33M at least",
-               f"file={image},cache-size=64M": "cache-size= wants write-cache=on", f"file={image},write-cache=off,cache-size=64M": "cache-size= wants write-cache=on",
-               f"file={image},direct=on": "direct=on wants write-cache=on", "write-cache=on": "write-cache=on wants file=PATH, nbd=URI or rbd=IMAGE",
+               f"file={image},cache-size=32M": "cache-size= is 33M at least", f"file={image},direct=on": "direct=on wants write-cache=on or cache-size=",
+               f"file={image},write-cache=off,rerror=stop": "rerror= wants write-cache=on or cache-size=",
+               "write-cache=on": "write-cache=on wants file=PATH, nbd=URI or rbd=IMAGE", "cache-size=64M": "cache-size= wants file=PATH, nbd=URI or rbd=IMAGE",
+               f"file={image},cache-size=64M,snapshot": "cache-size= takes no snapshot",
                f"file={image},write-cache=on,profile=narrow": "write-cache=on wants profile=wide",
                f"file={image},profile=narrow,write-cache=on": "write-cache=on wants profile=wide",
                f"file={image},write-cache=on,snapshot": "write-cache=on takes no snapshot"}
@@ -1088,7 +1090,7 @@ def test_cache_words(room):
         room.ends(*named, f"0:0=64M,{words}", status=2, says=says)
     room.refuses("--disk", f"0:0=1050112,file={image},write-cache=on,direct=on", says="image: direct=on: the disk has no multiple of 4096 bytes")
     assert not image.exists()
-    for words in ("write-cache=off,direct=off", "write-cache=on,direct=off", "write-cache=on,cache-size=33M"):
+    for words in ("write-cache=off,direct=off", "write-cache=on,direct=off", "write-cache=on,cache-size=33M", "cache-size=33M,profile=narrow"):
         with room.runs("--disk", f"0:0=64M,file={image},{words}"):
             assert serves(room.socket)
     return None
@@ -1153,8 +1155,10 @@ def test_cached_killed(room):
     return None
 
 
-def kill_and_compare(room, disk, image, kills, **more):
-    """Kills the daemon so many times while a guest writes, and compares what its disk's image has each time."""
+def kill_and_compare(room, disk, image, kills, through=False, **more):
+    """Kills the daemon so many times while a guest writes, and compares what its disk's image has each time: what was flushed, or with
+    `through` what was answered.
+    """
     choose, flushed, latest, version = random.Random(), {}, {}, 0
     for _ in range(kills):
         with room.runs("--quiet", "--disk", disk, ends=-signal.SIGKILL, by=signal.SIGKILL, **more), FrontEnd(connected(room.socket)) as front:
@@ -1163,9 +1167,10 @@ def kill_and_compare(room, disk, image, kills, **more):
                 pages = [choose.randrange(1 << choose.choice((6, 16))) for _ in range(choose.randrange(1, 15))]
                 run_cached(front, [("write", page, version) for page in pages])
                 latest.update(dict.fromkeys(pages, version))
-                if choose.randrange(3) == 0:
+                if not through and choose.randrange(3) == 0:
                     run_cached(front, [("flush", 0, 0)])
                     flushed = dict(latest)
+            flushed = dict(latest) if through else flushed
             # It is killed amid these.
             version += 1
             pages = {choose.randrange(1 << 16) for _ in range(14)}
@@ -1186,6 +1191,94 @@ def kill_and_compare(room, disk, image, kills, **more):
                 latest[page] = struct.unpack("<II", file.read(8))[1]
                 if not latest[page]:
                     del latest[page]
+
+
+# A disk that is larger than its memory, and tells of no write cache.
+THROUGH = ",write-cache=off,cache-size=33M"
+
+
+def caching_of(front):
+    """DPOFUA and WCE, by MODE SENSE (6) of the caching page (SPC-4 7.5.5, SBC-3 6.4.5)."""
+    number = front.count
+    front.put(bytes.fromhex("1a080800ff00"), writable=255)
+    wait_for(lambda: front.answered() == number + 1, "a MODE SENSE")
+    data = front.data(number, 24)
+    assert front.status(number) == 0 and data[4] == 8, data
+    return data[2] >> 4 & 1, data[6] >> 2 & 1
+
+
+def test_through(room):
+    """Of a disk that is larger than its memory, and has no write cache, the file has each WRITE once that is answered."""
+    if not has_ring(room):
+        return NO_RING
+    choose, pages = random.Random(7), {}
+    image = room.folder / "image"
+    for turn, more in enumerate((THROUGH, ",cache-size=33M,direct=on", ",cache-size=33M,profile=narrow", THROUGH + ",detect-zeroes=unmap")):
+        with driven(room, "--disk", f"0:0=1G,file={image}{more}", ends=0) as (run, front, log):
+            assert "narrow" in more or caching_of(front) == (1, 0)
+            with image.open("rb") as file:
+                for version in range(1000 * turn, 1000 * turn + 100):
+                    batch = [("write", choose.randrange(1 << 15) + 65536, version) for _ in range(choose.randrange(1, 17))]
+                    run_cached(front, batch)
+                    pages.update({page: version for _, page, version in batch})
+                    for page in {page for _, page, _ in batch}:
+                        file.seek(4096 * page)
+                        assert file.read(4096) == stamped(page, version), (page, version)
+                # A WRITE of half a page, which is read for that, and an UNMAP.
+                front.write(8 * 70001 + 3, b"x" * 512)
+                front.put(bytes([0x42, *bytes(7), 24, 0]), struct.pack(">HHIQII", 22, 16, 0, 8 * 70002, 8, 0))
+                wait_for(lambda: front.answered() == front.count & 0xFFFF, "a WRITE and an UNMAP")  # noqa: B023
+                assert not front.status(front.count - 2) and not front.status(front.count - 1)
+                file.seek(4096 * 70001)
+                half = stamped(70001, pages[70001]) if 70001 in pages else bytes(4096)
+                assert file.read(8192) == half[:1536] + b"x" * 512 + half[2048:] + bytes(4096)
+                pages.pop(70001, None), pages.pop(70002, None)
+            sample = choose.sample(sorted(pages), min(len(pages), 800))
+            for first in range(0, len(sample), 16):
+                those = sample[first : first + 16]
+                numbers = run_cached(front, [("read", page, 0) for page in those])
+                assert all(front.data(number, 4096) == stamped(page, pages[page]) for page, number in zip(those, numbers))
+            resident = int(re.search(r"VmRSS:\s+(\d+) kB", Path(f"/proc/{run.pid}/status").read_text())[1])
+            assert not room.shim or resident < (33 + 40) * 1024, resident
+        log.unlink()
+    return None
+
+
+def test_through_killed(room):
+    """What a guest was answered is on the file when the daemon is killed while it writes, or a later version of the same page is."""
+    if not has_ring(room):
+        return NO_RING
+    image = room.folder / "image"
+    kill_and_compare(room, f"0:0=256M,file={image}{THROUGH}", image, KILLS, through=True)
+    return None
+
+
+def test_through_held(room):
+    """Where a file can't be written a WRITE waits, and what reads alone doesn't. At its end the daemon says what the file lacks."""
+    if not has_ring(room):
+        return NO_RING
+    for goes_on in (True, False):
+        image = room.folder / f"image{goes_on}"
+        with driven(room, "--disk", f"0:0=64M,file={image}{THROUGH}", ends=0 if goes_on else 1) as (run, front, log):
+            limit_files(run, MIB)
+            run_cached(front, [("write", 0, 7)])
+            front.write(8 * 5000, stamped(5000, 7))
+            wait_for(lambda: "can't be written" in log.read_text(), "a line that says so")  # noqa: B023
+            front.read(0, 4096)
+            wait_for(lambda: front.answered() == 2, "the READ")
+            assert front.data(2, 4096) == stamped(0, 7) and front.asks()
+            before = taken(run)
+            time.sleep(1)
+            assert taken(run) - before < 100_000_000 and front.answered() == 2 and log.read_text().count("can't be written") == 1
+            if goes_on:
+                limit_files(run, resource.RLIM_INFINITY)
+                wait_for(lambda: front.answered() == 3, "the WRITE")
+                assert not front.status(1)
+        text = log.read_text()
+        assert (f"disk 0:0: {image}: WRITEs that weren't answered aren't all kept" in text) == (not goes_on), text
+        assert has(image, 0, stamped(0, 7)) and has(image, 4096 * 5000, stamped(5000, 7)) == goes_on
+        log.unlink()
+    return None
 
 
 def test_cached_held(room):
@@ -1240,12 +1333,12 @@ def test_cached_left(room):
     return None
 
 
-def test_cached_migratable(room):
+def test_cached_migratable(room, more=CACHED):
     """Of two daemons with one file each has it while its queue runs, and finds what the other one left, though nobody flushed it."""
     if not has_ring(room):
         return NO_RING
     disk, others = room.file("disk.img", 64 * MIB), room.folder / "others"
-    words = ["--disk", f"0:0=64M,file={disk}{CACHED}", "--migratable"]
+    words = ["--disk", f"0:0=64M,file={disk}{more}", "--migratable"]
     with room.runs(*words), room.runs(*words, path=others), FrontEnd(connected(room.socket)) as one, FrontEnd(connected(others)) as two:
         fronts = (one, two)
         for turn in range(1, 9):
@@ -1259,6 +1352,11 @@ def test_cached_migratable(room):
             assert front.stop() == front.count
     assert has(disk, 0, b"".join(stamped(page, 8) for page in range(8)))
     return None
+
+
+def test_through_migratable(room):
+    """So it is without a write cache."""
+    return test_cached_migratable(room, THROUGH)
 
 
 def test_cached_device(room):
@@ -1399,7 +1497,7 @@ def test_control_refuses_cached(room):
     with room.runs("--disk", "0:0=1M", "--control", path) as run:
         is_same_open = counts_open(run, path)
         refused_words = {f"file={image},write-cache=on,cache-size=32M": "cache-size= is 33M at least", f"file={image},write-cache=on,snapshot": "takes no snapshot",
-                         f"file={image},direct=on": "direct=on wants write-cache=on", f"file={image},write-cache=on,profile=narrow": "wants profile=wide",
+                         f"file={image},direct=on": "direct=on wants write-cache=on or cache-size=", f"file={image},write-cache=on,profile=narrow": "wants profile=wide",
                          f"65M,file={image}{CACHED}": "shorter than the disk", f"63M,file={image}{CACHED}": "longer than the disk",
                          f"file={odd}{CACHED},direct=on": "direct=on: the disk has no multiple of 4096 bytes"}
         if "with NBD" in room.ends("--version", status=0):
@@ -1613,7 +1711,6 @@ def test_nbd_words(room):
     if not has_servers(room):
         return NO_SERVER
     refused = {f"{uri},file={room.folder / 'image'}": "nbd= stands in place of file=",
-               f"{uri},write-cache=off": "nbd= wants write-cache=on",
                f"{uri},direct=on": "direct=on wants file=PATH", f"{uri},profile=narrow": "write-cache=on wants profile=wide",
                f"{uri},cache-size=32M": "cache-size= is 33M at least", f"{uri},snapshot": "grow and snapshot want file=PATH",
                f"64M,{uri},grow": "grow and snapshot want file=PATH", f"{uri},{uri}": "not T:L=SIZE", "nbd=": "not T:L=SIZE"}
@@ -1633,7 +1730,7 @@ def test_nbd_words(room):
     with nbdkit(at, "memory", "64M"):
         room.refuses("--disk", f"0:0=63M,{uri}", says="longer than the disk")
         room.refuses("--disk", f"0:0=65M,{uri}", says="shorter than the disk")
-        for words in (uri, f"64M,{uri}", f"{uri},write-cache=on,cache-size=33M,detect-zeroes=unmap,serial=one"):
+        for words in (uri, f"64M,{uri}", f"{uri},write-cache=on,cache-size=33M,detect-zeroes=unmap,serial=one", f"{uri},write-cache=off,profile=narrow"):
             with room.runs("--disk", f"0:0={words}"):
                 assert serves(room.socket)
     return None
@@ -1672,6 +1769,15 @@ def test_nbd(room):
         assert has(image, 4096 * 40, bytes(4096)), log.read_text()
         assert all(has(image, 4096 * page, stamped(page, 9999)) for page in range(8)), log.read_text()
         log.unlink()
+    # With no write cache the server has each WRITE once that is answered.
+    with nbdkit(at, "file", image), driven(room, "--disk", f"0:0={export_of(at)},write-cache=off", ends=0) as (_, front, _), image.open("rb") as file:
+        assert caching_of(front) == (1, 0)
+        for version in range(5000, 5040):
+            batch = {choose.randrange(1 << 16) for _ in range(8)}
+            run_cached(front, [("write", page, version) for page in batch])
+            for page in batch:
+                file.seek(4096 * page)
+                assert file.read(4096) == stamped(page, version), (page, version)
     # Of a disk that ends within a page no byte is written behind its end, and servers in memory have what was written, too.
     with nbdkit(at, "memory", MIB + 1536):
         for version in (0, 1):
@@ -1918,7 +2024,8 @@ def test_left_behind(room):
     kept, cached, log = room.file("kept.img"), room.file("cached.img", 64 * MIB, b"\0"), room.folder / "log"
     disks = {(f"0:0=1M,file={kept}",): True, (f"0:0=1M,file={kept},read-only=on",): True, ("0:0=1M",): False, (f"0:0=1M,file={kept},snapshot",): False}
     if has_ring(room):
-        disks |= {(f"0:0=64M,file={cached}{CACHED}",): False, (f"0:0=64M,file={cached}{CACHED}", "--migratable"): True}
+        disks |= {(f"0:0=64M,file={cached}{CACHED}",): False, (f"0:0=64M,file={cached}{CACHED}", "--migratable"): True,
+                  (f"0:0=64M,file={cached}{THROUGH}",): False, (f"0:0=64M,file={cached}{THROUGH}", "--migratable"): True}
     for words, may in disks.items():
         with room.runs("--log", log, "--disk", *words):
             with FrontEnd(connected(room.socket), 1) as front:
@@ -2021,7 +2128,7 @@ def test_rbd_words(room):
     wanted = "rbd= wants POOL/IMAGE or POOL/NAMESPACE/IMAGE, once, and no nbd="
     refused = {**{f"rbd={name}": wanted for name in ("", "pool", "pool/", "/image", "pool//image", "a/b/c/d", "a/b/")}, f"{rbd},{rbd}": wanted,
                f"nbd=nbd://a/,{rbd}": wanted, f"{rbd},nbd=nbd://a/": "not T:L=SIZE", f"{rbd},rbd-user=a,rbd-user=a": "not T:L=SIZE",
-               f"{rbd},file={room.folder / 'image'}": "rbd= stands in place of file=", f"{rbd},write-cache=off": "rbd= wants write-cache=on",
+               f"{rbd},file={room.folder / 'image'}": "rbd= stands in place of file=",
                f"{rbd},direct=on": "direct=on wants file=PATH", f"{rbd},profile=narrow": "write-cache=on wants profile=wide",
                f"{rbd},cache-size=32M": "cache-size= is 33M at least", f"{rbd},snapshot": "grow and snapshot want file=PATH",
                f"64M,{rbd},grow": "grow and snapshot want file=PATH", f"64M,{rbd},grow,read-only=on": "read-only=on takes no snapshot and no grow",

@@ -107,7 +107,7 @@ fn serve_command<'a>(alloc: Global) -> Result<Command<'a>, AllocError> {
 /// Makes the command line.
 fn command<'a>(alloc: Global) -> Result<Command<'a>, AllocError> {
     Command::new(alloc, "vscsi")
-        .version("1.10.1")
+        .version("1.11.0")
         .about("A virtio SCSI host device, run over a guest that a script plays")
         .after_help(ABOUT_SCRIPTS)
         .subcommand_required(true)

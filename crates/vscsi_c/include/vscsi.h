@@ -49,10 +49,10 @@
 extern "C" {
 #endif
 
-/* The version of this header: 1.10.1. VSCSI_VERSION is major * 65,536 + minor * 256 + patch. */
+/* The version of this header: 1.11.0. VSCSI_VERSION is major * 65,536 + minor * 256 + patch. */
 #define VSCSI_VERSION_MAJOR 1
-#define VSCSI_VERSION_MINOR 10
-#define VSCSI_VERSION_PATCH 1
+#define VSCSI_VERSION_MINOR 11
+#define VSCSI_VERSION_PATCH 0
 #define VSCSI_VERSION ((uint32_t)VSCSI_VERSION_MAJOR << 16 | (uint32_t)VSCSI_VERSION_MINOR << 8 | (uint32_t)VSCSI_VERSION_PATCH)
 
 /* A device, or none. Made of zeros: `struct vscsi device = {0};`. */
@@ -310,8 +310,11 @@ struct vscsi_ring {
  * is left, and looks once more behind that (VIRTIO 1.2, 2.7.10 and 2.8.10). A host that waits for kicks then calls nothing else
  * before it sleeps. Where it is false the device writes nothing of its own: the host calls vscsi_live_ask, or polls. Since 1.4.
  *
- * A configuration that ends before `asks` has false there, and one that ends before `profiles`, `identities` or
- * `read_only` none. */
+ * `write_through` says of each unit whether it tells of no volatile write cache though its disk is backed (below); null is false
+ * of each, and of a unit with another disk it says nothing. Since 1.11.
+ *
+ * A configuration that ends before `asks` has false there, and one that ends before `profiles`, `identities`, `read_only` or
+ * `write_through` none. */
 struct vscsi_live_config {
   size_t size;
   uint64_t features;
@@ -323,6 +326,7 @@ struct vscsi_live_config {
   const uint8_t *profiles;
   const struct vscsi_identity *identities;
   const bool *read_only;
+  const bool *write_through;
 };
 
 /* Makes the device of a configuration, with zeros for guest memory, of which nothing has happened yet. A guest that had
@@ -573,9 +577,9 @@ enum vscsi_answer vscsi_live_destroy(struct vscsi_live *device);
  * as many at once as it likes and in any order, while the device serves.
  *
  * A unit of the wide profile tells its guest of a volatile write cache: WCE is 1 and DPOFUA 0 (docs/COMMANDS.md). A WRITE is answered
- * as it stands in memory. One of the narrow profile tells of none: a command that may change blocks is answered GOOD only once the
- * host said that it kept each page that was changed by then. So waits SYNCHRONIZE CACHE, for what was changed before it might run, one
- * command of a disk at a time. A command that needs a page which isn't in memory waits, alone.
+ * as it stands in memory. One of the narrow profile, or of which `write_through` is true, tells of none: a command that may change
+ * blocks is answered GOOD only once the host said that it kept each page that was changed by then. So waits SYNCHRONIZE CACHE, for
+ * what was changed before it might run, one command of a disk at a time. A command that needs a page which isn't in memory waits, alone.
  *
  * What the host owes, and nothing checks:
  * - What it hands in by vscsi_live_load is what its storage had of the page when the disk was made, or what it last said by

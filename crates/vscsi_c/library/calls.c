@@ -154,6 +154,7 @@ struct said {
   const uint8_t *profiles;
   const struct vscsi_identity *identities;
   const bool *read_only;
+  const bool *write_through;
 };
 
 /* Takes whether a unit is read-only. Returns false where a narrow one is. */
@@ -192,12 +193,16 @@ static bool read_units(struct wanted_units *wanted, const struct vscsi_unit *uni
   return true;
 }
 
-/* Has each unit tell of a write cache whose disk is backed. */
-static void tell_caches(struct wanted_units *wanted, struct vscsi_disk *disks) {
-  for (size_t index = 0; index < wanted->count; index++) wanted->items[index].write_cache = vscsi_raw_disk_is_backed(&disks[index]);
+/* Has each unit tell of a write cache whose disk is backed, unless it is to write through. A narrow one tells of none in any case. */
+static void tell_caches(struct wanted_units *wanted, struct vscsi_disk *disks, struct said said) {
+  for (size_t index = 0; index < wanted->count; index++) {
+    bool writes_through = said.write_through && said.write_through[index];
+    wanted->items[index].write_cache = !writes_through && vscsi_raw_disk_is_backed(&disks[index]);
+  }
 }
 
-/* The sizes of configurations in older headers: without `read_only`, `identities`, `profiles`, and without `asks`. */
+/* The sizes of configurations in older headers: without `write_through`, `read_only`, `identities`, `profiles`, and without `asks`. */
+static const size_t live_size_without_write_through = offsetof(struct vscsi_live_config, write_through);
 static const size_t size_without_read_only = offsetof(struct vscsi_config, read_only);
 static const size_t live_size_without_read_only = offsetof(struct vscsi_live_config, read_only);
 static const size_t size_without_identities = offsetof(struct vscsi_config, identities);
@@ -214,7 +219,7 @@ _Static_assert(offsetof(struct vscsi_live_config, profiles) >= offsetof(struct v
                "no field in older padding");
 
 static struct said said_of(const struct vscsi_config *config) {
-  struct said said = {NULL, NULL, NULL};
+  struct said said = {NULL, NULL, NULL, NULL};
   if (config->size >= size_without_identities) said.profiles = config->profiles;
   if (config->size >= size_without_read_only) said.identities = config->identities;
   if (config->size == sizeof *config) said.read_only = config->read_only;
@@ -222,10 +227,11 @@ static struct said said_of(const struct vscsi_config *config) {
 }
 
 static struct said live_said_of(const struct vscsi_live_config *config) {
-  struct said said = {NULL, NULL, NULL};
+  struct said said = {NULL, NULL, NULL, NULL};
   if (config->size >= live_size_without_identities) said.profiles = config->profiles;
   if (config->size >= live_size_without_read_only) said.identities = config->identities;
-  if (config->size == sizeof *config) said.read_only = config->read_only;
+  if (config->size >= live_size_without_write_through) said.read_only = config->read_only;
+  if (config->size == sizeof *config) said.write_through = config->write_through;
   return said;
 }
 
@@ -373,8 +379,8 @@ static const struct vscsi_region no_region = {0, 0, NULL};
 /* Returns why a configuration of live memory can't be handed on, or VSCSI_DONE. */
 static enum vscsi_answer live_unreadable(const struct vscsi_live_config *config) {
   if (!config) return VSCSI_NULL;
-  if (config->size != sizeof *config && config->size != live_size_without_read_only && config->size != live_size_without_identities &&
-      config->size != live_size_without_profiles && config->size != live_size_without_asks)
+  if (config->size != sizeof *config && config->size != live_size_without_write_through && config->size != live_size_without_read_only &&
+      config->size != live_size_without_identities && config->size != live_size_without_profiles && config->size != live_size_without_asks)
     return VSCSI_BAD_LENGTH;
   if ((!config->rings && config->ring_count) || (!config->units && config->unit_count)) return VSCSI_NULL;
   if (is_long(config->ring_count, sizeof no_ring) || is_long(config->unit_count, sizeof(struct vscsi_disk))) return VSCSI_BAD_LENGTH;
@@ -415,8 +421,9 @@ enum vscsi_answer vscsi_live_create(struct vscsi_live *device, const struct vscs
   if (answer != VSCSI_DONE) return answer;
   if (vscsi_raw_live_is_there(device)) return VSCSI_IN_USE;
   if (!fault) fault = &unread;
-  if (!read_units(&units, config->units, config->unit_count, live_said_of(config), fault)) return VSCSI_BAD_CONFIG;
-  if (disks) tell_caches(&units, disks);
+  const struct said said = live_said_of(config);
+  if (!read_units(&units, config->units, config->unit_count, said, fault)) return VSCSI_BAD_CONFIG;
+  if (disks) tell_caches(&units, disks, said);
   struct bus_map *map = bus_map();
   if (!map) return VSCSI_NO_MEMORY;
   answer = create_over(device, map, config, &units, disks, fault);
