@@ -1968,6 +1968,13 @@ def test_nbd_left(room):
     return None
 
 
+def stop(run):
+    """Stops all threads of a process: the signal alone does that by and by."""
+    run.send_signal(signal.SIGSTOP)
+    states = [Path(f"/proc/{run.pid}/task/{it}/stat") for it in os.listdir(f"/proc/{run.pid}/task")]
+    wait_for(lambda: all(it.read_text().rpartition(") ")[2][0] == "T" for it in states), "a process that is stopped")
+
+
 def test_nbd_silent(room):
     """Beside a server that doesn't answer another disk goes on, and another size of it is refused soon. Beside one that is gone it gets one,
     also once its front end is gone, and the next front end has it.
@@ -1986,7 +1993,7 @@ def test_nbd_silent(room):
         flags = [int(re.search(r"flags:\t0(\d+)", Path(f"/proc/{run.pid}/fdinfo/{fd}").read_text())[1], 8) for fd in opened]
         assert opened and not any(it & os.O_NONBLOCK for it in flags), flags
         run_cached(front, [("write", 1, 1)])
-        server.send_signal(signal.SIGSTOP)
+        stop(server)
         front.read(8 * 5, 4096, lun=1)
         wait_for(lambda: asking.ask("stats")["disks"][1]["pages-asked"], "the page to be asked for")
         began = time.monotonic()
