@@ -1,17 +1,17 @@
 -- How far a flush is, as its store changes.
-use Rattle.std.proofs.Common.{◌≡◌, ◌≢◌, ℕ, ◌+◌, ◌*◌, ◌/◌, ◌%◌, ◌==◌, ◌<◌, ◌≤◌, ◌&&◌, ◌||◌, not, nat_le, nat_lt, Bool, true, false, IsTrue, IsFalse, IfOk, OnOk, OnErr, IfSome, IfNone, Result, Ok, Err, List, [], ◌∷◌, ◌++◌, All, length, drop, Option, Some, None, if◌then◌else◌, refl, sym, ◌∙◌, ap, subst, arith}
+use Rattle.std.proofs.Common.{◌≡◌, ◌≢◌, ℕ, ◌*◌, ◌/◌, ◌%◌, ◌==◌, ◌<◌, ◌≤◌, ◌&&◌, ◌||◌, not, nat_le, nat_lt, Bool, true, false, IsTrue, IsFalse, IfOk, OnOk, OnErr, IfSome, IfNone, Result, Ok, Err, List, [], ◌∷◌, ◌++◌, All, length, drop, Option, Some, None, if◌then◌else◌, refl, sym, ◌∙◌, ap, subst, arith}
 use Rattle.std.proofs.lemmas.Bool.Decides.{nat_tests}
 use Rattle.std.proofs.lemmas.List.{drop-append-le, length-append}
 use Rattle.std.proofs.lemmas.List.Elements.{All-nil, All-cons}
 use Rattle.std.proofs.Math.Seq.{drop-length}
-use Rattle.block_store.specs.Blocks.{Blocks, zero_block}
+use Rattle.block_store.specs.Blocks.{zero_block}
 use Rattle.block_store.specs.Pages.{blocks_in}
 use Rattle.block_store.specs.Storage.{Storage, Ledger, Dealing, with_page, cut, dealt, and_then, storage_by}
 use Rattle.block_store.specs.Progress.{Progress, progress_after, all_progress}
-use Rattle.block_store.specs.Inner.Hosted.{Hosted, hosted_after}
+use Rattle.block_store.specs.Inner.Hosted.{hosted_after}
 use Rattle.backed_store.specs.Marks.{state_of, has_room}
 use Rattle.backed_store.specs.Marks as marks
-use Rattle.backed_store.specs.Caches.{mark_at, state_at}
+use Rattle.backed_store.specs.Caches.{mark_at}
 use Rattle.backed_store.specs.Stores.{contents, backing_of, storage_of, ledger_of, is_dirty, is_writing, is_rewritten, number_of, again_of, latest_of, IsOwed, IsHost}
 use Rattle.backed_store.specs.Flushes.{owes, IsFlushed}
 use Rattle.backed_store.specs.Fences.{is_kept_due, is_given_due, begun, done_by, progress_by, hosted_as, hosted_by, IsFenced}
@@ -21,7 +21,7 @@ use Rattle.backed_store.specs.declared.dealing.GivenPage.{GivenPage}
 use Rattle.foundation.specs.declared.NoMemory.{NoMemory}
 use Rattle.backed_store.proofs.Dealt.{by-ledger, dealt-by}
 use Rattle.backed_store.proofs.Fenced.{contents-kept}
-use Rattle.backed_store.proofs.Flushing.{contents-given, writing-room}
+use Rattle.backed_store.proofs.Flushing.{contents-given}
 
 -- What was done of the storage, and one thing more
 

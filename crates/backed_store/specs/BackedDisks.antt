@@ -1,5 +1,4 @@
 -- A backed store with its latest flush.
-use Rattle.std.specs.Prelude.{ℕ}
 use Rattle.block_store.specs.Progress.{Progress}
 use Rattle.block_store.specs.Inner.Hosted.{Hosted}
 use Rattle.backed_store.specs.Stores.{ledger_of}

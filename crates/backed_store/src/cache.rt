@@ -1,25 +1,27 @@
 //! The pages that are in memory, or on their way.
 
-ghost use Rattle.std.specs.Prelude.{◌≤◌};
+ghost use Rattle.std.specs.Prelude.{◌+◌, ◌≤◌, length};
 ghost use Rattle.backed_store.specs.Slots.{slot_count};
 ghost use Rattle.backed_store.specs.Standing.{AreIndexed};
 
 use crate::mark::Mark;
 use crate::page_set::PageSet;
 use crate::queue::PageQueue;
-use crate::slot::Slot;
+use crate::slot::{Slot, put_aside};
 use crate::slots::Slots;
 use crate::unkept::Unkept;
 use block_store::{BLOCK_BYTES, Readiness};
 use foundation::NoMemory;
 use std::alloc::Global;
 
-/// The pages that are in memory, or on their way: at most `budget` of them.
+/// The pages that are in memory, or on their way. With the spare slots they are at most `budget`.
 #[derive(Drop)]
 pub(crate) struct Cache {
     pub(crate) alloc: Global,
     pub(crate) budget: usize,
     pub(crate) slots: Slots,
+    // Slots of pages that went, for those that come. Their bytes are left as they were.
+    pub(crate) spare: Vec<Slot>,
     // The pages that the host is to be asked for.
     pub(crate) wanted: PageQueue,
     // The pages that were changed, or are about to be.
@@ -30,7 +32,7 @@ pub(crate) struct Cache {
     pub(crate) hand: u64,
     // The number of the latest change.
     pub(crate) latest: u64,
-    ghost bound: { slot_count slots ≤ budget },
+    ghost bound: { slot_count slots + length spare.items ≤ budget },
     ghost indexed: { AreIndexed slots wanted unkept clean latest },
 }
 
@@ -51,6 +53,7 @@ impl Cache {
             alloc,
             budget,
             slots: Slots::new(alloc),
+            spare: Vec::new(alloc),
             wanted: PageQueue::new(alloc),
             unkept: Unkept::new(alloc),
             clean: PageSet::new(alloc),
@@ -69,7 +72,7 @@ impl Cache {
         ensures room { (p : ℕ) → has_room (mark_at self.new p) ≡ has_room (mark_at self.old p) }
         ensures budget { self.new.budget ≡ self.old.budget }
     {
-        let slot = Slot::unknown(self.alloc)?;
+        let slot = Slot::taken(&mut self.spare, self.alloc)?;
         self.slots.add(page, slot)
     }
 
@@ -91,7 +94,7 @@ impl Cache {
         self.add(page).is_ok()
     }
 
-    /// Frees the slot of a page of which nothing is known.
+    /// Takes the slot from a page of which nothing is known.
     fn give_back(&mut self, page: u64)
         ensures kept { IsKept self.old self.new }
         ensures coming { (p : ℕ) → is_coming (mark_at self.new p) ≡ is_coming (mark_at self.old p) }
@@ -100,7 +103,7 @@ impl Cache {
     {
         if let Some(mark) = self.slots.mark(page) {
             if mark.is_nothing() && !mark.listed {
-                self.slots.remove(page);
+                put_aside(&mut self.spare, self.slots.remove(page));
             }
         }
     }

@@ -9,6 +9,7 @@ ghost use Rattle.backed_store.specs.Passing.{IsEvicted, IsPassed};
 use crate::cache::Cache;
 use crate::mark::Mark;
 use crate::page_range::{PageRange, spared_until};
+use crate::slot::put_aside;
 
 /// How many pages that were used since are given another round in one call, at most.
 const CHANCES: u32 = 64;
@@ -97,7 +98,7 @@ impl Cache {
         ensures budget { self.new.budget ≡ self.old.budget }
     {
         self.clean.remove(page);
-        self.slots.remove(page);
+        put_aside(&mut self.spare, self.slots.remove(page));
     }
 
     /// Drops a clean page from memory, by a clock: a page that was used since is given another round, 64 of them at most.

@@ -8,6 +8,7 @@ ghost use Rattle.backed_store.specs.Queues.{queue_len};
 use crate::cache::Cache;
 use crate::mark::Mark;
 use crate::numbers::PAGE_BYTES;
+use crate::slot::put_aside;
 use foundation::NoMemory;
 
 impl Cache {
@@ -111,7 +112,7 @@ impl Cache {
             ..mark
         };
         if now.is_nothing() && !now.listed {
-            self.slots.remove(page);
+            put_aside(&mut self.spare, self.slots.remove(page));
             return;
         }
         self.slots.set(page, now);

@@ -5,9 +5,10 @@
 //! Each block is what the store holds of it, else what the host last said that it kept, whatever comes and goes. A page
 //! that isn't kept as it stands is never evicted. One that changed while it was written isn't clean. A load changes
 //! nothing that is held. A page that the host can't read isn't on its way until it is asked for again. At most as many
-//! pages are held as the budget allows. An eviction finds a page that may go and isn't spared, if there is one. Where no
-//! change up to a number is unkept, the storage has each block that didn't change later. A page stays dirty from its oldest
-//! change on until that is kept. [`BlocksInPlace`] gives the bytes of each block once, in order.
+//! pages are held as the budget allows. The memory of a page that went is kept for one that comes, and counts too. An eviction
+//! finds a page that may go and isn't spared, if there is one. Where no change up to a number is unkept, the storage has each
+//! block that didn't change later. A page stays dirty from its oldest change on until that is kept. [`BlocksInPlace`] gives the
+//! bytes of each block once, in order.
 //!
 //! The host is asked only for pages below the capacity. Each page that is noted as lost is one of which the host said that it
 //! can't read it. At most 64 are noted: one more drops the oldest. A page that is loaded, kept or cut off isn't noted any longer.

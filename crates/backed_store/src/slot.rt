@@ -1,6 +1,6 @@
 //! A page in memory.
 
-ghost use Rattle.std.specs.Prelude.{◌≡◌, ℕ, ◌+◌, ◌-◌, ◌%◌, ◌≤◌, length};
+ghost use Rattle.std.specs.Prelude.{◌≡◌, ℕ, ◌+◌, ◌-◌, ◌%◌, ◌≤◌, length, is_some, if◌then◌else◌};
 
 use crate::mark::{Mark, NOTHING};
 use crate::numbers::{PAGE_BLOCKS, PAGE_BYTES};
@@ -32,6 +32,20 @@ impl Slot {
         })
     }
 
+    /// Takes a spare slot, else makes a new one. Nothing is known of it, nor of its bytes. `NoMemory` where memory was refused.
+    pub(crate) fn taken(spare: &mut Vec<Slot>, alloc: Global) -> Result<Slot, NoMemory>
+        ensures unknown { IfOk result (λ slot. slot.mark ≡ unknown) }
+        ensures fewer { length spare.new.items ≡ length spare.old.items - 1 }
+    {
+        match spare.pop() {
+            Some(mut slot) => {
+                slot.mark = NOTHING;
+                Ok(slot)
+            }
+            None => Slot::unknown(alloc),
+        }
+    }
+
     /// Puts the bytes over the blocks from `from` on.
     pub(crate) fn put(&mut self, from: usize, bytes: &[u8])
         requires whole { length bytes.now % BLOCK_BYTES ≡ 0 }
@@ -58,5 +72,14 @@ impl Slot {
         ensures mark { self.new.mark ≡ self.old.mark }
     {
         put_zeros(&mut self.bytes, from, PAGE_BLOCKS as usize - from);
+    }
+}
+
+/// Keeps the slot of a page that went, if there is one, for a page that comes. Frees it where memory for the list was refused.
+pub(crate) fn put_aside(spare: &mut Vec<Slot>, slot: Option<Slot>)
+    ensures { length spare.new.items ≤ length spare.old.items + (if is_some slot then 1 else 0) }
+{
+    if let Some(slot) = slot {
+        let _ = spare.push(slot);
     }
 }

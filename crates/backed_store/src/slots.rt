@@ -132,12 +132,12 @@ impl Slots {
         }
     }
 
-    /// Frees the slot of a page, if it has one.
-    pub(crate) fn remove(&mut self, page: u64)
+    /// Takes the slot from a page, if it has one, and returns it.
+    pub(crate) fn remove(&mut self, page: u64) -> Option<Slot>
         ensures slots { (p : ℕ) → slot_at self.new p ≡ (if p == page then None else slot_at self.old p) }
-        ensures count { slot_count self.new ≤ slot_count self.old }
+        ensures count { slot_count self.new + (if is_some result then 1 else 0) ≡ slot_count self.old }
     {
-        let _slot = self.pages.remove(&page);
+        self.pages.remove(&page)
     }
 
     /// Puts the bytes over blocks of a page that has a slot, by the change of a number.

@@ -7,11 +7,12 @@ ghost use Rattle.backed_store.specs.Queues.{queue_len};
 
 use crate::cache::Cache;
 use crate::mark::Mark;
+use crate::slot::put_aside;
 use foundation::NoMemory;
 
 impl Cache {
     /// Takes the first page out of the queue of those to be written. Returns true with it if it is to be written: the host
-    /// is given it then. Frees the slot of a page that was never written after room was made for it.
+    /// is given it then. Takes the slot from a page that was never written after room was made for it.
     fn take_unwritten(&mut self) -> Option<(u64, bool)>
         ensures dirty { IfSome result (λ taken. IsTrue taken.1 → IsTrue (is_dirty (state_at self.old taken.0)) × ((state_at self.old taken.0).writing ≡ false)) }
         ensures states { IfSome result (λ taken. (p : ℕ) → state_at self.new p ≡ (if taken.1 && p == taken.0 then given (state_at self.old p) else state_at self.old p)) }
@@ -32,7 +33,7 @@ impl Cache {
         };
         if mark.is_nothing() {
             self.unkept.settle(page, mark.number, false);
-            self.slots.remove(page);
+            put_aside(&mut self.spare, self.slots.remove(page));
             return Some((page, false));
         }
         let due = mark.is_due();

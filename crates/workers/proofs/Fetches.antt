@@ -15,7 +15,7 @@ use Rattle.phases.specs.Slots.{slot_of}
 use Rattle.phases.specs.Notes.{PlainNote}
 use Rattle.phases.specs.DirectChain.{note_in}
 use Rattle.phases.specs.declared.note.Cause.TheVariants as cause
-use Rattle.lock_scopes.specs.Fetches.{ticket_left, ticket_of, note_left, notes_left, IsDecided, KeepsFetches, AreNoted}
+use Rattle.lock_scopes.specs.Fetches.{ticket_left, ticket_of, note_left, notes_left, KeepsFetches, AreNoted}
 use Rattle.close_audit.specs.Keeping.{notes_of_all}
 use Rattle.close_audit.specs.Undirected.{AreUndirected}
 use Rattle.close_audit.specs.Opened.{AreInPlace}

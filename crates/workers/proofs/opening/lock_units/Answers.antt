@@ -1,6 +1,5 @@
-use Rattle.std.proofs.Common.{rules, ℕ, ◌≡◌, ◌+◌, ◌*◌, [], vec_len, List, ap, sym, ◌∙◌, subst, arith}
-use Rattle.std.specs.Prelude.{slice_get, Some}
-use Rattle.unit_model.specs.Steps.{Step}
+use Rattle.std.proofs.Common.{rules, ◌≡◌, ◌+◌, vec_len, List, ap, sym, ◌∙◌, subst, arith}
+use Rattle.std.specs.Prelude.{slice_get}
 use Rattle.unit_model.specs.Unit.{PlainUnit}
 use Rattle.unit_model.specs.Receipts.{unit_address}
 use Rattle.lock_scopes.specs.Ledgers.{commits_of, most_commits}

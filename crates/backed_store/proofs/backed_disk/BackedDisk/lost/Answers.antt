@@ -1,4 +1,3 @@
-use Rattle.std.proofs.Common.{Bool, true, false}
 use Rattle.backed_store.proofs.Progressing.{lost-fenced, hosted-more}
 use Rattle.backed_store.proofs.backed_disk.BackedDisk.lost.Goals as goal
 

@@ -1,4 +1,3 @@
-use Rattle.std.proofs.Common.{◌∙◌}
 use Rattle.backed_store.proofs.Progressing.{as-host}
 use Rattle.backed_store.proofs.backed_disk.BackedDiskStore.ask_to_write.Goals as goal
 

@@ -1,5 +1,5 @@
-use Rattle.std.proofs.Common.{◌≡◌, ◌∙◌, ◌<◌, List, length, vec_len, subst, ap, arith}
-use Rattle.std.specs.Prelude.{OnOk, map}
+use Rattle.std.proofs.Common.{◌≡◌, ◌∙◌, ◌<◌, length, vec_len, subst, ap, arith}
+use Rattle.std.specs.Prelude.{OnOk}
 use Rattle.request_intake.specs.Inventory.{PlainInventory, inventory_of}
 use Rattle.workers.specs.Resizing.{WasResized}
 use Rattle.workers.proofs.host.Host.resize.Goals as goal
