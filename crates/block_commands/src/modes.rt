@@ -12,10 +12,10 @@ use std::alloc::{AllocError, Global};
 /// The most bytes that are returned: a header, a block descriptor and all pages.
 const MOST_BYTES: usize = 80;
 
-/// The device-specific parameter of a unit without a write cache: DPOFUA.
+/// DPOFUA, in the device-specific parameter: DPO and FUA are supported.
 const DPOFUA: u8 = 0x10;
 
-/// The same of a read-only unit: WP.
+/// WP, in the device-specific parameter: the medium may not be changed.
 const WP: u8 = 0x80;
 
 /// Read-Write Error Recovery.
@@ -90,36 +90,21 @@ fn put_header(
     request: &ModeRequest,
 ) -> Result<(), AllocError>
     ensures { OnOk result (list.new.items ≡ list.old.items
-        ++ mode_header write_cache read_only request.now.form request.now.descriptor
+        ++ mode_header read_only request.now.form request.now.descriptor
         (length (page_list format write_cache false request.now.pages))) }
 {
     let pages = pages_length(format, write_cache, request.pages);
     match request.form {
-        ModeForm::Six => list.extend_from_slice(&header_6(
-            write_cache,
-            read_only,
-            request.descriptor,
-            pages,
-        )),
-        ModeForm::Ten => list.extend_from_slice(&header_10(
-            write_cache,
-            read_only,
-            request.descriptor,
-            pages,
-        )),
+        ModeForm::Six => list.extend_from_slice(&header_6(read_only, request.descriptor, pages)),
+        ModeForm::Ten => list.extend_from_slice(&header_10(read_only, request.descriptor, pages)),
     }
 }
 
 /// Returns the device-specific parameter.
-fn device_specific(write_cache: bool, read_only: bool) -> u8
-    ensures { result ≡ device_specific write_cache read_only }
+fn device_specific(read_only: bool) -> u8
+    ensures { result ≡ device_specific read_only }
 {
-    match (write_cache, read_only) {
-        (false, false) => DPOFUA,
-        (true, false) => 0x00,
-        (false, true) => WP + DPOFUA,
-        (true, true) => WP,
-    }
+    if read_only { WP + DPOFUA } else { DPOFUA }
 }
 
 /// Returns how many bytes the pages have, whatever the format and the cache.
@@ -162,29 +147,29 @@ fn long_lba(descriptor: ModeDescriptor) -> u8
 
 /// Makes the header of 4 bytes before pages of so many bytes.
 #[tactic(auto, unfolding(command_model::specs::Modes::mode_header))]
-fn header_6(write_cache: bool, read_only: bool, descriptor: ModeDescriptor, pages: u8) -> [u8; 4]
+fn header_6(read_only: bool, descriptor: ModeDescriptor, pages: u8) -> [u8; 4]
     requires { pages ≤ 56 }
-    ensures { result ≡ mode_header write_cache read_only ModeForm.Six descriptor pages }
+    ensures { result ≡ mode_header read_only ModeForm.Six descriptor pages }
 {
     let descriptor = descriptor_length(descriptor);
     [
         3 + descriptor + pages,
         0x00,
-        device_specific(write_cache, read_only),
+        device_specific(read_only),
         descriptor,
     ]
 }
 
 /// Makes the header of 8 bytes before pages of so many bytes.
 #[tactic(auto, unfolding(command_model::specs::Modes::mode_header))]
-fn header_10(write_cache: bool, read_only: bool, descriptor: ModeDescriptor, pages: u8) -> [u8; 8]
+fn header_10(read_only: bool, descriptor: ModeDescriptor, pages: u8) -> [u8; 8]
     requires { pages ≤ 56 }
-    ensures { result ≡ mode_header write_cache read_only ModeForm.Ten descriptor pages }
+    ensures { result ≡ mode_header read_only ModeForm.Ten descriptor pages }
 {
     let length = u16::from(descriptor_length(descriptor));
     let mut header = [0; 8];
     header[..2].copy_from_slice(&(6 + length + u16::from(pages)).to_be_bytes());
-    header[3] = device_specific(write_cache, read_only);
+    header[3] = device_specific(read_only);
     header[4] = long_lba(descriptor);
     header[6..].copy_from_slice(&length.to_be_bytes());
     header

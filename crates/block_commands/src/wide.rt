@@ -82,7 +82,7 @@ pub(crate) fn wide<S: Store>(
             asked,
             timeouts,
             allocation,
-        } => operation_codes(alloc, write_cache, asked, timeouts, allocation),
+        } => operation_codes(alloc, asked, timeouts, allocation),
         WideCommand::Verify { sent, blocks, lba } => {
             without_data(alloc, verify(alloc, store, sent, lba, blocks, bytes))
         }

@@ -1,9 +1,8 @@
 -- The commands that a unit of the wide profile supports, as REPORT SUPPORTED OPERATION CODES tells them, SPC-4 §6.35.
-use Rattle.std.specs.Prelude.{ℕ, ◌+◌, ◌*◌, ◌/◌, ◌==◌, Bool, true, false, not, ◌&&◌, ◌||◌, List, [], ◌∷◌, ◌++◌, length, filter, map, replicate, take, sum_by, Option, None, Some, Ok, Err, find, option_map, is_some, if◌then◌else◌}
+use Rattle.std.specs.Prelude.{ℕ, ◌+◌, ◌*◌, ◌/◌, ◌==◌, Bool, ◌&&◌, ◌||◌, List, [], ◌∷◌, ◌++◌, length, map, replicate, take, sum_by, Option, None, Some, Ok, Err, find, option_map, is_some, if◌then◌else◌}
 use Rattle.std.specs.List.{list_any, flat_map}
 use Rattle.std.specs.Int.{w32, to_be_bytes}
 use Rattle.sense.specs.Conditions.{invalid_field_in_cdb}
-use Rattle.cdb.specs.Medium.{opcodes_that_verify, opcodes_with_fua}
 use Rattle.cdb.specs.Opcodes.{control_of, length_of_group}
 use Rattle.cdb.specs.Usage.{Field, mask_of, plain_commands, action_commands}
 use Rattle.cdb.specs.declared.wide_commands.CodesAsked.{CodesAsked}
@@ -23,23 +22,9 @@ usage_data opcode action fields =
     opcode ∷ (action + usage_byte opcode fields 1)
     ∷ map (usage_byte opcode fields) (2 ∷ 3 ∷ 4 ∷ 5 ∷ 6 ∷ 7 ∷ 8 ∷ 9 ∷ 10 ∷ 11 ∷ 12 ∷ 13 ∷ 14 ∷ 15 ∷ [])
 
--- whether a unit with a volatile write cache has a command: none that verifies what the medium has
-abbrev pub is_kept : ℕ × List Field × List Field → Bool
-is_kept c = not (list_any (λ known. known == c.0) opcodes_that_verify)
-
--- a command as such a unit has it: of DPO and FUA, DPO alone
-abbrev pub without_fua : ℕ × List Field × List Field → ℕ × List Field × List Field
-without_fua c = (c.0, c.1, if list_any (λ known. known == c.0) opcodes_with_fua then Field.Bits 1 4 4 ∷ [] else c.2)
-
--- the commands without service actions of a unit, with a volatile write cache or without
-abbrev pub commands_told : Bool → List (ℕ × List Field × List Field)
-commands_told true = map without_fua (filter is_kept plain_commands)
-commands_told false = plain_commands
-
--- that of an opcode without service actions, if the unit has it
-unfoldable pub plain_usage : Bool → ℕ → Option (List ℕ)
-plain_usage write_cache opcode =
-    option_map (λ c. usage_data c.0 0 (c.1 ++ c.2)) (find (λ c. c.0 == opcode) (commands_told write_cache))
+-- that of an opcode without service actions, if a unit has it
+unfoldable pub plain_usage : ℕ → Option (List ℕ)
+plain_usage opcode = option_map (λ c. usage_data c.0 0 (c.1 ++ c.2)) (find (λ c. c.0 == opcode) plain_commands)
 
 -- that of an opcode and a service action
 unfoldable pub action_usage : ℕ → ℕ → Option (List ℕ)
@@ -78,30 +63,30 @@ action_descriptor timeouts c =
     (c.0 ∷ 0x00 ∷ 0x00 ∷ c.1 ∷ 0x00 ∷ (if timeouts then 0x03 else 0x01) ∷ 0x00 ∷ cdb_length c.0 ∷ [])
     ++ timeouts_told timeouts
 
-unfoldable pub all_commands : Bool → Bool → List ℕ
-all_commands write_cache timeouts =
-    to_be_bytes w32 ((8 + length (timeouts_told timeouts)) * (length (commands_told write_cache) + length action_commands))
-    ++ flat_map (plain_descriptor timeouts) (commands_told write_cache) ++ flat_map (action_descriptor timeouts) action_commands
+unfoldable pub all_commands : Bool → List ℕ
+all_commands timeouts =
+    to_be_bytes w32 ((8 + length (timeouts_told timeouts)) * (length plain_commands + length action_commands))
+    ++ flat_map (plain_descriptor timeouts) plain_commands ++ flat_map (action_descriptor timeouts) action_commands
 
 -- that of an opcode and a service action, where one without service actions has the action 0: option 011b
-abbrev pub either_usage : Bool → ℕ → ℕ → Option (List ℕ)
-either_usage write_cache opcode action =
+abbrev pub either_usage : ℕ → ℕ → Option (List ℕ)
+either_usage opcode action =
     if has_actions opcode then action_usage opcode action
-    else (if action == 0 then plain_usage write_cache opcode else None)
+    else (if action == 0 then plain_usage opcode else None)
 
 -- REPORT SUPPORTED OPERATION CODES; with options 001b and 010b an opcode that has service actions is asked for with one,
 -- any other without
-abbrev pub codes_answer : Bool → CodesAsked → Bool → ℕ → Answer
-codes_answer write_cache AllCommands timeouts allocation = Ok (take allocation (all_commands write_cache timeouts))
-codes_answer write_cache (OneCommand opcode) timeouts allocation =
+abbrev pub codes_answer : CodesAsked → Bool → ℕ → Answer
+codes_answer AllCommands timeouts allocation = Ok (take allocation (all_commands timeouts))
+codes_answer (OneCommand opcode) timeouts allocation =
     if has_actions opcode then Err invalid_field_in_cdb
-    else Ok (take allocation (one_command opcode timeouts (plain_usage write_cache opcode)))
-codes_answer write_cache (OneServiceAction opcode action) timeouts allocation =
-    if is_some (plain_usage write_cache opcode) then Err invalid_field_in_cdb
+    else Ok (take allocation (one_command opcode timeouts (plain_usage opcode)))
+codes_answer (OneServiceAction opcode action) timeouts allocation =
+    if is_some (plain_usage opcode) then Err invalid_field_in_cdb
     else Ok (take allocation (one_command opcode timeouts (action_usage opcode action)))
-codes_answer write_cache (OneOfEither opcode action) timeouts allocation =
-    Ok (take allocation (one_command opcode timeouts (either_usage write_cache opcode action)))
+codes_answer (OneOfEither opcode action) timeouts allocation =
+    Ok (take allocation (one_command opcode timeouts (either_usage opcode action)))
 
--- whether a unit without a volatile write cache has a command of this opcode, as it tells
+-- whether a unit has a command of this opcode, as it tells
 abbrev pub is_told : ℕ → Bool
-is_told opcode = is_some (plain_usage false opcode) || has_actions opcode
+is_told opcode = is_some (plain_usage opcode) || has_actions opcode

@@ -89,30 +89,28 @@ abbrev pub wp : Bool → ℕ
 wp true = 0x80
 wp false = 0x00
 
--- DPOFUA, bit 4 of it: without a write cache DPO and FUA change nothing; with one FUA isn't supported, so a driver asks for
--- SYNCHRONIZE CACHE instead
-abbrev pub dpofua : Bool → ℕ
-dpofua true = 0x00
-dpofua false = 0x10
+-- DPOFUA, bit 4 of it: DPO and FUA are supported
+abbrev pub dpofua : ℕ
+dpofua = 0x10
 
--- the device-specific parameter of a unit with a volatile write cache or without, which is read-only or not
-abbrev pub device_specific : Bool → Bool → ℕ
-device_specific write_cache read_only = wp read_only + dpofua write_cache
+-- the device-specific parameter of a unit, which is read-only or not
+abbrev pub device_specific : Bool → ℕ
+device_specific read_only = wp read_only + dpofua
 
 -- the header before pages of so many bytes, SPC-4 §7.5.5: the mode data length, the medium type, the device-specific
 -- parameter, LONGLBA, the block descriptor length
-unfoldable pub mode_header : Bool → Bool → ModeForm → ModeDescriptor → ℕ → List ℕ
-mode_header write_cache read_only Six descriptor pages =
-    (3 + descriptor_length descriptor + pages) ∷ 0x00 ∷ device_specific write_cache read_only ∷ descriptor_length descriptor ∷ []
-mode_header write_cache read_only Ten descriptor pages =
+unfoldable pub mode_header : Bool → ModeForm → ModeDescriptor → ℕ → List ℕ
+mode_header read_only Six descriptor pages =
+    (3 + descriptor_length descriptor + pages) ∷ 0x00 ∷ device_specific read_only ∷ descriptor_length descriptor ∷ []
+mode_header read_only Ten descriptor pages =
     to_be_bytes w16 (6 + descriptor_length descriptor + pages)
-    ++ (0x00 ∷ device_specific write_cache read_only ∷ long_lba descriptor ∷ 0x00 ∷ [])
+    ++ (0x00 ∷ device_specific read_only ∷ long_lba descriptor ∷ 0x00 ∷ [])
     ++ to_be_bytes w16 (descriptor_length descriptor)
 
 -- the mode parameter list of a unit of so many blocks; a page has as many bytes whatever values of it are asked for
 abbrev pub mode_data : SenseFormat → Bool → Bool → ModeRequest → ℕ → List ℕ
 mode_data format write_cache read_only request blocks =
-    mode_header write_cache read_only request.form request.descriptor (length (page_list format write_cache false request.pages))
+    mode_header read_only request.form request.descriptor (length (page_list format write_cache false request.pages))
     ++ block_descriptor request.descriptor blocks
     ++ page_list format write_cache (is_mask request.values) request.pages
 

@@ -1,5 +1,5 @@
 -- Which commands may have to wait, where the pages of a disk come and go.
-use Rattle.std.specs.Prelude.{ℕ, Bool, true, false, ◌||◌}
+use Rattle.std.specs.Prelude.{ℕ, Bool, true, false, ◌&&◌, ◌||◌}
 use Rattle.cdb.specs.declared.commands.Command.{Command}
 use Rattle.cdb.specs.declared.commands.Command.TheVariants.{Read, Write, WriteSame, Unmap, CompareAndWrite, SynchronizeCache, Wide}
 use Rattle.cdb.specs.declared.wide_commands.WideCommand.{WideCommand}
@@ -31,6 +31,16 @@ abbrev pub is_flush : Command → Bool
 is_flush (SynchronizeCache lba blocks) = true
 is_flush _ = false
 
+-- whether a command reads blocks for the driver: READ
+abbrev pub is_read : Command → Bool
+is_read (Read lba count) = true
+is_read _ = false
+
+-- whether a command that asks for the medium itself, or doesn't, ends only once the medium has what was written before it: SYNCHRONIZE
+-- CACHE does, and READ that asks for the medium (FUA, SBC-3 §5.11), of which the device server writes what a volatile cache has first
+abbrev pub flushes : Bool → Command → Bool
+flushes asks_medium command = is_flush command || (asks_medium && is_read command)
+
 -- own: whether a command waits for blocks of a disk of so many, or for what was changed before it
-abbrev pub waits_at : ℕ → Command → Bool
-waits_at blocks command = needs blocks command || is_flush command
+abbrev pub waits_at : ℕ → Bool → Command → Bool
+waits_at blocks asks_medium command = needs blocks command || flushes asks_medium command

@@ -31,7 +31,7 @@ wide_answer format write_cache read_only capacity (ReportTaskManagement extended
 wide_answer format write_cache read_only capacity (GetLbaStatus allocation lba) bytes blocks =
     if nat_lt lba capacity then Ok (take allocation (lba_status capacity lba blocks)) else Err lba_out_of_range
 wide_answer format write_cache read_only capacity (ReportOperationCodes asked timeouts allocation) bytes blocks =
-    codes_answer write_cache asked timeouts allocation
+    codes_answer asked timeouts allocation
 -- SBC-3 §5.29
 wide_answer format write_cache read_only capacity (Verify sent count lba) bytes blocks =
     within capacity lba count (compared (first_unequal (run (to_verify sent bytes) 0 count) (run blocks lba count)))

@@ -17,7 +17,7 @@ use Rattle.unit_model.specs.Enabling.{enabled}
 use Rattle.unit_model.proofs.Marking.{done_on}
 use Rattle.unit_model.proofs.Tickets.{clash, itself}
 use Rattle.unit_model.specs.Jobs.{PlainJob}
-use Rattle.unit_model.specs.Unit.{PlainUnit, IsWithheld, HasToWait, is_backed, tells_no_cache, after as stepped, parking, dealing}
+use Rattle.unit_model.specs.Unit.{PlainUnit, IsWithheld, HasToWait, is_backed, needs_medium, after as stepped, parking, dealing}
 use Rattle.device_model.specs.Event.Commit.{Withholds}
 use Rattle.device_model.proofs.Withheld.{IsTaken, some_still, step_backed, ran_done}
 use Rattle.task_mgmt.specs.Functions.{step_by}
@@ -119,9 +119,9 @@ both_first false b h = h
 -- what may have to wait, or has its reply withheld, is of such a unit
 has_to_wait : (u : PlainUnit) (t : Ticket) (e : Entry) → HasToWait u t e → is_backed u ≡ true
 has_to_wait u t e (inl h) =
-    both_first (is_backed u) (waits_at (capacity_of u.opening u.steps) e.command || (tells_no_cache u && changes_medium e.command)) h.1
+    both_first (is_backed u) (waits_at (capacity_of u.opening u.steps) e.asks_medium e.command || (needs_medium u e && changes_medium e.command)) h.1
 has_to_wait u t e (inr h) =
-    both_first (is_backed u) (tells_no_cache u && (changes_medium e.command && h.0.status == good)) h.1.waits
+    both_first (is_backed u) (needs_medium u e && (changes_medium e.command && h.0.status == good)) h.1.waits
 
 -- and isn't marked, or ran
 may_wait_so : (x : PlainJob) (u : PlainUnit) (e : Entry) → HasToWait u x.entry.ticket e → NotMarked x u
@@ -134,7 +134,7 @@ waits_backed w k x m = has_to_wait m.holds.unit x.entry.ticket m.entry m.waits
 withheld_backed : (w : PlainWorld) (k : ℕ) (x : PlainJob) (r : PlainReply) (m : Withholds w k x r) → is_backed m.holds.unit ≡ true
 withheld_backed w k x r m =
     let u = m.holds.unit in
-    both_first (is_backed u) (tells_no_cache u && (changes_medium m.may.0.command && r.status == good)) m.may.3
+    both_first (is_backed u) (needs_medium u m.may.0 && (changes_medium m.may.0.command && r.status == good)) m.may.3
 
 abbrev Waits : PlainWorld → Type 0
 Waits w = AllAside w.units w.aside

@@ -14,9 +14,10 @@ use Rattle.scsi_codec.specs.declared.responses.ResponseCode.TheVariants as code
 use Rattle.scsi_codec.specs.declared.control_queue.Control.{Control}
 use Rattle.scsi_codec.specs.declared.control_queue.Control.TheVariants.{TaskManagement, AsynchronousNotification, MalformedFunction, MalformedNotification}
 use Rattle.scsi_codec.specs.declared.control_queue.FunctionResponse.{FunctionResponse}
-use Rattle.request_intake.specs.Inventory.{PlainInventory, has_target, is_cached, index_of, profile_of}
+use Rattle.cdb.specs.Decoding.{command}
+use Rattle.request_intake.specs.Inventory.{PlainInventory, has_target, index_of, profile_of}
 use Rattle.request_intake.specs.UnitRequest.{PlainRequest}
-use Rattle.request_intake.specs.Decision.{attribute_of, command_for, goes_both_ways, overruns, fails, decide_unit, decide_attribute, decide_command, decide_address, decide_reading, decided}
+use Rattle.request_intake.specs.Decision.{attribute_of, goes_both_ways, overruns, fails, decide_unit, decide_attribute, decide_command, decide_address, decide_reading, decided}
 use Rattle.request_intake.specs.declared.answer.ChainLengths.{ChainLengths}
 use Rattle.request_intake.specs.declared.attribute.TaskAttribute.{TaskAttribute}
 use Rattle.request_intake.specs.declared.decision.Decision.{Decision}
@@ -72,7 +73,7 @@ command_there units n bytes r c =
 address_there : (units : PlainInventory) (n : ChainLengths) (bytes : List ℕ) (r : Request)
     → IsThere (length units.addresses) (decide_address units n bytes r)
 address_there units n bytes r =
-    let c = command_for (is_cached units r.address) (profile_of units r.address) r.cdb in
+    let c = command (profile_of units r.address) r.cdb in
     there_either (has_target units.addresses r.address.target) (length units.addresses)
     (decide_command (index_of units.addresses r.address) n bytes r c) (fails code.BadTarget)
     (command_there units.addresses n bytes r c) tt

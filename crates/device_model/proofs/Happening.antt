@@ -19,7 +19,7 @@ use Rattle.command_model.specs.Effects.{changes_medium}
 use Rattle.command_model.specs.Statuses.{good}
 use Rattle.command_model.specs.Waiting.{needs, waits_at}
 use Rattle.unit_model.specs.Contents.{capacity_of, reply_after}
-use Rattle.unit_model.specs.Unit.{is_backed, tells_no_cache, may_wait}
+use Rattle.unit_model.specs.Unit.{is_backed, needs_medium, may_wait}
 use Rattle.unit_model.specs.Seen.{any_met}
 use Rattle.unit_model.proofs.Few.{alive_few}
 use Rattle.unit_model.specs.Jobs.{PlainJob}
@@ -237,7 +237,7 @@ answers_at_once false calm tells changes well a b = cc
 
 -- a command that may run does, or waits for the storage
 run_or_wait : (w : PlainWorld) (k : ℕ) (x : PlainJob) (holds : HandAtUnit w k (Hand.Taken x) x.unit)
-    → IsReady x.entry.ticket x.entry holds.unit.steps → (b : Bool) → may_wait holds.unit x.entry.command ≡ b → Does w (Event.Commit k)
+    → IsReady x.entry.ticket x.entry holds.unit.steps → (b : Bool) → may_wait holds.unit x.entry ≡ b → Does w (Event.Commit k)
 run_or_wait w k x holds ready true waits =
     (Transition.Defer k x, refl, record { holds = holds; entry = x.entry; waits = inl (ready, waits) })
 run_or_wait w k x holds ready false calm = (
@@ -254,8 +254,8 @@ run_or_wait w k x holds ready false calm = (
             nothing_promised _ (needs (capacity_of holds.unit.opening holds.unit.steps) x.entry.command) _ _ holds.unit.storage _ refl calm flush,
       ),
       λ waits.
-          absurd (answers_at_once (is_backed holds.unit) (waits_at (capacity_of holds.unit.opening holds.unit.steps) x.entry.command)
-          (tells_no_cache holds.unit) (changes_medium x.entry.command)
+          absurd (answers_at_once (is_backed holds.unit) (waits_at (capacity_of holds.unit.opening holds.unit.steps) x.entry.asks_medium x.entry.command)
+          (needs_medium holds.unit x.entry) (changes_medium x.entry.command)
           ((reply_after holds.unit.opening x.entry holds.unit.steps).status == good) calm waits),
     );
   },
@@ -279,7 +279,7 @@ commits w k x out c at =
                 let on = or_left (enabled x.entry h) (marked t h) c.handed_out m in
                 let ready : IsReady t x.entry h =
                 record { is_there = c.alive; is_enabled = on; is_unmarked = m; is_undone = undone } in
-                run_or_wait w k x holds ready (may_wait c.unit x.entry.command) refl
+                run_or_wait w k x holds ready (may_wait c.unit x.entry) refl
           ]) refl
       | inr withheld ↦ (Transition.Defer k x, refl, record { holds = holds; entry = x.entry; waits = inr withheld })
     ]

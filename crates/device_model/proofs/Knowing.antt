@@ -14,7 +14,6 @@ use Rattle.unit_model.specs.Asking.{IsOf}
 use Rattle.task_mgmt.specs.declared.kind.MarkBy.TheVariants.{Abort, Reset}
 use Rattle.device_model.specs.Parts.{Hand}
 use Rattle.device_model.specs.World.{PlainWorld, Opens, AreAddressed}
-use Rattle.command_model.specs.Identity.{told_by}
 use Rattle.device_model.specs.Addressed.{IsAddressed}
 use Rattle.device_model.specs.Transitions.{Transition}
 use Rattle.device_model.specs.Happens.{MayHappen, Occurrence, Reached, occurrence_of, world_of, Leads}
@@ -84,8 +83,7 @@ addressed_where : (old : PlainWorld) (ds : List Transition) (w : PlainWorld) →
 addressed_where old ds w o e h k u at =
     let told = (h.units k u at).0 in
     subst (λ inventory. IsAddressed inventory k u) (sym e)
-    (subst (λ z. (slice_get old.inventory.addresses k ≡ Some (unit_address z)) × (slice_get old.inventory.profiles k ≡ Some z.profile)
-    × (slice_get old.inventory.caches k ≡ Some (told_by z.profile z.identity).write_cache))
+    (subst (λ z. (slice_get old.inventory.addresses k ≡ Some (unit_address z)) × (slice_get old.inventory.profiles k ≡ Some z.profile))
     (sym told.opening) (o.addressed k told.opened told.there))
 
 -- each request that arrived names the unit that it is for

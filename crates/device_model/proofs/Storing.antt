@@ -12,7 +12,7 @@ use Rattle.block_store.specs.Blocks.{Blocks}
 use Rattle.block_store.specs.Storage.{IsLeft}
 use Rattle.command_model.specs.PlainReply.{PlainReply}
 use Rattle.command_model.specs.Statuses.{good}
-use Rattle.command_model.specs.Waiting.{is_flush}
+use Rattle.command_model.specs.Waiting.{flushes}
 use Rattle.unit_model.specs.Tasks.{Entry, task_of}
 use Rattle.unit_model.specs.Steps.{alive}
 use Rattle.unit_model.specs.Flushing.{HasBeen, is_in_flush, HasBeenBehind, IsThrough}
@@ -299,7 +299,7 @@ kept_then w unit_index p u v at now =
 -- a flush that may end with GOOD is durable
 pub flush_kept : (w : PlainWorld) (k : ℕ) (x : PlainJob) (r : PlainReply) (u : PlainUnit) (e : Entry) (l : Ledger) (left : Blocks) (b : ℕ)
     → Happens (Transition.Commit k x r) w → UnitIs w x.unit u → r.status ≡ good → task_of x.entry.ticket (alive u.steps) ≡ Some e
-    → is_flush e.command ≡ true → u.storage ≡ Some l → IsLeft l left → is_in_flush e.command b ≡ true
+    → flushes e.asks_medium e.command ≡ true → u.storage ≡ Some l → IsLeft l left → is_in_flush e.command b ≡ true
     → HasBeen u.opening u.steps e b (left b)
 flush_kept w k x r u e l left b h at ends there flush has leaves named =
     let one : h.holds.unit ≡ u = same (sym h.holds.there ∙ at) in
@@ -312,14 +312,14 @@ if_stored P o l h e = subst (λ z. IfSome z P) e h
 -- a command whose answer waits is answered as it runs where what it changed is kept
 pub command_kept : (w : PlainWorld) (k : ℕ) (x : PlainJob) (r : PlainReply) (u : PlainUnit) (e : Entry) (l : Ledger) (left : Blocks) (b : ℕ)
     → Happens (Transition.Commit k x r) w → UnitIs w x.unit u → task_of x.entry.ticket (alive u.steps) ≡ Some e
-    → waits_behind u e.command r.status ≡ true → u.storage ≡ Some l → IsLeft l left
+    → waits_behind u e r.status ≡ true → u.storage ≡ Some l → IsLeft l left
     → HasBeenBehind u.opening (Step.Commit x.entry.ticket r ∷ u.steps) x.entry.ticket b (left b)
 command_kept w k x r u e l left b h at there waits has leaves =
     let t = x.entry.ticket in
     let one : h.holds.unit ≡ u = same (sym h.holds.there ∙ at) in
     let may = subst (λ v. MayCommit v t r) one h.may in
     let its : e ≡ may.0 = same (sym there ∙ may.1.is_there) in
-    let ends = may.3 (subst (λ (z : Entry). waits_behind u z.command r.status ≡ true) its waits) in
+    let ends = may.3 (subst (λ (z : Entry). waits_behind u z r.status ≡ true) its waits) in
     if_stored (λ z. IsThrough u.opening (Step.Commit t r ∷ u.steps) z t) u.storage l ends has left leaves b
 
 -- and is concluded where it is

@@ -3,7 +3,6 @@ use Rattle.std.proofs.Common.{◌≡◌, ℕ, ◌<◌, true, false, ◌||◌, Li
 use Rattle.std.specs.Prelude.{◌⊎◌, Contains, slice_index_or, min}
 use Rattle.std.specs.Option.{option_map}
 use Rattle.block_store.specs.Storage.{Dealing, and_then}
-use Rattle.cdb.specs.declared.commands.Command.{Command}
 use Rattle.command_model.specs.PlainReply.{PlainReply}
 use Rattle.ring_core.specs.declared.log.Ticket.{Ticket}
 use Rattle.unit_model.specs.Tasks.{Entry, task_of}
@@ -19,7 +18,7 @@ use Rattle.device_model.proofs.Handed.{IsOpen, Spares, alive_on, undone_on, eith
 
 -- whose replies wait at one unit wait at the other
 abbrev pub WaitsAlike : PlainUnit → PlainUnit → Type 0
-WaitsAlike u v = (c : Command) (status : ℕ) → waits_behind v c status ≡ waits_behind u c status
+WaitsAlike u v = (e : Entry) (status : ℕ) → waits_behind v e status ≡ waits_behind u e status
 
 -- a unit once a step was taken, whatever it parks
 pub record Follows (s : Step) (u v : PlainUnit) : Type 0 where
@@ -41,7 +40,7 @@ step_backed (Step.Abort rule) u = refl
 step_backed (Step.Reset c) u = refl
 
 alike : (u v : PlainUnit) → v.opening ≡ u.opening → is_backed v ≡ is_backed u → WaitsAlike u v
-alike u v o b c n = cc
+alike u v o b e n = cc
 
 pub follows : (s : Step) (u : PlainUnit) → Follows s u (stepped s u)
 follows s u = record { steps = refl; waits = alike u (stepped s u) refl (step_backed s u) }
@@ -78,7 +77,7 @@ withheld_on s t e r u v f sp h =
     record {
       is_there = ap (λ past. task_of t (alive past)) f.steps ∙ alive_on s t u.steps e sp h.is_there;
       ran = subst (λ past. Contains past (Step.Commit t r)) (sym f.steps) (contains_on s (Step.Commit t r) u.steps h.ran);
-      waits = f.waits e.command r.status ∙ h.waits;
+      waits = f.waits e r.status ∙ h.waits;
     }
 
 handed_on : (s : Step) (e : Entry) (past : List Step) → (enabled e past || marked e.ticket past) ≡ true
@@ -104,7 +103,7 @@ withheld_alike t e r u v same w h =
     record {
       is_there = ap (λ past. task_of t (alive past)) same ∙ h.is_there;
       ran = subst (λ past. Contains past (Step.Commit t r)) (sym same) h.ran;
-      waits = w e.command r.status ∙ h.waits;
+      waits = w e r.status ∙ h.waits;
     }
 
 -- the unit stays but for what its storage has
@@ -119,7 +118,7 @@ taken_alike e u v same w h = (
 )
 
 -- its command runs, and its reply waits
-pub withheld_now : (e : Entry) (r : PlainReply) (u : PlainUnit) → IsTaken e u → waits_behind u e.command r.status ≡ true
+pub withheld_now : (e : Entry) (r : PlainReply) (u : PlainUnit) → IsTaken e u → waits_behind u e r.status ≡ true
     → IsTaken e (stepped (Step.Commit e.ticket r) u)
 withheld_now e r u h w = (
   h.0,

@@ -454,7 +454,7 @@ withholds k x r w m us b h =
     (λ was more. (tt, more)) h in
     let c = taken k x out w u m.holds.there m.holds.seat h in
     let one : m.may.0 ≡ x.entry = same (sym m.may.1.is_there ∙ c.0) in
-    let waits = subst (λ (e : Entry). waits_behind u e.command r.status ≡ true) one m.may.3 in
+    let waits = subst (λ (e : Entry). waits_behind u e r.status ≡ true) one m.may.3 in
     let is : ToCommit new x = (stepped s u, get_change (stepped s) n old u m.holds.there, withheld_now x.entry r u c waits) in
     let a = between_parts (ToCommit new) (all_off w) w.aside w.woken all.1 in (
       all.0,

@@ -24,7 +24,7 @@ lengths_of c = record { readable = readable_total c.parts; writable = writable_t
 
 -- what was asked of the task of an entry
 abbrev pub request_of : Entry → PlainRequest
-request_of e = record { id = e.id; attribute = e.attribute; command = e.command; data_out = e.data_out }
+request_of e = record { id = e.id; attribute = e.attribute; command = e.command; asks_medium = e.asks_medium; data_out = e.data_out }
 
 -- what is told: bytes that were decided at the Fetch, or how the request ended at its unit
 pub data Outcome : Type 0 where

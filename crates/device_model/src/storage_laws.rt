@@ -6,7 +6,7 @@ ghost use Rattle.block_store.specs.Blocks.{Blocks};
 ghost use Rattle.block_store.specs.Storage.{Ledger, Dealing, IsLeft};
 ghost use Rattle.command_model.specs.PlainReply.{PlainReply};
 ghost use Rattle.command_model.specs.Statuses.{good};
-ghost use Rattle.command_model.specs.Waiting.{is_flush};
+ghost use Rattle.command_model.specs.Waiting.{flushes};
 ghost use Rattle.unit_model.specs.Tasks.{Entry, task_of};
 ghost use Rattle.unit_model.specs.Steps.{Step, alive};
 ghost use Rattle.unit_model.specs.Flushing.{HasBeen, HasBeenBehind, is_in_flush};
@@ -50,25 +50,27 @@ pub fn a_storage_changes_by_its_host()
         UnitIs (after (Transition.Deal unit_index x) w) unit_index (dealing x u) }
 {}
 
-/// A flush ends with GOOD only once the host's storage has what it names: where the command of a SYNCHRONIZE CACHE may run so, a
-/// crash at that moment leaves each block that it names as the block was once the command might run (SAM-5 §8.5), or later. So each
-/// WRITE is left that was answered before the command came, or that it waited for, unless the block was written over since.
+/// A flush ends with GOOD only once the host's storage has what it names: where the command of a SYNCHRONIZE CACHE may run so, or a
+/// READ that asks for the medium (FUA, SBC-3 §5.11), a crash at that moment leaves each block that it names as the block was once the
+/// command might run (SAM-5 §8.5), or later. So each WRITE is left that was answered before the command came, or that it waited for,
+/// unless the block was written over since.
 pub fn a_flush_ends_once_it_is_kept()
     ensures { (w : PlainWorld) (k : ℕ) (x : PlainJob) (r : PlainReply) (u : PlainUnit) (e : Entry) (l : Ledger) (left : Blocks) (b : ℕ) →
         Happens (Transition.Commit k x r) w → UnitIs w x.unit u → r.status ≡ good → task_of x.entry.ticket (alive u.steps) ≡ Some e →
-        is_flush e.command ≡ true → u.storage ≡ Some l → IsLeft l left → is_in_flush e.command b ≡ true →
+        flushes e.asks_medium e.command ≡ true → u.storage ≡ Some l → IsLeft l left → is_in_flush e.command b ≡ true →
         HasBeen u.opening u.steps e b (left b) }
 {}
 
-/// Where a unit tells of no volatile write cache (SBC-3 §6.5), a command that changed its blocks ends with GOOD only once the
-/// host's storage has what it changed. A crash at that moment leaves each block as it was once the command had run, or later.
+/// Where a unit tells of no volatile write cache (SBC-3 §6.5), or the command asks for the medium (FUA, SBC-3 §5.33), one that
+/// changed its blocks ends with GOOD only once the host's storage has what it changed. A crash at that moment leaves each block as it
+/// was once the command had run, or later.
 ///
 /// - `commit`: the command is answered as it runs.
 /// - `conclude`: it ran before, and its reply was withheld until now.
 pub fn a_command_is_answered_once_it_is_kept()
     ensures commit { (w : PlainWorld) (k : ℕ) (x : PlainJob) (r : PlainReply) (u : PlainUnit) (e : Entry) (l : Ledger) (left : Blocks)
         (b : ℕ) → Happens (Transition.Commit k x r) w → UnitIs w x.unit u → task_of x.entry.ticket (alive u.steps) ≡ Some e →
-        waits_behind u e.command r.status ≡ true → u.storage ≡ Some l → IsLeft l left →
+        waits_behind u e r.status ≡ true → u.storage ≡ Some l → IsLeft l left →
         HasBeenBehind u.opening (Step.Commit x.entry.ticket r ∷ u.steps) x.entry.ticket b (left b) }
     ensures conclude { (w : PlainWorld) (k : ℕ) (x : PlainJob) (r : PlainReply) (u : PlainUnit) (l : Ledger) (left : Blocks) (b : ℕ) →
         Happens (Transition.Conclude k x r) w → UnitIs w x.unit u → u.storage ≡ Some l → IsLeft l left →

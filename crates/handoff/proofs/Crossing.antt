@@ -14,7 +14,7 @@ use Rattle.handoff.specs.contracts.seat.Seat.TheInside as seat
 
 fields : IsSend inside.the_row
 fields = recorded_send inside.the_field.row _ _ inside.the_type.to_one
-    (struct_send (shape inside.the_type) (search sendable, (search sendable depth 60 fits 50000, (chain.the_send, (search sendable, (search sendable, (search sendable depth 60 fits 50000, (search sendable, tt))))))))
+    (struct_send (shape inside.the_type) (search sendable, (search sendable depth 60 fits 50000, (chain.the_send, (search sendable, (search sendable, (search sendable depth 60 fits 50000, (search sendable, (search sendable, tt)))))))))
 
 pub job_sends : IsSend the_row
 job_sends = search (sendable, fields)

@@ -46,7 +46,7 @@ by_ring q r s p e number accepted =
 
 pub answers_none : (h : Hand) (q : BareQueue) (m : List ℕ) (b : Bool) (r : BareQueue) (n : List ℕ) (h' : Hand)
     → Answers h q m b r n h' → TakesNone q r
-answers_none (Hand.Done x o) q m true r n h' (did, is) = by_ring q r Slot.Empty _ (did 0 (record { addresses = []; profiles = []; caches = [] }) Slot.Empty).queue refl refl
+answers_none (Hand.Done x o) q m true r n h' (did, is) = by_ring q r Slot.Empty _ (did 0 (record { addresses = []; profiles = [] }) Slot.Empty).queue refl refl
 answers_none (Hand.Done x o) q m false r n h' (lets, is) = stays_none q r lets.stays.queue
 answers_none Hand.Empty q m true r n h' e = absurd e
 answers_none Hand.Empty q m false r n h' e = stays_none q r e.0.queue
@@ -57,7 +57,7 @@ answers_none (Hand.Answered unit_index t) q m false r n h' e = stays_none q r e.
 
 pub directs_none : (s : Slot) (q : BareQueue) (m : List ℕ) (b : Bool) (r : BareQueue) (n : List ℕ) (s' : Slot)
     → Directs s q m b r n s' → TakesNone q r
-directs_none (Slot.Direct c o) q m true r n s' (did, is) = by_ring q r s' _ (did (record { addresses = []; profiles = []; caches = [] })).queue refl refl
+directs_none (Slot.Direct c o) q m true r n s' (did, is) = by_ring q r s' _ (did (record { addresses = []; profiles = [] })).queue refl refl
 directs_none (Slot.Direct c o) q m false r n s' (lets, is) = stays_none q r lets.stays.queue
 directs_none Slot.Empty q m true r n s' e = absurd e
 directs_none Slot.Empty q m false r n s' e = stays_none q r e.0.queue
@@ -66,7 +66,7 @@ directs_none (Slot.Arrived x) q m false r n s' e = stays_none q r e.0.queue
 
 responds_where : (over : Bool) (f : Opened) (q : BareQueue) (m : List ℕ) (b : Bool) (r : BareQueue) (n : List ℕ) (f' : Option Opened)
     → RespondsWhere over f q m b r n f' → TakesNone q r
-responds_where true f q m true r n f' (did, is) = by_ring q r Slot.Empty _ (did (record { addresses = []; profiles = []; caches = [] }) Slot.Empty).queue refl refl
+responds_where true f q m true r n f' (did, is) = by_ring q r Slot.Empty _ (did (record { addresses = []; profiles = [] }) Slot.Empty).queue refl refl
 responds_where true f q m false r n f' (lets, is) = stays_none q r lets.stays.queue
 responds_where false f q m true r n f' e = absurd e
 responds_where false f q m false r n f' e = stays_none q r e.0.queue
@@ -79,7 +79,7 @@ responds_none None q m false r n f' e = stays_none q r e.0.queue
 
 raises_to : (held : List PlainChain) (e : EventRecord) (later : List EventRecord) (q : BareQueue) (m : List ℕ) (p : PlainPort) (b : Bool)
     (r : BareQueue) (n : List ℕ) (p' : PlainPort) (w' : List EventRecord) → RaisesTo held e later q m p b r n p' w' → TakesNone q r
-raises_to (c ∷ more) e later q m p true r n p' w' did = by_ring q r Slot.Empty _ (did.0 (record { addresses = []; profiles = []; caches = [] }) Slot.Empty).queue refl refl
+raises_to (c ∷ more) e later q m p true r n p' w' did = by_ring q r Slot.Empty _ (did.0 (record { addresses = []; profiles = [] }) Slot.Empty).queue refl refl
 raises_to (c ∷ more) e later q m p false r n p' w' did = stays_none q r did.1.at_queue.queue
 raises_to [] e later q m p true r n p' w' did = stays_none q r did.0.queue
 raises_to [] e later q m p false r n p' w' did = absurd did

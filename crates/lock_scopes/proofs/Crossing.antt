@@ -74,7 +74,7 @@ option_sends R s = enum_send (enum_shape (option_type R)) (tt, ((s, tt), tt))
 
 job_fields : IsSend job.the_row
 job_fields = recorded_send job.the_field.row _ _ job.the_type.to_one
-    (struct_send (shape job.the_type) (search sendable, (search sendable depth 60 fits 50000, (chain.the_send, (search sendable, (search sendable, (search sendable depth 60 fits 50000, (search sendable, tt))))))))
+    (struct_send (shape job.the_type) (search sendable, (search sendable depth 60 fits 50000, (chain.the_send, (search sendable, (search sendable, (search sendable depth 60 fits 50000, (search sendable, (search sendable, tt)))))))))
 
 pub job_sends : IsSend job_row
 job_sends = search (sendable, job_fields)

@@ -16,7 +16,7 @@ use Rattle.command_model.specs.PlainReply.{PlainReply, success}
 use Rattle.command_model.specs.Inner.PlainReply.{good_data}
 use Rattle.command_model.specs.Replies.{reply_of}
 use Rattle.command_model.specs.Statuses.{good}
-use Rattle.command_model.specs.Waiting.{is_flush}
+use Rattle.command_model.specs.Waiting.{flushes}
 use Rattle.unit_model.specs.Flushing.{IsDurable}
 use Rattle.command_model.specs.Facts.{Facts}
 use Rattle.request_intake.specs.declared.attribute.TaskAttribute.{TaskAttribute}
@@ -195,9 +195,9 @@ module _ (o : Opening) (past : List Step) (block_at : Blocks) (pending : List Co
 
     -- all of it
     pub serves : (storage : Option Ledger) (answers : Ending → Type 0) → j.address ≡ unit_address o
-        → (enabled j.entry (Step.Enter j.entry ∷ past) ≡ true → (r : PlainReply) → r.status ≡ good → is_flush j.entry.command ≡ true
+        → (enabled j.entry (Step.Enter j.entry ∷ past) ≡ true → (r : PlainReply) → r.status ≡ good → flushes j.entry.asks_medium j.entry.command ≡ true
         → IfSome storage (λ l. IsDurable o (Step.Enter j.entry ∷ past) l j.entry))
-        → writes_through (unit_with o past [] false storage) j.entry.command ≡ false
+        → writes_through (unit_with o past [] false storage) j.entry.asks_medium j.entry.command ≡ false
         → answers (ending_of (outcome_for (unit_address o) (length (Step.Enter j.entry ∷ past)) j.entry.ticket p))
         → j.chain.ticket ≡ j.entry.ticket
         → ServesAlone answers (unit_with o past [] false storage) j
@@ -272,9 +272,9 @@ module _ (o : Opening) (past : List Step) (block_at : Blocks) (pending : List Co
   pub serves_alone : (answers : Ending → Type 0) (keeps keeps' : Bool) (storage storage' : Option Ledger) → storage' ≡ storage → j.address ≡ unit_address o → keeps ≡ false → keeps' ≡ false
       → answers (ending_of (outcome_for (unit_address o) (length (Step.Enter j.entry ∷ past)) j.entry.ticket p))
       → j.chain.ticket ≡ j.entry.ticket
-      → (enabled j.entry (Step.Enter j.entry ∷ past) ≡ true → (r : PlainReply) → r.status ≡ good → is_flush j.entry.command ≡ true
+      → (enabled j.entry (Step.Enter j.entry ∷ past) ≡ true → (r : PlainReply) → r.status ≡ good → flushes j.entry.asks_medium j.entry.command ≡ true
       → IfSome storage (λ l. IsDurable o (Step.Enter j.entry ∷ past) l j.entry))
-      → writes_through (unit_with o past [] false storage) j.entry.command ≡ false
+      → writes_through (unit_with o past [] false storage) j.entry.asks_medium j.entry.command ≡ false
       → ServesAlone answers (unit_with o past (parked_of tasks) keeps storage) j (unit_with o steps' (parked_of tasks) keeps' storage')
   serves_alone answers keeps keeps' storage storage' kind named a b answered own durable off =
       subst (λ x. ServesAlone answers (unit_with o past (parked_of tasks) keeps storage) j (unit_with o steps' (parked_of tasks) keeps' x)) (sym kind)

@@ -21,7 +21,7 @@ use Rattle.unit_model.specs.Jobs.{PlainJob}
 use Rattle.task_set.specs.Tasks.{PlainTask, parked_of}
 use Rattle.task_set.specs.Inner.Tasks.{moved, task_at}
 use Rattle.unit_model.specs.Asking.{IsOf, asked_of, CannotCommit}
-use Rattle.command_model.specs.Waiting.{is_flush, waits_at}
+use Rattle.command_model.specs.Waiting.{flushes, waits_at}
 use Rattle.command_model.specs.Statuses.{good}
 use Rattle.unit_model.specs.Flushing.{IsDurable}
 use Rattle.logical_unit.specs.Calls.{Waits}
@@ -106,7 +106,7 @@ module _ {o : Opening} {past : List Step} {block_at : Blocks} {pending : List Co
 
   -- its command may run, on a disk whose pages come and go: it waits
   pub waits_for : (j : PlainJob) (x : PlainTask) (keeps : Bool) (storage storage' : Option Ledger) → task_at j.entry.ticket tasks ≡ Some x → Turns x.seen j turn.Ready
-      → is_some storage ≡ true → waits_at (capacity_of o past) x.seen.entry.command ≡ true → storage' ≡ storage
+      → is_some storage ≡ true → waits_at (capacity_of o past) x.seen.entry.asks_medium x.seen.entry.command ≡ true → storage' ≡ storage
       → Waits (record { opening = o; steps = past; parked = parked_of tasks; keeps_replies = keeps; storage = storage }) j
       (record { opening = o; steps = past; parked = parked_of tasks; keeps_replies = keeps; storage = storage' })
   waits_for j x keeps storage storage' at turns on cause kind =
@@ -148,7 +148,7 @@ module _ {o : Opening} {past : List Step} {block_at : Blocks} {pending : List Co
   pub commits_run : (j : PlainJob) (e : Entry) (keeps : Bool) (storage storage' : Option Ledger) (facts : Facts) (p : Option PlainPerformed) (block_at' : Blocks) (pending' : List Code)
       → storage' ≡ storage → IsOf j e past → IsReady j.entry.ticket e past → facts ≡ facts_after o past
       → Comes keeps facts (IsLostIn storage) e.command e.data_out p block_at block_at' pending pending'
-      → ((r : PlainReply) → r.status ≡ good → is_flush e.command ≡ true → IfSome storage (λ l. IsDurable o past l e))
+      → ((r : PlainReply) → r.status ≡ good → flushes e.asks_medium e.command ≡ true → IfSome storage (λ l. IsDurable o past l e))
       → Runs (record { opening = o; steps = past; parked = parked_of tasks; keeps_replies = keeps; storage = storage }) j
       (outcome_for (unit_address o) (length past) j.entry.ticket p)
       (record { opening = o; steps = step_for j.entry.ticket p ∷ past; parked = parked_of (map (moved (finished j.entry.ticket (ran_well p))) tasks); keeps_replies = keeps; storage = storage' })

@@ -1,9 +1,6 @@
 -- Replies that aren't told before the host's storage has what their commands changed.
-use Rattle.std.proofs.Common.{◌≡◌, ◌⊎◌, ℕ, ◌==◌, ◌||◌, ◌&&◌, not, Bool, inl, inr, List, [], ◌∷◌, length, Option, Some, None, is_some, IfSome, IsTrue, IsFalse, Contains, true, false, refl, sym, ◌∙◌, ap, subst, arith}
+use Rattle.std.proofs.Common.{◌≡◌, ℕ, ◌==◌, ◌||◌, ◌&&◌, Bool, List, [], Option, Some, None, IfSome, true, false, refl, sym, ◌∙◌, ap, subst, arith}
 use Rattle.ring_core.specs.declared.log.Ticket.{Ticket}
-use Rattle.scsi_codec.specs.declared.lun.Address.{Address}
-use Rattle.block_store.specs.Storage.{Ledger}
-use Rattle.cdb.specs.declared.commands.Command.{Command}
 use Rattle.command_model.specs.Effects.{changes_medium}
 use Rattle.command_model.specs.PlainReply.{PlainReply, success}
 use Rattle.command_model.specs.Statuses.{good}
@@ -11,9 +8,9 @@ use Rattle.unit_model.specs.Tasks.{Entry, task_of}
 use Rattle.unit_model.specs.Steps.{Step, alive, done, ended_well}
 use Rattle.unit_model.specs.Contents.{Opening}
 use Rattle.unit_model.specs.Flushing.{IsThrough}
-use Rattle.unit_model.specs.Lawful.{IsLawful, IsReady}
+use Rattle.unit_model.specs.Lawful.{IsLawful}
 use Rattle.unit_model.specs.Jobs.{PlainJob}
-use Rattle.unit_model.specs.Unit.{PlainUnit, is_backed, tells_no_cache, waits_behind, EndsAtOnce, IsWithheld, Replies, Steps}
+use Rattle.unit_model.specs.Unit.{PlainUnit, is_backed, needs_medium, tells_no_cache, waits_behind, EndsAtOnce, IsWithheld, Replies, Steps}
 use Rattle.unit_model.specs.Asking.{Asked, IsOf, asked_of, IsNotWithheld}
 use Rattle.block_store.specs.Blocks.{Blocks}
 use Rattle.unit_attention.specs.declared.code.Code.{Code}
@@ -24,10 +21,8 @@ use Rattle.task_set.specs.Tasks.{PlainTask}
 use Rattle.task_set.specs.Inner.Tasks.{task_at}
 use Rattle.logical_unit.specs.Inner.Parts.{AreKept}
 use Rattle.logical_unit.proofs.Keeping.{task_at_alive, task_at_none, ticket_at}
-use Rattle.logical_unit.specs.Calls.{Commits, Withholds, Concludes}
+use Rattle.logical_unit.specs.Calls.{Commits}
 use Rattle.logical_unit.specs.Inner.Calls.{writes_through, Runs, is_good, ends_well}
-use Rattle.logical_unit.specs.Inner.Performing.{PlainPerformed}
-use Rattle.logical_unit.specs.Inner.Outcomes.{outcome_for}
 use Rattle.logical_unit.specs.declared.outcomes.Outcome.{Outcome}
 use Rattle.logical_unit.specs.declared.outcomes.Outcome.TheVariants as outcome
 
@@ -54,22 +49,29 @@ through_changes false cacheless changes is = absurd (let no : false ≡ true = i
 pub own_command : (j : PlainJob) (e : Entry) (steps : List Step) → IsOf j e steps → e.command ≡ j.entry.command
 own_command j e steps of = ap (λ (a : Asked). a.command) of.as_asked
 
+-- both by what was asked
+abbrev through_asked : PlainUnit → Asked → Bool
+through_asked u a = writes_through u a.asks_medium a.command
+
+abbrev behind_asked : PlainUnit → Asked → ℕ → Bool
+behind_asked u a status = is_backed u && ((tells_no_cache u || a.asks_medium) && (changes_medium a.command && status == good))
+
 -- of a command that doesn't write through nothing waits
-pub off_behind : (u : PlainUnit) (command : Command) (status : ℕ) → writes_through u command ≡ false
-    → waits_behind u command status ≡ true → ⊥
-off_behind u command status off is =
-    let through = (behind_through (is_backed u) (tells_no_cache u) (changes_medium command) (status == good) is).0 in
+pub off_behind : (u : PlainUnit) (e : Entry) (status : ℕ) → writes_through u e.asks_medium e.command ≡ false
+    → waits_behind u e status ≡ true → ⊥
+off_behind u e status off is =
+    let through = (behind_through (is_backed u) (needs_medium u e) (changes_medium e.command) (status == good) is).0 in
     let no : false ≡ true = sym off ∙ through in
     cc
 
-pub off_withheld : (u : PlainUnit) (j : PlainJob) → writes_through u j.entry.command ≡ false → IsNotWithheld j u
+pub off_withheld : (u : PlainUnit) (j : PlainJob) → writes_through u j.entry.asks_medium j.entry.command ≡ false → IsNotWithheld j u
 off_withheld u j off = λ e r of held.
-    off_behind u j.entry.command r.status off (subst (λ c. waits_behind u c r.status ≡ true) (own_command j e u.steps of) held.waits)
+    off_behind u j.entry r.status off (subst (λ (a : Asked). behind_asked u a r.status ≡ true) of.as_asked held.waits)
 
 -- nor of one that ended otherwise
 pub unwell_withheld : (u : PlainUnit) (j : PlainJob) → ended_well j.entry.ticket u.steps ≡ false → IsNotWithheld j u
 unwell_withheld u j off = λ e r of held.
-    let ends : r.status ≡ good = grind (arith, (behind_through (is_backed u) (tells_no_cache u) (changes_medium e.command) (r.status == good) held.waits).1) in
+    let ends : r.status ≡ good = grind (arith, (behind_through (is_backed u) (needs_medium u e) (changes_medium e.command) (r.status == good) held.waits).1) in
     let no : false ≡ true = sym off ∙ contained_well j.entry.ticket r u.steps ends held.ran in
     cc
 
@@ -83,11 +85,11 @@ runs_at_once u j (outcome.Aborted why) v ran known once = ran
 runs_at_once u j outcome.Busy v ran known once = ran
 runs_at_once u j outcome.Unknown v (cannot, same) known once = (cannot, same, known)
 
-pub ran_commits : (u : PlainUnit) (j : PlainJob) (o : Outcome) (v : PlainUnit) → writes_through u j.entry.command ≡ false → Runs u j o v
+pub ran_commits : (u : PlainUnit) (j : PlainJob) (o : Outcome) (v : PlainUnit) → writes_through u j.entry.asks_medium j.entry.command ≡ false → Runs u j o v
     → IsNotWithheld j u → Commits u j o v
 ran_commits u j o v off ran known =
     runs_at_once u j o v ran known (λ e r of ends steps behind.
-    absurd (off_behind u j.entry.command r.status off (subst (λ c. waits_behind u c r.status ≡ true) (own_command j e u.steps of) behind)))
+    absurd (off_behind u j.entry r.status off (subst (λ (a : Asked). behind_asked u a r.status ≡ true) of.as_asked behind)))
 
 -- what waits behind a command that ran, whatever else
 
@@ -116,22 +118,22 @@ module _ {o : Opening} {past : List Step} {block_at : Blocks} {pending : List Co
 
 -- its reply is withheld, and is this
 pub is_withheld : (u : PlainUnit) (j : PlainJob) (e : Entry) → IsLawful u.opening u.steps → IsOf j e u.steps
-    → ended_well j.entry.ticket u.steps ≡ true → writes_through u j.entry.command ≡ true
+    → ended_well j.entry.ticket u.steps ≡ true → writes_through u j.entry.asks_medium j.entry.command ≡ true
     → IsWithheld u j.entry.ticket e (success e.command [])
 is_withheld u j e lawful of well through =
-    let own : writes_through u e.command ≡ true = ap (λ c. writes_through u c) (own_command j e u.steps of) ∙ through in
+    let own : through_asked u (asked_of e) ≡ true = ap (through_asked u) of.as_asked ∙ through in
     record {
       is_there = of.is_there;
       ran = well_replied u.opening j.entry.ticket e u.steps lawful of.is_there
-          (through_changes (is_backed u) (tells_no_cache u) (changes_medium e.command) own) well;
-      waits = through_behind (is_backed u) (tells_no_cache u) (changes_medium e.command) true own refl;
+          (through_changes (is_backed u) (needs_medium u e) (changes_medium e.command) own) well;
+      waits = through_behind (is_backed u) (needs_medium u e) (changes_medium e.command) true own refl;
     }
 
 -- what ended with GOOD and isn't through yet is withheld; else nothing waits behind it
 pub once_unwell : (u : PlainUnit) (j : PlainJob) (e : Entry) (r : PlainReply) (o : Outcome) → ends_well o ≡ false → ends_well o ≡ (r.status == good)
     → EndsAtOnce u j.entry.ticket e r
 once_unwell u j e r o off ends = λ behind.
-    let well = (behind_through (is_backed u) (tells_no_cache u) (changes_medium e.command) (r.status == good) behind).1 in
+    let well = (behind_through (is_backed u) (needs_medium u e) (changes_medium e.command) (r.status == good) behind).1 in
     let no : false ≡ true = sym off ∙ ends ∙ well in
     absurd (cc)
 

@@ -68,7 +68,7 @@ pub record Withholds (old : PlainUnit) (j : PlainJob) (new : PlainUnit) : Type 0
   pub ready : IsReady j.entry.ticket entry old.steps
   pub reply : PlainReply
   pub replies : Replies old entry reply
-  pub waits : waits_behind old entry.command reply.status ≡ true
+  pub waits : waits_behind old entry reply.status ≡ true
   pub steps : Steps old (Step.Commit j.entry.ticket reply) new
 
 -- the reply that was withheld is told: whatever a crash leaves has what the command changed

@@ -163,9 +163,9 @@ impl UnitState {
     /// while another waits. A task that is marked, and one that may not run, never waits. Nor does a command on a disk that isn't
     /// backed, nor one that needs no block and is no flush.
     ///
-    /// Where the disk is backed, and the unit tells of no volatile write cache (SBC-3 §6.5), a command that may change blocks is
-    /// told of GOOD only once the host's storage has all that was changed by then: its command ran, and `None` until that is so.
-    /// The caller tries the job again.
+    /// Where the disk is backed, and the unit tells of no volatile write cache (SBC-3 §6.5), or the command asks for the medium
+    /// (FUA, SBC-3 §5.33), a command that may change blocks is told of GOOD only once the host's storage has all that was
+    /// changed by then: its command ran, and `None` until that is so. The caller tries the job again.
     #[inline(always)]
     pub fn commit_ready(
         &mut self,
@@ -178,7 +178,7 @@ impl UnitState {
         ensures waits { IfNone result (Waits self.old job.now self.new ⊎ Withholds self.old job.now self.new) }
         ensures whole { is_backed self.old ≡ false → IsSome result }
     {
-        if self.writes_through(&job.command()) {
+        if self.writes_through(job.asks_medium(), &job.command()) {
             return self.commit_through(job, prepared, spare);
         }
         self.run_ready(job, prepared, spare)
@@ -210,6 +210,7 @@ impl UnitState {
                 if has_to_wait(
                     &mut self.fence,
                     &mut self.store,
+                    task.asks_medium(),
                     &command,
                     ticket,
                     task.place(),

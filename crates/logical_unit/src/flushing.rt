@@ -2,7 +2,7 @@
 
 ghost use Rattle.std.specs.Prelude.{◌≡◌, ◌≢◌, ℕ, List, is_some, true, false, None, IsTrue, IsFalse, IfSome};
 ghost use Rattle.backed_store.specs.Disks.{is_backed, size_of, blocks_of, hosted_of, storage_of, owes, IsOver, IsKeptWhole};
-ghost use Rattle.command_model.specs.Waiting.{is_flush as flushes};
+ghost use Rattle.command_model.specs.Waiting.{flushes};
 ghost use Rattle.unit_model.specs.Steps.{Step};
 ghost use Rattle.unit_model.specs.Contents.{Opening, blocks_of as unit_blocks};
 ghost use Rattle.logical_unit.specs.Inner.Flushes.{MayBegin, HasBegun, AreFenced, fence_of, without};
@@ -22,12 +22,14 @@ pub(crate) struct Fence {
     pub(crate) ran: bool,
 }
 
-/// Returns true if a command ends only once the host's storage has what was written before it.
-fn is_flush(command: &Command) -> bool
-    ensures { result ≡ flushes command.now }
+/// Returns true if a command ends only once the host's storage has what was written before it: SYNCHRONIZE CACHE, and a READ
+/// that asks for the medium.
+fn is_flush(asks_medium: bool, command: &Command) -> bool
+    ensures { result ≡ flushes asks_medium command.now }
 {
     match *command {
         Command::SynchronizeCache { .. } => true,
+        Command::Read { .. } => asks_medium,
         _ => false,
     }
 }
@@ -88,19 +90,20 @@ fn is_behind(fence: &mut Option<Fence>, disk: &mut Disk, own: Fence) -> bool
 pub(crate) fn has_to_wait(
     fence: &mut Option<Fence>,
     disk: &mut Disk,
+    asks_medium: bool,
     command: &Command,
     ticket: Ticket,
     place: u64,
 ) -> bool
     ensures backed { IsTrue result → is_backed disk.old ≡ true }
-    ensures flush { IsTrue result → IsTrue (flushes command.now) }
+    ensures flush { IsTrue result → IsTrue (flushes asks_medium command.now) }
     ensures fenced { (o : Opening) (steps : List Step) → MayBegin steps (fence_of ticket place false) →
         ((b : ℕ) → blocks_of disk.old b ≡ unit_blocks o steps b) → AreFenced o steps fence.old (hosted_of disk.old) →
         AreFenced o steps fence.new (hosted_of disk.new) }
     ensures since { (o : Opening) (steps : List Step) → MayBegin steps (fence_of ticket place false) →
         ((b : ℕ) → blocks_of disk.old b ≡ unit_blocks o steps b) → AreFenced o steps fence.old (hosted_of disk.old) →
-        IsFalse result → IsTrue (flushes command.now) → HasBegun o steps (fence_of ticket place false) (hosted_of disk.new) }
-    ensures over { IsFalse result → IsTrue (flushes command.now) → IsOver disk.new }
+        IsFalse result → IsTrue (flushes asks_medium command.now) → HasBegun o steps (fence_of ticket place false) (hosted_of disk.new) }
+    ensures over { IsFalse result → IsTrue (flushes asks_medium command.now) → IsOver disk.new }
     ensures owed { IsTrue result → IfSome fence.new (λ f. f ≡ fence_of ticket place false → (p : ℕ) × IsTrue (owes disk.new p)) }
     ensures kept { IsTrue result → IsTrue (is_some fence.new) }
     ensures waits { IsTrue result → IsTrue (is_some fence.old) → (fence.new ≡ fence.old) × (disk.new ≡ disk.old) }
@@ -111,7 +114,7 @@ pub(crate) fn has_to_wait(
     if disk.is_resident() {
         return false;
     }
-    if !is_flush(command) {
+    if !is_flush(asks_medium, command) {
         return false;
     }
     is_behind(
@@ -157,11 +160,11 @@ pub(crate) fn is_through(
 }
 
 /// Returns true if a command would wait that comes now, while no other flush waits.
-pub(crate) fn would_wait(disk: &Disk, command: &Command) -> bool
-    ensures over { IsFalse result → IsTrue (flushes command.now) → IsKeptWhole disk.now }
+pub(crate) fn would_wait(disk: &Disk, asks_medium: bool, command: &Command) -> bool
+    ensures over { IsFalse result → IsTrue (flushes asks_medium command.now) → IsKeptWhole disk.now }
     ensures whole { is_backed disk.now ≡ false → IsFalse result }
 {
-    is_flush(command) && !disk.is_kept()
+    is_flush(asks_medium, command) && !disk.is_kept()
 }
 
 /// Forgets that the flush of a ticket waits, whose task leaves.

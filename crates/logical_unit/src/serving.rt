@@ -6,7 +6,7 @@ ghost use Rattle.backed_store.specs.Disks.{is_backed, IsKeptWhole};
 ghost use Rattle.block_commands.specs.Inner.Ready.{IsReady};
 ghost use Rattle.block_commands.specs.Inner.Told.{facts_of, protects};
 ghost use Rattle.command_model.specs.Attention.{met};
-ghost use Rattle.command_model.specs.Waiting.{is_flush};
+ghost use Rattle.command_model.specs.Waiting.{flushes};
 ghost use Rattle.logical_unit.specs.Endings.{ending_of_run, plain_run};
 ghost use Rattle.logical_unit.specs.Inner.Performing.{Performs, step_for, told, unkept};
 ghost use Rattle.unit_log.specs.Recorded.{step_recorded};
@@ -114,7 +114,7 @@ fn may_run(
         IsReady (⟦<Disk as Store>⟧.is_held store.new) (⟦<Disk as Store>⟧.has_room store.new) (⟦<Disk as Store>⟧.size store.new)
         arrival.now.entry.command arrival.now.entry.data_out }
     ensures whole { is_backed store.old ≡ false → IsTrue result }
-    ensures flushed { IsTrue result → IsTrue (is_flush arrival.now.entry.command) → IsKeptWhole store.new }
+    ensures flushed { IsTrue result → IsTrue (flushes arrival.now.entry.asks_medium arrival.now.entry.command) → IsKeptWhole store.new }
     ensures storage { ⟦<Disk as Store>⟧.storage store.new ≡ ⟦<Disk as Store>⟧.storage store.old }
     ensures blocks { ⟦<Disk as Store>⟧.block_at store.new ≡ ⟦<Disk as Store>⟧.block_at store.old }
     ensures size { ⟦<Disk as Store>⟧.size store.new ≡ ⟦<Disk as Store>⟧.size store.old }
@@ -140,7 +140,7 @@ fn is_arrival_ready(
         IsReady (⟦<Disk as Store>⟧.is_held store.new) (⟦<Disk as Store>⟧.has_room store.new) (⟦<Disk as Store>⟧.size store.new)
         arrival.now.entry.command arrival.now.entry.data_out }
     ensures whole { is_backed store.old ≡ false → IsTrue result }
-    ensures flushed { IsTrue result → IsTrue (is_flush arrival.now.entry.command) → IsKeptWhole store.new }
+    ensures flushed { IsTrue result → IsTrue (flushes arrival.now.entry.asks_medium arrival.now.entry.command) → IsKeptWhole store.new }
     ensures storage { ⟦<Disk as Store>⟧.storage store.new ≡ ⟦<Disk as Store>⟧.storage store.old }
     ensures blocks { ⟦<Disk as Store>⟧.block_at store.new ≡ ⟦<Disk as Store>⟧.block_at store.old }
     ensures size { ⟦<Disk as Store>⟧.size store.new ≡ ⟦<Disk as Store>⟧.size store.old }
@@ -148,7 +148,7 @@ fn is_arrival_ready(
     let command = arrival.command();
     let ticket = arrival.ticket();
     is_ready(facts, attentions, store, &command, arrival.data(), ticket)
-        && !would_wait(store, &command)
+        && !would_wait(store, arrival.asks_medium(), &command)
 }
 
 impl UnitState {
@@ -167,7 +167,7 @@ impl UnitState {
         if self.tasks.len() > 0 {
             return false;
         }
-        if self.writes_through(&arrival.command()) {
+        if self.writes_through(arrival.asks_medium(), &arrival.command()) {
             return false;
         }
         if !is_named(&self.facts, arrival) {

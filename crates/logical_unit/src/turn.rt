@@ -64,6 +64,7 @@ pub(crate) fn is_as_asked(task: &Task, job: &Job) -> bool
 {
     task.id() == job.id()
         && task.attribute() == job.attribute()
+        && task.asks_medium() == job.asks_medium()
         && is_same(task.command(), job.command())
 }
 

@@ -19,7 +19,6 @@ impl UnitState {
     ghost use Rattle.std.specs.Prelude.{◌≡◌, ◌+◌, ◌*◌, ◌≢◌, ◌<◌, ◌≤◌, ◌⊎◌, ◌++◌, true, length, slice_get, OnOk, OnErr, IsTrue, IsFalse, ◌↔◌};
     ghost use Rattle.std.specs.Option.{option_map};
     ghost use Rattle.block_store.specs.Blocks.{run};
-    ghost use Rattle.command_model.specs.Identity.{told_by};
     ghost use Rattle.unit_model.specs.Steps.{alive};
     ghost use Rattle.unit_model.specs.Seen.{any_met};
     ghost use Rattle.unit_model.specs.Clearing.{is_clear};
@@ -156,13 +155,6 @@ impl UnitState {
         ensures { result ≡ self.now.opening.identity }
     {
         self.facts.identity
-    }
-
-    /// Returns true if it has a volatile write cache, as it tells: one of the narrow profile never does.
-    pub fn has_cache(&self) -> bool
-        ensures { result ≡ (told_by self.now.opening.profile self.now.opening.identity).write_cache }
-    {
-        self.facts.cache_told()
     }
 
     /// Returns how many blocks it opened with.

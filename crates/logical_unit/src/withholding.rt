@@ -25,17 +25,19 @@ impl UnitState {
     ghost use Rattle.logical_unit.specs.Inner.Calls.{writes_through, IsHeldBack};
 
     /// Returns true if a command is told of GOOD only once the host's storage has what it changed: it may change blocks, the
-    /// unit's disk is backed, and the unit tells of no volatile write cache.
+    /// unit's disk is backed, and the unit tells of no volatile write cache, or the command asks for the medium (FUA).
     #[inline(always)]
-    pub(crate) fn writes_through(&self, command: &Command) -> bool
-        ensures { result ≡ writes_through self.now command.now }
+    pub(crate) fn writes_through(&self, asks_medium: bool, command: &Command) -> bool
+        ensures { result ≡ writes_through self.now asks_medium command.now }
     {
-        !self.store.is_resident() && !self.facts.cache_told() && changes_medium(command)
+        !self.store.is_resident()
+            && (!self.facts.cache_told() || asks_medium)
+            && changes_medium(command)
     }
 
     /// Returns true if the command of a job's task ran, and ended with GOOD: its reply is withheld, where it writes through.
     fn has_ended_well(&self, job: &Job) -> bool
-        ensures yes { IsTrue result → writes_through self.now job.now.entry.command ≡ true → IsHeldBack self.now job.now }
+        ensures yes { IsTrue result → writes_through self.now job.now.entry.asks_medium job.now.entry.command ≡ true → IsHeldBack self.now job.now }
         ensures no { IsFalse result → IsNotWithheld job.now self.now }
     {
         match self.tasks.task(job.ticket()) {
@@ -82,7 +84,7 @@ impl UnitState {
         ensures waits { IfNone result (Waits self.old job.now self.new) }
         ensures whole { is_backed self.old ≡ false → IsSome result }
     {
-        if self.writes_through(&job.command()) {
+        if self.writes_through(job.asks_medium(), &job.command()) {
             return None;
         }
         self.run_ready(job, None, &mut None)
@@ -97,7 +99,7 @@ impl UnitState {
         prepared: Option<PreparedWrite>,
         spare: &mut Option<Prepared>,
     ) -> Option<Outcome>
-        requires through { writes_through self.old job.now.entry.command ≡ true }
+        requires through { writes_through self.old job.now.entry.asks_medium job.now.entry.command ≡ true }
         ensures step { IfSome result (λ outcome. Commits self.old job.now outcome self.new ⊎ Concludes self.old job.now outcome self.new) }
         ensures fits { IfSome result (λ outcome. FitsNeed (need_of job.now.entry.command).into outcome) }
         ensures waits { IfNone result (Waits self.old job.now self.new ⊎ Withholds self.old job.now self.new) }

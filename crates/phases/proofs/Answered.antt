@@ -119,7 +119,7 @@ pub answers_own : (h h' : Hand) (q q' : BareQueue) (m m' n : List ℕ) (r : Bool
 answers_own (Hand.Done x o) h' q q' m m' n true (does, hand) = (
   (λ k inventory s.
       let xs : List Write = decided_writes q.ring x.chain o in
-      let seen : n ≡ all_written m xs = ((does k (record { addresses = []; profiles = []; caches = [] }) Slot.Empty).asks false).1 in
+      let seen : n ≡ all_written m xs = ((does k (record { addresses = []; profiles = [] }) Slot.Empty).asks false).1 in
       let d : List ℕ → Transition = λ z. Transition.Answer k x o (as_seen z xs) in
       does_own inventory (d (all_written m xs)) (with_slot s q) (with_slot s q') m m'
       (subst (λ z. DoesQueueIn false inventory (d z) (with_slot s q) m (with_slot s q') m') seen (does k inventory s))),

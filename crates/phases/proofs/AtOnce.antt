@@ -23,10 +23,10 @@ use Rattle.unit_model.specs.Tasks.{Entry, is_blocked}
 use Rattle.unit_model.proofs.Blocking.{enabled_entering}
 use Rattle.unit_model.proofs.Fresh.{above_fresh, fresh_unmarked, fresh_undone}
 use Rattle.unit_model.specs.Released.{released}
-use Rattle.unit_model.specs.Asking.{Asked}
+use Rattle.unit_model.specs.Asking.{Asked, asked_of}
 use Rattle.unit_model.specs.Jobs.{PlainJob, Jobs, of_tasks}
 use Rattle.logical_unit.specs.Serving.{ServesAlone}
-use Rattle.unit_model.specs.Unit.{PlainUnit, IsUnit, HasToWait, is_backed, may_wait, tells_no_cache, Steps}
+use Rattle.unit_model.specs.Unit.{PlainUnit, IsUnit, HasToWait, is_backed, may_wait, needs_medium, tells_no_cache, Steps}
 use Rattle.logical_unit.specs.Calls as calls
 use Rattle.logical_unit.specs.Endings.{ending_of}
 use Rattle.logical_unit.specs.declared.outcomes.Outcome as answers
@@ -159,11 +159,17 @@ withheld_waits true pages false changes well h = absurd (false≢true h)
 withheld_waits false pages no_cache changes well h = absurd (false≢true h)
 
 -- so is a task that has to wait
-may_have_to : (u : PlainUnit) (t : Ticket) (e : Entry) → HasToWait u t e → may_wait u e.command ≡ true
+may_have_to : (u : PlainUnit) (t : Ticket) (e : Entry) → HasToWait u t e → may_wait u e ≡ true
 may_have_to u t e (inl (ready, waits)) = waits
 may_have_to u t e (inr (r, withheld)) =
-    withheld_waits (is_backed u) (waits_at (capacity_of u.opening u.steps) e.command) (tells_no_cache u)
+    withheld_waits (is_backed u) (waits_at (capacity_of u.opening u.steps) e.asks_medium e.command) (needs_medium u e)
     (changes_medium e.command) (r.status == good) withheld.waits
+
+-- by what was asked
+abbrev may_asked : PlainUnit → Asked → Bool
+may_asked u a =
+    is_backed u
+    && (waits_at (capacity_of u.opening u.steps) a.asks_medium a.command || ((tells_no_cache u || a.asks_medium) && changes_medium a.command))
 
 -- the job that was handed out may run
 pub ready_entered : (u v : PlainUnit) (x y : PlainJob) → IsUnit u → calls.Enters u x (entered.Run y) v
@@ -180,11 +186,11 @@ pub waits_on : (shared : Bool) (stored : List Write → Type 0) (x y : PlainJob)
     → EachSeen shared may may (λ found left seen. ServesIn shared stored x u q found s out brought.Waits u' q left seen s' out')
 waits_on shared stored x y u v u' q may s s' out out' none empty enters waits jobs =
     let is : y ≡ x = enters.0 in
-    let asked : waits.entry.command ≡ x.entry.command = ap (λ (a : Asked). a.command) waits.of.as_asked ∙ ap (λ (j : PlainJob). j.entry.command) is in
-    let waits_there : may_wait u waits.entry.command ≡ true = sym (ap (λ (z : PlainUnit). may_wait z waits.entry.command) enters.3.is)
+    let asked : asked_of waits.entry ≡ asked_of x.entry = waits.of.as_asked ∙ ap (λ (j : PlainJob). asked_of j.entry) is in
+    let waits_there : may_wait u waits.entry ≡ true = sym (ap (λ (z : PlainUnit). may_wait z waits.entry) enters.3.is)
     ∙ may_have_to v y.entry.ticket waits.entry waits.waits in
     hands_on shared stored x u u' q may s s' (y ∷ []) out out' none
-    (inr (ap (λ (j : PlainJob). j ∷ []) is, sym (ap (λ (k : Command). may_wait u k) asked) ∙ waits_there))
+    (inr (ap (λ (j : PlainJob). j ∷ []) is, sym (ap (may_asked u) asked) ∙ waits_there))
     (λ list.
     subst (λ (z : PlainUnit). EntersAs x u list z s' (with_more (y ∷ []) list)) (sym waits.same)
     (subst (λ (t : Slot). EntersAs x u list v t (with_more (y ∷ []) list)) (sym empty) (runs x u v list y enters))) jobs

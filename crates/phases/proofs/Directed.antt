@@ -89,7 +89,7 @@ pub directs_own : (s s' : Slot) (q q' : BareQueue) (m m' n : List ℕ) (r : Bool
 directs_own (Slot.Direct c o) s' q q' m m' n true (does, slot) = (
   (λ inventory.
       let xs : List Write = decided_writes q.ring c o in
-      let seen : n ≡ all_written m xs = ((does (record { addresses = []; profiles = []; caches = [] })).asks false).1 in
+      let seen : n ≡ all_written m xs = ((does (record { addresses = []; profiles = [] })).asks false).1 in
       does_own inventory (Transition.Direct c o (as_seen (all_written m xs) xs)) (with_slot (Slot.Direct c o) q) (with_slot s' q') m m'
       (subst (λ z. DoesQueueIn false inventory (Transition.Direct c o (as_seen z xs)) (with_slot (Slot.Direct c o) q) m
       (with_slot s' q') m') seen (does inventory))),
@@ -159,7 +159,7 @@ where_own : (b : Bool) (f : Opened) (f' : Option Opened) (q q' : BareQueue) (m m
 where_own true f f' q q' m m' n true (does, function) = (
   (λ inventory s.
       let xs : List Write = answer_writes q.ring f.chain (function_bytes (response_of f.function)) in
-      let seen : n ≡ all_written m xs = ((does (record { addresses = []; profiles = []; caches = [] }) Slot.Empty).asks false).1 in
+      let seen : n ≡ all_written m xs = ((does (record { addresses = []; profiles = [] }) Slot.Empty).asks false).1 in
       let d : List ℕ → Transition = λ z. Transition.Respond f.chain (response_of f.function) (as_seen z xs) in
       does_own inventory (d (all_written m xs)) (with_slot s q) (with_slot s q') m m'
       (subst (λ z. DoesQueueIn false inventory (d z) (with_slot s q) m (with_slot s q') m') seen (does inventory s))),

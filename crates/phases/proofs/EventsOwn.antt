@@ -56,7 +56,7 @@ raises_to_own : (cs : List PlainChain) (e : EventRecord) (later : List EventReco
     → RaisesTo cs e later q m p r q' m' p' w'
 raises_to_own (c ∷ more) e later q q' m m' n p p' true w' (does, port, waiting) =
     let xs : List Write = answer_writes q.ring c (event_bytes e) in
-    let seen : n ≡ all_written m xs = ((does (record { addresses = []; profiles = []; caches = [] }) Slot.Empty).asks false).1 in (
+    let seen : n ≡ all_written m xs = ((does (record { addresses = []; profiles = [] }) Slot.Empty).asks false).1 in (
       subst (λ k. AtQueue (Transition.Give e c (as_seen k xs)) q m q' m') seen (λ inventory s.
           does_own inventory (Transition.Give e c (as_seen n xs)) (with_slot s q) (with_slot s q') m m' (does inventory s)),
       port,

@@ -6,17 +6,14 @@ ghost use Rattle.device_model.specs.Addressed.{IsAddressed};
 use logical_unit::UnitState;
 use request_intake::Inventory;
 
-/// Returns true if the unit has the address and the profile that stand in the inventory at this index, and a volatile
-/// write cache where one stands there.
+/// Returns true if the unit has the address and the profile that stand in the inventory at this index.
 pub(crate) fn is_addressed(inventory: &Inventory, unit_index: usize, unit: &UnitState) -> bool
     ensures yes { IsTrue result → IsAddressed inventory.now unit_index unit.now }
     ensures no { IsFalse result → IsAddressed inventory.now unit_index unit.now → ⊥ }
 {
     match inventory.as_slice().get(unit_index) {
         Some(address) => {
-            unit.has_address(*address)
-                && unit.profile() == inventory.profile_at(unit_index)
-                && unit.has_cache() == inventory.has_cache_at(unit_index)
+            unit.has_address(*address) && unit.profile() == inventory.profile_at(unit_index)
         }
         None => false,
     }

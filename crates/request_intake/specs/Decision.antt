@@ -1,14 +1,10 @@
 -- What is decided of a request when it is fetched: the first case that holds.
 use Rattle.std.specs.Prelude.{ℕ, ◌-◌, ◌==◌, ◌&&◌, ◌||◌, nat_lt, Bool, List, [], drop, Option, Some, None, Result, Ok, Err, if◌then◌else◌}
-use Rattle.std.specs.List.{list_any}
 use Rattle.sense.specs.Conditions.{invalid_message_error}
 use Rattle.cdb.specs.Decoding.{command}
-use Rattle.cdb.specs.Fields.{byte}
-use Rattle.cdb.specs.Medium.{asks_medium, opcodes_that_verify}
+use Rattle.cdb.specs.Medium.{asks_medium}
 use Rattle.cdb.specs.Need.{need_of}
 use Rattle.cdb.specs.declared.commands.Command.{Command}
-use Rattle.cdb.specs.declared.commands.Command.TheVariants.{Bad, Unknown}
-use Rattle.cdb.specs.declared.profile.Profile.{Profile}
 use Rattle.scsi_codec.specs.Requests.{reading}
 use Rattle.scsi_codec.specs.declared.requests.Request.{Request}
 use Rattle.scsi_codec.specs.declared.requests.CodecFault.{CodecFault}
@@ -19,7 +15,7 @@ use Rattle.command_model.specs.Absent.{absent_reply}
 use Rattle.command_model.specs.PlainReply.{PlainReply, refusal}
 use Rattle.command_model.specs.Data.{data_of}
 use Rattle.request_intake.specs.Answers.{failed, answer_of_reply}
-use Rattle.request_intake.specs.Inventory.{PlainInventory, has_target, is_cached, index_of, profile_of}
+use Rattle.request_intake.specs.Inventory.{PlainInventory, has_target, index_of, profile_of}
 use Rattle.request_intake.specs.declared.answer.ChainLengths.{ChainLengths}
 use Rattle.request_intake.specs.declared.attribute.TaskAttribute.{TaskAttribute}
 use Rattle.request_intake.specs.declared.attribute.TaskAttribute.TheVariants.{Simple, Ordered, HeadOfQueue}
@@ -39,16 +35,6 @@ goes_both_ways n = nat_lt 51 n.readable && nat_lt 108 n.writable
 abbrev pub overruns : ChainLengths → Command → Bool
 overruns n c = nat_lt (n.readable - 51) (need_of c).out || nat_lt (n.writable - 108) (need_of c).into
 
--- a CDB that asks for the medium, where that isn't promised: there is no WRITE AND VERIFY, and another has FUA, a bad field
-abbrev pub unpromised : List ℕ → Command
-unpromised cdb =
-    if list_any (λ known. known == byte 0 cdb) opcodes_that_verify then Unknown else Bad (byte 0 cdb)
-
--- the command of a CDB for a unit of a profile: one that asks for the medium isn't promised where the unit has a volatile
--- write cache
-abbrev pub command_for : Bool → Profile → List ℕ → Command
-command_for cached profile cdb = if cached && asks_medium cdb then unpromised cdb else command profile cdb
-
 -- The answers that need no unit, and the request that goes to one
 
 abbrev pub fails : ResponseCode → Decision
@@ -61,7 +47,7 @@ replies n r = Direct (answer_of_reply n r)
 abbrev pub decide_unit : Option ℕ → ChainLengths → List ℕ → Request → TaskAttribute → Command → Decision
 decide_unit None n bytes r attribute c = replies n (absent_reply c)
 decide_unit (Some unit_index) n bytes r attribute c =
-    Enter unit_index (record { id = r.id; attribute = attribute; command = c; data_out = data_of c (drop 51 bytes) })
+    Enter unit_index (record { id = r.id; attribute = attribute; command = c; asks_medium = asks_medium r.cdb; data_out = data_of c (drop 51 bytes) })
 
 -- a task attribute that isn't SIMPLE, ORDERED or HEAD OF QUEUE
 abbrev pub decide_attribute : Option TaskAttribute → Option ℕ → ChainLengths → List ℕ → Request → Command → Decision
@@ -73,12 +59,12 @@ abbrev pub decide_command : Option ℕ → ChainLengths → List ℕ → Request
 decide_command unit_index n bytes r c =
     if overruns n c then fails code.Overrun else decide_attribute (attribute_of r.attribute) unit_index n bytes r c
 
--- a target that isn't there; else the command is that of the unit's profile, and of its write cache
+-- a target that isn't there; else the command is that of the unit's profile
 abbrev pub decide_address : PlainInventory → ChainLengths → List ℕ → Request → Decision
 decide_address units n bytes r =
     if has_target units.addresses r.address.target
     then decide_command (index_of units.addresses r.address) n bytes r
-    (command_for (is_cached units r.address) (profile_of units r.address) r.cdb)
+    (command (profile_of units r.address) r.cdb)
     else fails code.BadTarget
 
 -- too few writable bytes for a response; too few readable ones for a request, or data both ways; an address that isn't

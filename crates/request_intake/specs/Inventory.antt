@@ -1,27 +1,19 @@
--- Which logical units a device has: their addresses, in rising order of target and LUN, their profiles, and which of them
--- have a volatile write cache.
-use Rattle.std.specs.Prelude.{ℕ, ◌==◌, ◌&&◌, ◌||◌, nat_lt, Bool, true, false, List, [], ◌∷◌, map, filter, Option, Some, None, position, slice_get, unwrap_or}
+-- Which logical units a device has: their addresses, in rising order of target and LUN, and their profiles.
+use Rattle.std.specs.Prelude.{ℕ, ◌==◌, ◌&&◌, ◌||◌, nat_lt, Bool, true, List, [], ◌∷◌, map, filter, Option, Some, None, position, slice_get, unwrap_or}
 use Rattle.std.specs.List.{list_any}
 use Rattle.cdb.specs.declared.profile.Profile.{Profile}
 use Rattle.cdb.specs.declared.profile.Profile.TheVariants.{Narrow}
 use Rattle.scsi_codec.specs.declared.lun.Address.{Address}
-use Rattle.command_model.specs.Identity.{told_by}
 use Rattle.request_intake.specs.declared.inventory.Known.{Known}
 use Rattle.request_intake.specs.declared.inventory.UnitSpec.{UnitSpec}
 
 abbrev pub address_of : UnitSpec → Address
 address_of u = record { target = u.target; lun = u.lun }
 
--- own: whether a unit has a volatile write cache, as it tells: one of the narrow profile never does
-abbrev pub has_cache : UnitSpec → Bool
-has_cache u = (told_by u.profile u.identity).write_cache
-
--- own: the address of each unit, the profile of its commands, and whether it has a volatile write cache, each at its unit's
--- index
+-- own: the address of each unit, and the profile of its commands, each at its unit's index
 pub record PlainInventory : Type 0 where
   pub addresses : List Address
   pub profiles : List Profile
-  pub caches : List Bool
 
 -- the inventory of units
 abbrev pub inventory_of : List UnitSpec → PlainInventory
@@ -29,16 +21,11 @@ inventory_of units =
     record {
       addresses = map address_of units;
       profiles = map (λ (u : UnitSpec). u.profile) units;
-      caches = map has_cache units;
     }
 
 -- the profiles of units as they are kept
 abbrev pub profiles_of : List Known → List Profile
 profiles_of known = map (λ (k : Known). k.profile) known
-
--- which of them have a volatile write cache, as it is kept
-abbrev pub caches_of : List Known → List Bool
-caches_of known = map (λ (k : Known). k.write_cache) known
 
 -- one address stands before another
 abbrev pub stands_before : Address → Address → Bool
@@ -65,15 +52,6 @@ profile_at units (Some unit_index) = unwrap_or (slice_get units.profiles unit_in
 -- own: the profile of the unit with this address; narrow where none is there
 abbrev pub profile_of : PlainInventory → Address → Profile
 profile_of units a = profile_at units (index_of units.addresses a)
-
--- own: whether the unit at an index that was found has a volatile write cache; not where none was
-abbrev pub cache_at : PlainInventory → Option ℕ → Bool
-cache_at units None = false
-cache_at units (Some unit_index) = unwrap_or (slice_get units.caches unit_index) false
-
--- own: whether the unit with this address has one; not where none is there
-abbrev pub is_cached : PlainInventory → Address → Bool
-is_cached units a = cache_at units (index_of units.addresses a)
 
 -- the LUNs of a target
 abbrev pub luns_of : List Address → ℕ → List ℕ

@@ -1,8 +1,8 @@
 //! The decision on a request when it is fetched.
 
 ghost use Rattle.std.specs.Prelude.{◌≡◌, ◌+◌, ◌<◌, ◌≤◌, ◌^◌, ℕ, length, min, IfSome};
-ghost use Rattle.cdb.specs.Need.{need_of};
-ghost use Rattle.request_intake.specs.Decision.{command_for, unpromised, decided, goes_both_ways, decide_command, decide_address, fails};
+ghost use Rattle.cdb.specs.Decoding.{command as command_of};
+ghost use Rattle.request_intake.specs.Decision.{decided, goes_both_ways, decide_command, decide_address, fails};
 ghost use Rattle.request_intake.specs.Inner.Decision.{IfDirect, Suits};
 
 use crate::answer::ChainLengths;
@@ -40,37 +40,11 @@ fn fail(code: ResponseCode) -> Decision
     Decision::Direct(DirectAnswer::failed(code))
 }
 
-/// Returns the command of a CDB that asks for the medium, where that isn't promised. There is no WRITE AND VERIFY. Another
-/// has FUA, which is a bad field.
-fn unpromised(cdb: &[u8; CDB_BYTES]) -> Command
-    ensures meaning { result ≡ unpromised cdb.now }
-    ensures data_out { (need_of result).out ≤ 1048576 }
-{
-    match cdb[0] {
-        0x2e | 0x8e | 0xae => Command::Unknown,
-        opcode => Command::Bad { opcode },
-    }
-}
-
-/// Returns the command of a CDB for a unit of this profile. Where the unit has a volatile write cache, a CDB that asks for
-/// the medium is refused. A unit without one pays a test.
-#[inline(always)]
-fn command_for(is_cached: bool, profile: Profile, cdb: &[u8; CDB_BYTES]) -> Command
-    ensures meaning { result ≡ command_for is_cached profile cdb.now }
-    ensures data_out { (need_of result).out ≤ 1048576 }
-{
-    if is_cached && asks_medium(cdb) {
-        return unpromised(cdb);
-    }
-    decode(profile, cdb)
-}
-
-/// Returns the decision on a request whose target is there, and whose unit, of this profile, with a volatile write cache
-/// or without, is at this index of the inventory, if it is anywhere. It is inlined, so that a request to a unit that is there costs no further call.
+/// Returns the decision on a request whose target is there, and whose unit, of this profile, is at this index of the
+/// inventory, if it is anywhere. It is inlined, so that a request to a unit that is there costs no further call.
 #[inline(always)]
 fn decide_by_command(
     unit_index: Option<usize>,
-    is_cached: bool,
     profile: Profile,
     bytes: &mut Vec<u8>,
     lengths: &ChainLengths,
@@ -80,11 +54,10 @@ fn decide_by_command(
     requires whole { REQUEST_BYTES ≤ length bytes.old.items }
     requires sum { lengths.now.readable + lengths.now.writable ≤ 2 ^ 32 }
     requires room { RESPONSE_BYTES ≤ lengths.now.writable }
-    ensures decision { result
-        ≡ decide_command unit_index lengths.now bytes.old.items request.now (command_for is_cached profile request.now.cdb) }
+    ensures decision { result ≡ decide_command unit_index lengths.now bytes.old.items request.now (command_of profile request.now.cdb) }
     ensures suits { (units : ℕ) → IfSome unit_index (λ at. at < units) → Suits units lengths.now result }
 {
-    let command = command_for(is_cached, profile, &request.cdb);
+    let command = decode(profile, &request.cdb);
     let need = need(&command);
     let sent = lengths.readable.saturating_sub(REQUEST_BYTES as u64);
     let room = lengths.writable.saturating_sub(RESPONSE_BYTES as u64);
@@ -99,7 +72,14 @@ fn decide_by_command(
         Some(unit_index) => {
             Decision::Enter(
                 unit_index,
-                UnitRequest::new(request.id, attribute, command, need.out, bytes),
+                UnitRequest::new(
+                    request.id,
+                    attribute,
+                    command,
+                    asks_medium(&request.cdb),
+                    need.out,
+                    bytes,
+                ),
             )
         }
     }
@@ -121,19 +101,11 @@ fn decide_by_address(
 {
     match inventory.find(&request.address) {
         Some(unit_index) => {
-            let is_cached = inventory.has_cache_at(unit_index);
             let profile = inventory.profile_at(unit_index);
-            decide_by_command(
-                Some(unit_index),
-                is_cached,
-                profile,
-                bytes,
-                lengths,
-                request,
-            )
+            decide_by_command(Some(unit_index), profile, bytes, lengths, request)
         }
         None if inventory.has_target(request.address.target) => {
-            decide_by_command(None, false, Profile::Narrow, bytes, lengths, request)
+            decide_by_command(None, Profile::Narrow, bytes, lengths, request)
         }
         None => fail(ResponseCode::BadTarget),
     }

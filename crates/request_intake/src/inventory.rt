@@ -2,7 +2,7 @@
 
 ghost use Rattle.std.specs.Prelude.{◌≡◌, ◌<◌, ◌≤◌, ◌^◌, true, map, length, slice_get, Some, IfSome, IfOk};
 ghost use Rattle.scsi_codec.specs.Lun.{address_at, number_of};
-ghost use Rattle.request_intake.specs.Inventory.{address_of, stands_before, inventory_of, is_rising, has_cache, has_target, index_of, luns_of};
+ghost use Rattle.request_intake.specs.Inventory.{address_of, stands_before, inventory_of, is_rising, has_target, index_of, luns_of};
 
 use arrayvec::ArrayVec;
 use cdb::Profile;
@@ -41,32 +41,21 @@ impl UnitSpec {
             lun: self.lun,
         }
     }
-
-    /// Returns true if it has a volatile write cache, as it tells: one of the narrow profile never does.
-    pub fn has_cache(&self) -> bool
-        ensures { result ≡ has_cache self.now }
-    {
-        match self.profile {
-            Profile::Narrow => false,
-            Profile::Wide => self.identity.write_cache,
-        }
-    }
 }
 
-/// The addresses of a device's logical units, in rising order of target and LUN, their profiles, and which of them have a
-/// volatile write cache. It never changes, so a worker that holds one queue alone may ask it which units there are.
+/// The addresses of a device's logical units, in rising order of target and LUN, and their profiles. It never changes, so a
+/// worker that holds one queue alone may ask it which units there are.
 #[derive(Drop)]
 pub struct Inventory {
     addresses: ArrayVec<Address, MOST_UNITS>,
     known: ArrayVec<Known, MOST_UNITS>,
 }
 
-/// Keeps what a request is decided by once its unit is found: the commands that the unit knows, whether it has a volatile
-/// write cache, and the number of its address. Free slots of a list have the narrow ones.
+/// Keeps what a request is decided by once its unit is found: the commands that the unit knows, and the number of its
+/// address. Free slots of a list have the narrow ones.
 #[derive(Clone, Copy)]
 struct Known {
     profile: Profile,
-    write_cache: bool,
     number: u32,
 }
 
@@ -74,7 +63,6 @@ impl Default for Known {
     fn default() -> Known {
         Known {
             profile: Profile::Narrow,
-            write_cache: false,
             number: 0,
         }
     }
@@ -82,7 +70,7 @@ impl Default for Known {
 
 impl Model for Inventory {
     ghost use Rattle.std.specs.Prelude.{◌≡◌, true, length};
-    ghost use Rattle.request_intake.specs.Inventory.{PlainInventory, caches_of, is_rising, profiles_of};
+    ghost use Rattle.request_intake.specs.Inventory.{PlainInventory, is_rising, profiles_of};
     ghost use Rattle.request_intake.specs.Inner.Numbers.{AreNumbersOf};
 
     ghost Value = { PlainInventory };
@@ -90,7 +78,6 @@ impl Model for Inventory {
     ghost view = { λ i. record {
       addresses = i.addresses.items;
       profiles = profiles_of i.known.items;
-      caches = caches_of i.known.items;
     } };
 
     ghost invariant = { λ i. (is_rising i.addresses.items ≡ true)
@@ -111,7 +98,6 @@ impl Inventory {
             addresses.push(unit.address());
             known.push(Known {
                 profile: unit.profile,
-                write_cache: unit.has_cache(),
                 number: unit.address().number(),
             });
         }
@@ -155,15 +141,6 @@ impl Inventory {
         ensures { slice_get self.now.profiles unit_index ≡ Some result }
     {
         self.known.as_slice()[unit_index].profile
-    }
-
-    /// Returns true if the unit at this index has a volatile write cache.
-    #[inline(always)]
-    pub fn has_cache_at(&self, unit_index: usize) -> bool
-        requires unit_index { unit_index < length self.now.addresses }
-        ensures { slice_get self.now.caches unit_index ≡ Some result }
-    {
-        self.known.as_slice()[unit_index].write_cache
     }
 
     /// Returns the number of the address of the unit at this index.

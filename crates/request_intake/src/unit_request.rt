@@ -16,6 +16,7 @@ pub struct UnitRequest {
     id: u64,
     attribute: TaskAttribute,
     command: Command,
+    asks_medium: bool,
     // The first bytes of the chain, up to the end of the command's data, which begin at byte 51. A command without data
     // keeps none of them.
     bytes: Vec<u8>,
@@ -33,6 +34,7 @@ impl Model for UnitRequest {
       id = r.id;
       attribute = r.attribute;
       command = r.command;
+      asks_medium = r.asks_medium;
       data_out = data_of r.command (drop 51 r.bytes.items);
     } };
 
@@ -41,13 +43,14 @@ impl Model for UnitRequest {
 }
 
 impl UnitRequest {
-    /// Makes the decoded request in the first bytes of a chain, whose command takes so many bytes of data. It takes the
-    /// bytes where these are some.
+    /// Makes the decoded request in the first bytes of a chain, whose command asks for the medium itself or doesn't, and takes
+    /// so many bytes of data. It takes the bytes where these are some.
     #[tactic(auto, using(crate::proofs::Data::data_in))]
     pub(crate) fn new(
         id: u64,
         attribute: TaskAttribute,
         command: Command,
+        asks_medium: bool,
         out: u32,
         bytes: &mut Vec<u8>,
     ) -> UnitRequest
@@ -57,6 +60,7 @@ impl UnitRequest {
           id = id;
           attribute = attribute;
           command = command;
+          asks_medium = asks_medium;
           data_out = data_of command (drop 51 bytes.old.items);
         } }
     {
@@ -69,6 +73,7 @@ impl UnitRequest {
             id,
             attribute,
             command,
+            asks_medium,
             bytes: own,
         }
     }
@@ -92,6 +97,13 @@ impl UnitRequest {
         ensures { result ≡ self.now.command }
     {
         self.command
+    }
+
+    /// Returns true if the command asks for the medium itself, whatever a volatile cache before it holds.
+    pub fn asks_medium(&self) -> bool
+        ensures { result ≡ self.now.asks_medium }
+    {
+        self.asks_medium
     }
 
     /// Returns the data that the command takes from the driver: exactly as many bytes as it needs.

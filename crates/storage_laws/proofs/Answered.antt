@@ -10,7 +10,7 @@ use Rattle.unit_model.specs.Steps.{Step, alive}
 use Rattle.unit_model.specs.Endings.{Ending}
 use Rattle.unit_model.specs.Flushing.{IsThrough}
 use Rattle.unit_model.specs.Jobs.{PlainJob}
-use Rattle.unit_model.specs.Unit.{PlainUnit, is_backed, tells_no_cache, waits_behind, after as stepped, parking, dealing}
+use Rattle.unit_model.specs.Unit.{PlainUnit, is_backed, needs_medium, waits_behind, after as stepped, parking, dealing}
 use Rattle.task_mgmt.specs.Functions.{step_by}
 use Rattle.device_model.specs.Parts.{Outcome, Hand}
 use Rattle.device_model.specs.World.{PlainWorld, Opens, change, owner}
@@ -155,15 +155,15 @@ stored None h = absurd (cc)
 stored (Some l) h = (l, refl)
 
 -- what waits is of a unit whose storage is its host's
-waits_stored : (u : PlainUnit) (e : Entry) (r : PlainReply) → waits_behind u e.command r.status ≡ true
+waits_stored : (u : PlainUnit) (e : Entry) (r : PlainReply) → waits_behind u e r.status ≡ true
     → (l : Ledger) × (u.storage ≡ Some l)
 waits_stored u e r h =
-    stored u.storage (both_first (is_backed u) (tells_no_cache u && (changes_medium e.command && r.status == good)) h)
+    stored u.storage (both_first (is_backed u) (needs_medium u e && (changes_medium e.command && r.status == good)) h)
 
 abbrev AllThrough : List Transition → PlainWorld → PlainWorld → Type 0
 AllThrough ds old w =
     (j : ℕ) (x : PlainJob) (r : PlainReply) (u : PlainUnit) (l : Ledger) → KeepsWholeBlocks old ds → HasHand w j (replied x r)
-    → UnitIs w x.unit u → u.storage ≡ Some l → waits_behind u x.entry.command r.status ≡ true
+    → UnitIs w x.unit u → u.storage ≡ Some l → waits_behind u x.entry r.status ≡ true
     → IsThrough u.opening u.steps l x.entry.ticket
 
 none_yet : (old : PlainWorld) → Opens old → AllThrough [] old old
@@ -174,7 +174,7 @@ none_yet old o j x r u l whole h at has waits =
 -- it ran and was told at once
 commit_told : (old : PlainWorld) (ds : List Transition) (j : ℕ) (x : PlainJob) (r : PlainReply) (u : PlainUnit) (l : Ledger) → Opens old
     → Leads old (Transition.Commit j x r ∷ ds) → UnitIs (world_of old (Transition.Commit j x r ∷ ds)) x.unit u → u.storage ≡ Some l
-    → waits_behind u x.entry.command r.status ≡ true → IsThrough u.opening u.steps l x.entry.ticket
+    → waits_behind u x.entry r.status ≡ true → IsThrough u.opening u.steps l x.entry.ticket
 commit_told old ds j x r u l o leads at has waits =
     let w = world_of old ds in
     let t = x.entry.ticket in
@@ -185,7 +185,7 @@ commit_told old ds j x r u l o leads at has waits =
     let c = ((all_work w (works_at old ds o leads.0).3).seats j (record { hand = Hand.Taken x; out = m.holds.out }) m.holds.seat).0 in
     let is : c.unit ≡ v = same (sym c.there ∙ m.holds.there) in
     let alive = subst (λ (z : PlainUnit). task_of t (alive z.steps) ≡ Some x.entry) is c.alive in
-    let still = subst (λ (z : PlainUnit). waits_behind z x.entry.command r.status ≡ true) (sym one) waits in
+    let still = subst (λ (z : PlainUnit). waits_behind z x.entry r.status ≡ true) (sym one) waits in
     let there = subst (λ (z : PlainUnit). z.storage ≡ Some l) (sym one) has in
     let through : IsThrough v.opening (s ∷ v.steps) l t = λ left leaves b.
     command_kept w j x r v x.entry l left b m m.holds.there alive still there leaves in
@@ -200,7 +200,7 @@ told_through d ds old o leads was j x r u l whole h at has waits =
       | inl old_hand ↦
           let p = before d w x.unit u at in
           let v = p.0 in
-          let still = sym (p.2.waits x.entry.command r.status) ∙ waits in
+          let still = sym (p.2.waits x.entry r.status) ∙ waits in
           let had = waits_stored v x.entry r still in
           let then = was j x r v had.0 whole.1 old_hand p.1 had.1 still in
           let its = whole_now old ds whole.1 x.unit v p.1 in
@@ -228,6 +228,6 @@ all_through old (d ∷ ds) o leads = told_through d ds old o leads (all_through 
 pub is_through : (old : PlainWorld) (trace : List Occurrence) (w : PlainWorld) (reached : Reached old trace w) (k : ℕ) (x : PlainJob) (r : PlainReply)
     (u : PlainUnit) (l : Ledger) → KeepsWholeBlocks old (transitions_of old trace w reached.runs)
     → HasHand w k (Hand.Done x (Outcome.Ended (Ending.Replied r))) → UnitIs w x.unit u → u.storage ≡ Some l
-    → waits_behind u x.entry.command r.status ≡ true → IsThrough u.opening u.steps l x.entry.ticket
+    → waits_behind u x.entry r.status ≡ true → IsThrough u.opening u.steps l x.entry.ticket
 is_through old trace w reached =
     in_run (λ ds v. AllThrough ds old v) old (λ ds leads. all_through old ds reached.opens leads) trace w reached.runs

@@ -1,5 +1,5 @@
 -- The tasks of a task set, with the jobs of those that wait.
-use Rattle.std.specs.Prelude.{List, [], ◌∷◌, map, Option, Some, None}
+use Rattle.std.specs.Prelude.{false, List, [], ◌∷◌, map, Option, Some, None}
 use Rattle.unit_model.specs.Seen.{Seen}
 use Rattle.unit_model.specs.Jobs.{PlainJob}
 use Rattle.ring_core.specs.declared.log.Ticket.{Ticket}
@@ -26,7 +26,7 @@ parked_of tasks = there (map (λ (t : PlainTask). t.parked) tasks)
 -- own: the task of a request; without one, a TEST UNIT READY
 abbrev pub entry_of_request : Ticket → Option PlainRequest → Entry
 entry_of_request t (Some r) = entry_of t r
-entry_of_request t None = record { ticket = t; id = 0; attribute = Simple; command = TestUnitReady; data_out = [] }
+entry_of_request t None = record { ticket = t; id = 0; attribute = Simple; command = TestUnitReady; asks_medium = false; data_out = [] }
 
 -- own: the request of a task, its own or shared
 abbrev pub request_of : Option PlainRequest → Option PlainRequest → Option PlainRequest

@@ -106,6 +106,13 @@ impl Arrival {
         self.request.command()
     }
 
+    /// Returns true if the command asks for the medium itself.
+    pub fn asks_medium(&self) -> bool
+        ensures { result ≡ self.now.entry.asks_medium }
+    {
+        self.request.asks_medium()
+    }
+
     /// Returns the data that the command takes from the driver: exactly as many bytes as it needs.
     #[inline(always)]
     pub fn data(&self) -> &[u8]
@@ -170,6 +177,7 @@ impl Arrival {
             id: request.id(),
             attribute: request.attribute(),
             command: request.command(),
+            asks_medium: request.asks_medium(),
             data_out: Record::new().and_all(request.data()),
         };
         (job, request)
@@ -194,6 +202,7 @@ pub struct Job {
     id: u64,
     attribute: TaskAttribute,
     command: Command,
+    asks_medium: bool,
     data_out: Record<u8>,
 }
 
@@ -212,6 +221,7 @@ impl Model for Job {
         id = j.id;
         attribute = j.attribute;
         command = j.command;
+        asks_medium = j.asks_medium;
         data_out = j.data_out.items;
       };
     } };
@@ -254,6 +264,13 @@ impl Job {
         ensures { result ≡ self.now.entry.command }
     {
         self.command
+    }
+
+    /// Returns true if the command asks for the medium itself.
+    pub fn asks_medium(&self) -> bool
+        ensures { result ≡ self.now.entry.asks_medium }
+    {
+        self.asks_medium
     }
 
     /// Returns its chain.

@@ -146,6 +146,16 @@ impl Task {
         }
     }
 
+    /// Returns true if the command asks for the medium itself.
+    pub fn asks_medium(&self) -> bool
+        ensures { result ≡ self.now.seen.entry.asks_medium }
+    {
+        match self.request() {
+            Some(request) => request.asks_medium(),
+            None => false,
+        }
+    }
+
     /// Returns the data that the command takes from the driver: exactly as many bytes as it needs.
     pub fn data(&self) -> &[u8]
         ensures data { result.now ≡ self.now.seen.entry.data_out }

@@ -25,6 +25,7 @@ pub struct RecordedEntry {
     id: u64,
     attribute: TaskAttribute,
     command: Command,
+    asks_medium: bool,
     data_out: Record<u8>,
 }
 
@@ -38,6 +39,7 @@ impl Model for RecordedEntry {
       id = e.id;
       attribute = e.attribute;
       command = e.command;
+      asks_medium = e.asks_medium;
       data_out = e.data_out.items;
     } };
 }
@@ -53,6 +55,7 @@ impl RecordedEntry {
             id: request.id(),
             attribute: request.attribute(),
             command: request.command(),
+            asks_medium: request.asks_medium(),
             data_out: Record::new().and_all(request.data()),
         }
     }

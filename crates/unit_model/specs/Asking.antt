@@ -1,5 +1,5 @@
 -- Whose task a job is, by what its request asked for.
-use Rattle.std.specs.Prelude.{ℕ, ◌≡◌, ◌≢◌, ◌<◌, ◌⊎◌, true, false, List, Option, Some, None, ⊤}
+use Rattle.std.specs.Prelude.{ℕ, Bool, ◌≡◌, ◌≢◌, ◌<◌, ◌⊎◌, true, false, List, Option, Some, None, ⊤}
 use Rattle.cdb.specs.declared.commands.Command.{Command}
 use Rattle.request_intake.specs.declared.attribute.TaskAttribute.{TaskAttribute}
 use Rattle.unit_model.specs.Tasks.{Entry, task_of}
@@ -25,9 +25,10 @@ pub record Asked : Type 0 where
   pub id : ℕ
   pub attribute : TaskAttribute
   pub command : Command
+  pub asks_medium : Bool
 
 abbrev pub asked_of : Entry → Asked
-asked_of e = record { id = e.id; attribute = e.attribute; command = e.command }
+asked_of e = record { id = e.id; attribute = e.attribute; command = e.command; asks_medium = e.asks_medium }
 
 -- own: the task is alive under the job's ticket, and entered with what the job says
 pub record IsOf (j : PlainJob) (e : Entry) (steps : List Step) : Type 0 where

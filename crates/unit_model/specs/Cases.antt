@@ -33,7 +33,7 @@ nth n = record { queue = 2; number = n }
 -- a TEST UNIT READY in that chain, with one more as its identifier
 abbrev pub test_unit_ready : ℕ → TaskAttribute → Entry
 test_unit_ready n attribute =
-    record { ticket = nth n; id = n + 1; attribute = attribute; command = TestUnitReady; data_out = [] }
+    record { ticket = nth n; id = n + 1; attribute = attribute; command = TestUnitReady; asks_medium = false; data_out = [] }
 
 -- it ends with GOOD and moves nothing
 abbrev pub good_reply : PlainReply
@@ -68,11 +68,11 @@ head_first = runs 0 ∷ runs 1 ∷ three_enter HeadOfQueue
 
 -- A is a WRITE of block 3 with these data, SIMPLE, with identifier 7
 abbrev pub write_of_3 : ℕ → List ℕ → Entry
-write_of_3 n bytes = record { ticket = nth n; id = 7; attribute = Simple; command = Write 3 1; data_out = bytes }
+write_of_3 n bytes = record { ticket = nth n; id = 7; attribute = Simple; command = Write 3 1; asks_medium = false; data_out = bytes }
 
 -- a READ of block 3
 abbrev pub read_of_3 : ℕ → Entry
-read_of_3 n = record { ticket = nth n; id = n + 1; attribute = Simple; command = Read 3 1; data_out = [] }
+read_of_3 n = record { ticket = nth n; id = n + 1; attribute = Simple; command = Read 3 1; asks_medium = false; data_out = [] }
 
 -- A is parked behind P, which is ORDERED and has another identifier
 abbrev pub parked_write : List ℕ → List Step

@@ -3,17 +3,18 @@ use Rattle.std.specs.Prelude.{ℕ, ◌≡◌, ◌≤◌, ◌==◌, Bool, true, f
 use Rattle.block_store.specs.Blocks.{Blocks, is_within}
 use Rattle.block_store.specs.Storage.{Ledger, IsLeft}
 use Rattle.cdb.specs.declared.commands.Command.{Command}
-use Rattle.cdb.specs.declared.commands.Command.TheVariants.{SynchronizeCache}
+use Rattle.cdb.specs.declared.commands.Command.TheVariants.{Read, SynchronizeCache}
 use Rattle.unit_model.specs.Tasks.{Entry}
 use Rattle.ring_core.specs.declared.log.Ticket.{Ticket}
 use Rattle.unit_model.specs.Steps.{Step, as_of, done}
 use Rattle.unit_model.specs.Enabling.{enabled}
 use Rattle.unit_model.specs.Contents.{Opening, blocks_of}
 
--- block b is one that a flush names: one of the count blocks from lba on, or any from there on where count is 0 (SBC-3 §5.26,
--- §5.27)
+-- block b is one that a flush names: one of the count blocks from lba on; with SYNCHRONIZE CACHE any from there on where count is 0
+-- (SBC-3 §5.11, §5.26, §5.27)
 abbrev pub is_in_flush : Command → ℕ → Bool
 is_in_flush (SynchronizeCache lba count) b = if count == 0 then nat_le lba b else is_within lba count b
+is_in_flush (Read lba count) b = is_within lba count b
 is_in_flush _ b = false
 
 -- own: block b of a unit had these bytes at a moment from which on the task might run (SAM-5 §8.5)

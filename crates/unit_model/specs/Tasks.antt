@@ -9,19 +9,20 @@ use Rattle.ring_core.specs.declared.log.Ticket.{Ticket}
 use Rattle.unit_model.specs.declared.rule.Rule.{Rule}
 use Rattle.unit_model.specs.declared.rule.Rule.TheVariants.{Id, All}
 
--- a task as it entered the task set (SAM-5 §8.1): the ticket of its chain, the driver's identifier, its
--- task attribute, its command, and the data that this takes
+-- a task as it entered the task set (SAM-5 §8.1): the ticket of its chain, the driver's identifier, its task attribute, its command,
+-- whether this asks for the medium itself, and the data that it takes
 pub record Entry : Type 0 where
   pub ticket : Ticket
   pub id : ℕ
   pub attribute : TaskAttribute
   pub command : Command
+  pub asks_medium : Bool
   pub data_out : List ℕ
 
 -- own: the task of a request that was fetched under a ticket
 abbrev pub entry_of : Ticket → PlainRequest → Entry
 entry_of t r =
-    record { ticket = t; id = r.id; attribute = r.attribute; command = r.command; data_out = r.data_out }
+    record { ticket = t; id = r.id; attribute = r.attribute; command = r.command; asks_medium = r.asks_medium; data_out = r.data_out }
 
 -- own: whether two tickets are one; a task is named by its ticket
 abbrev pub same_ticket : Ticket → Ticket → Bool

@@ -2,11 +2,10 @@
 use Rattle.std.specs.Prelude.{ℕ, ◌≡◌, ◌⊎◌, ◌++◌, ◌==◌, ◌&&◌, ◌||◌, not, Bool, true, min, List, [], ◌∷◌, map, filter, Contains, Option, Some, None, is_some, IfSome, ⊤}
 use Rattle.std.specs.Option.{option_map}
 use Rattle.block_store.specs.Storage.{Ledger, Dealing, IsPageOf, IsLostIn, and_then}
-use Rattle.cdb.specs.declared.commands.Command.{Command}
 use Rattle.command_model.specs.PlainReply.{PlainReply}
 use Rattle.command_model.specs.Effects.{changes_medium}
 use Rattle.command_model.specs.Replies.{cache_told}
-use Rattle.command_model.specs.Waiting.{is_flush, waits_at}
+use Rattle.command_model.specs.Waiting.{flushes, waits_at}
 use Rattle.command_model.specs.Statuses.{good}
 use Rattle.ring_core.specs.declared.log.Ticket.{Ticket}
 use Rattle.unit_model.specs.Tasks.{Entry, task_of}
@@ -37,15 +36,21 @@ is_backed u = is_some u.storage
 abbrev pub tells_no_cache : PlainUnit → Bool
 tells_no_cache u = not (cache_told (facts_after u.opening u.steps))
 
--- own: whether a command may have to wait at the unit: for pages of its disk, for what was changed before it, or, where the unit
--- tells of no cache, for what it changes itself
-abbrev pub may_wait : PlainUnit → Command → Bool
-may_wait u command =
-    is_backed u && (waits_at (capacity_of u.opening u.steps) command || (tells_no_cache u && changes_medium command))
+-- own: whether what a task changes has to be on the medium behind its answer: the unit tells of no cache, or the command asks for
+-- the medium itself (FUA, SBC-3 §5.33)
+abbrev pub needs_medium : PlainUnit → Entry → Bool
+needs_medium u e = tells_no_cache u || e.asks_medium
 
--- own: whether the answer of a command that ended with this status waits until the host's storage has what it changed
-abbrev pub waits_behind : PlainUnit → Command → ℕ → Bool
-waits_behind u command status = is_backed u && (tells_no_cache u && (changes_medium command && status == good))
+-- own: whether a task may have to wait at the unit: for pages of its disk, for what was changed before it, or for what it changes
+-- itself, where that has to be on the medium
+abbrev pub may_wait : PlainUnit → Entry → Bool
+may_wait u e =
+    is_backed u
+    && (waits_at (capacity_of u.opening u.steps) e.asks_medium e.command || (needs_medium u e && changes_medium e.command))
+
+-- own: whether the answer of a task that ended with this status waits until the host's storage has what it changed
+abbrev pub waits_behind : PlainUnit → Entry → ℕ → Bool
+waits_behind u e status = is_backed u && (needs_medium u e && (changes_medium e.command && status == good))
 
 -- own: the host's last word of reading page p of the unit's disk is that it can't
 abbrev pub HasLost : PlainUnit → ℕ → Type 0
@@ -53,7 +58,7 @@ HasLost u p = IsLostIn u.storage p
 
 -- a flush ends with GOOD only where a crash at that moment leaves what the unit had once the flush might run, or later
 abbrev pub Flushes : PlainUnit → Entry → PlainReply → Type 0
-Flushes u e r = r.status ≡ good → is_flush e.command ≡ true → IfSome u.storage (λ l. IsDurable u.opening u.steps l e)
+Flushes u e r = r.status ≡ good → flushes e.asks_medium e.command ≡ true → IfSome u.storage (λ l. IsDurable u.opening u.steps l e)
 
 -- own: the command of a task, which runs next at the unit, may be replied to so: as the history says, or since it needs a
 -- page that the host can't read
@@ -64,7 +69,7 @@ Replies u e r =
 -- own: a command whose answer waits is answered at once only where whatever a crash leaves has all that it changed
 abbrev pub EndsAtOnce : PlainUnit → Ticket → Entry → PlainReply → Type 0
 EndsAtOnce u t e r =
-    waits_behind u e.command r.status ≡ true → IfSome u.storage (λ l. IsThrough u.opening (Step.Commit t r ∷ u.steps) l t)
+    waits_behind u e r.status ≡ true → IfSome u.storage (λ l. IsThrough u.opening (Step.Commit t r ∷ u.steps) l t)
 
 -- own: the command of a ticket's task may run next at the unit, be replied to so, and be answered at once
 abbrev pub MayCommit : PlainUnit → Ticket → PlainReply → Type 0
@@ -72,13 +77,13 @@ MayCommit u t r = (e : Entry) × IsReady t e u.steps × Replies u e r × EndsAtO
 
 -- own: it may run next at the unit, and be replied to so, which is told once the host's storage has what it changed
 abbrev pub MayWithhold : PlainUnit → Ticket → PlainReply → Type 0
-MayWithhold u t r = (e : Entry) × IsReady t e u.steps × Replies u e r × (waits_behind u e.command r.status ≡ true)
+MayWithhold u t r = (e : Entry) × IsReady t e u.steps × Replies u e r × (waits_behind u e r.status ≡ true)
 
 -- own: the command of a ticket's task ran, and was replied to so, which isn't told yet
 pub record IsWithheld (u : PlainUnit) (t : Ticket) (e : Entry) (r : PlainReply) : Type 0 where
   pub is_there : task_of t (alive u.steps) ≡ Some e
   pub ran : Contains u.steps (Step.Commit t r)
-  pub waits : waits_behind u e.command r.status ≡ true
+  pub waits : waits_behind u e r.status ≡ true
 
 -- own: such a reply may be told: whatever a crash leaves has all that the command changed
 abbrev pub MayConclude : PlainUnit → Ticket → PlainReply → Type 0
@@ -87,7 +92,7 @@ MayConclude u t r =
 
 -- own: the command of a task has to wait before it runs, or its reply is withheld
 abbrev pub HasToWait : PlainUnit → Ticket → Entry → Type 0
-HasToWait u t e = (IsReady t e u.steps × (may_wait u e.command ≡ true)) ⊎ ((r : PlainReply) × IsWithheld u t e r)
+HasToWait u t e = (IsReady t e u.steps × (may_wait u e ≡ true)) ⊎ ((r : PlainReply) × IsWithheld u t e r)
 
 -- own: a unit of which no step was taken, with all of its disk in memory
 abbrev pub opening_unit : Opening → Bool → PlainUnit

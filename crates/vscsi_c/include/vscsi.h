@@ -576,10 +576,11 @@ enum vscsi_answer vscsi_live_destroy(struct vscsi_live *device);
  * has the bytes from 4,096 * n on; what lies behind the disk's last block is zeros. The host reads and writes pages by any means,
  * as many at once as it likes and in any order, while the device serves.
  *
- * A unit of the wide profile tells its guest of a volatile write cache: WCE is 1 and DPOFUA 0 (docs/COMMANDS.md). A WRITE is answered
- * as it stands in memory. One of the narrow profile, or of which `write_through` is true, tells of none: a command that may change
- * blocks is answered GOOD only once the host said that it kept each page that was changed by then. So waits SYNCHRONIZE CACHE, for
- * what was changed before it might run, one command of a disk at a time. A command that needs a page which isn't in memory waits, alone.
+ * A unit of the wide profile tells its guest of a volatile write cache: WCE is 1 (docs/COMMANDS.md). A WRITE is answered as it stands
+ * in memory. One of the narrow profile, or of which `write_through` is true, tells of none: a command that may change blocks is
+ * answered GOOD only once the host said that it kept each page that was changed by then. With a write cache so is WRITE AND VERIFY, and
+ * such a command with FUA. So wait SYNCHRONIZE CACHE, and a READ with FUA, for what was changed before they might run, one command of a
+ * disk at a time. A command that needs a page which isn't in memory waits, alone.
  *
  * What the host owes, and nothing checks:
  * - What it hands in by vscsi_live_load is what its storage had of the page when the disk was made, or what it last said by

@@ -11,7 +11,7 @@ use Rattle.ring_core.specs.declared.layout.Features.{Features}
 use Rattle.ring_core.specs.declared.layout.Form.{Form}
 use Rattle.ring_core.specs.declared.layout.Form.TheVariants.{Split, Packed}
 use Rattle.ring_core.specs.declared.layout.Layout.{Layout}
-use Rattle.request_intake.specs.Inventory.{PlainInventory, address_of, has_cache, inventory_of, is_rising}
+use Rattle.request_intake.specs.Inventory.{PlainInventory, address_of, inventory_of, is_rising}
 use Rattle.request_intake.specs.declared.inventory.UnitSpec.{UnitSpec}
 use Rattle.unit_model.specs.Unit.{PlainUnit}
 use Rattle.unit_model.specs.Receipts.{unit_address}
@@ -23,7 +23,7 @@ use Rattle.device_model.proofs.Lists.{nothing, same}
 use Rattle.virtqueue.specs.Queue.{opening_ring, opening_queue, placement_of}
 use Rattle.phases.specs.Queue.{with_slot}
 use Rattle.config.specs.declared.config.Config.{Config}
-use Rattle.command_model.specs.Identity.{is_identity, told_by}
+use Rattle.command_model.specs.Identity.{is_identity}
 use Rattle.config.specs.Config.{is_config, is_config_for, has_pages, is_queue, is_unit, has_lun_0, has_own_naa, are_queues, are_units, form_of, size_of}
 use Rattle.backed_store.specs.declared.disk.Disk.{Disk}
 use Rattle.logical_unit.specs.Disks.{unit_over}
@@ -122,9 +122,6 @@ addressed_open wanted inventory units fresh is k u at =
       ap (λ (ns : PlainInventory). slice_get ns.profiles k) is
           ∙ map_get (λ (s : UnitSpec). s.profile) k wanted found.0 found.1
           ∙ ap (λ (z : PlainUnit). Some z.opening.profile) one,
-      ap (λ (ns : PlainInventory). slice_get ns.caches k) is
-          ∙ map_get has_cache k wanted found.0 found.1
-          ∙ ap (λ (z : PlainUnit). Some (told_by z.opening.profile z.opening.identity).write_cache) one,
     )
 
 -- what holds of each unit holds of it over a disk

@@ -81,7 +81,7 @@ bare =
     record {
       memory = [];
       shared = false;
-      inventory = record { addresses = []; profiles = []; caches = [] };
+      inventory = record { addresses = []; profiles = [] };
       queues = [];
       units = [];
       seats = [];

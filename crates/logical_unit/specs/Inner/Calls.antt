@@ -1,5 +1,5 @@
 -- Rests on `specs/Calls.antt`; no promise rests on it.
-use Rattle.std.specs.Prelude.{ℕ, ◌≡◌, ◌==◌, ◌&&◌, Bool, false, [], Option, Some, None, IsTrue}
+use Rattle.std.specs.Prelude.{ℕ, ◌≡◌, ◌==◌, ◌&&◌, ◌||◌, Bool, false, [], Option, Some, None, IsTrue}
 use Rattle.cdb.specs.declared.commands.Command.{Command}
 use Rattle.command_model.specs.Effects.{changes_medium}
 use Rattle.command_model.specs.PlainReply.{PlainReply, success}
@@ -22,9 +22,9 @@ abbrev pub entered_of : Option PlainJob → Entered
 entered_of (Some job) = entered.Run job
 entered_of None = entered.Parked
 
--- own: whether a command that ends with GOOD is told so only once the host's storage has what it changed
-abbrev pub writes_through : PlainUnit → Command → Bool
-writes_through u command = is_backed u && (tells_no_cache u && changes_medium command)
+-- own: whether a command that asks for the medium, or doesn't, is told of GOOD only once the host's storage has what it changed
+abbrev pub writes_through : PlainUnit → Bool → Command → Bool
+writes_through u asks_medium command = is_backed u && ((tells_no_cache u || asks_medium) && changes_medium command)
 
 -- the command runs whole, as `Commits` says it, whether its reply may be told at once or not
 abbrev pub Runs : PlainUnit → PlainJob → Outcome → PlainUnit → Type 0

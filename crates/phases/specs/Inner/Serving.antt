@@ -5,4 +5,4 @@ use Rattle.unit_model.specs.Unit.{PlainUnit, may_wait}
 
 -- what a request that isn't answered hands out: nothing; or its job, whose command may have to wait at its unit
 abbrev pub HandsOn : PlainJob → PlainUnit → List PlainJob → Type 0
-HandsOn x u more = (more ≡ []) ⊎ ((more ≡ x ∷ []) × (may_wait u x.entry.command ≡ true))
+HandsOn x u more = (more ≡ []) ⊎ ((more ≡ x ∷ []) × (may_wait u x.entry ≡ true))

@@ -154,7 +154,7 @@ returns-in-Ok-clause-step c =
     (told_is kept c.self.inside.facts (disks.size_of store) refl refl refl refl refl refl (c.has_to_wait.ensures.size ∙ c.self.invariant.sized))
     (came_on _ _ _ _ _ _ _ _ _ _ _ c.has_to_wait.ensures.storage (rw keeps (rw (c.command-command.ensures, c.data-bytes.ensures.data) at c.in-Ok.ensures.performed)))
     (λ r ends flush.
-    let is = rw (← c.command-command.ensures) at flush in
+    let is = rw (← c.command-command.ensures, ← c.asks_medium.ensures) at flush in
     subst (λ x. IfSome x (λ l. IsDurable (opening_of u) u.log.steps l e)) c.has_to_wait.ensures.storage
     (over_durable (opening_of u) u.log.steps (fence_of c.ticket-ticket.result _ false) e store refl stands.entered
     (c.has_to_wait.ensures.since (opening_of u) u.log.steps begins c.self.invariant.kept.stored c.self.invariant.flushing c.if-has_to_wait.false is)
@@ -173,7 +173,7 @@ returns-in_default-perform_if_ready-clause-waits c =
 pub returns-then-has_to_wait-clause-waits : goal.returns-then-has_to_wait-clause-waits
 returns-then-has_to_wait-clause-waits c =
     let at = ap (λ t. task_at t c.self.inside.tasks) (sym c.ticket-ticket.ensures.entry) ∙ sym c.task.ensures ∙ ap option_copied c.in-Some.is in
-    let flush = rw c.command-command.ensures at c.has_to_wait.ensures.flush c.if-has_to_wait.true in
+    let flush = rw (c.command-command.ensures, c.asks_medium.ensures) at c.has_to_wait.ensures.flush c.if-has_to_wait.true in
     rw (← c.self.view_is)
     (waits_for c.self.invariant.kept c.args.job.now c.in-Some.task.now _ _ _ at c.in-Ready.ensures
     (c.has_to_wait.ensures.backed c.if-has_to_wait.true) (or-right _ _ flush) c.has_to_wait.ensures.storage)

@@ -126,7 +126,8 @@ returns-clause-serves g c =
     (hosted_ledger c.may_run.new.store u.store c.may_run.ensures.storage)
     (kept_durable (opening_of u) (Step.Enter c.args.arrival.now.entry ∷ u.log.steps) c.args.arrival.now.entry c.may_run.new.store on
     (λ b. ap (λ f. f b) blocks ∙ c.self.invariant.kept.stored b) (c.may_run.ensures.flushed (c.if-not-may_run.false) flush)))
-    (subst (λ (k : Command). writes_through (plain_unit u) k ≡ false) c.command.ensures (rw (← c.self.view_is) at (sym c.writes_through.ensures ∙ c.if-writes_through.false))))
+    (subst (λ b. writes_through (plain_unit u) b c.args.arrival.now.entry.command ≡ false) c.asks_medium.ensures
+    (subst (λ (k : Command). writes_through (plain_unit u) c.asks_medium.result k ≡ false) c.command.ensures (rw (← c.self.view_is) at (sym c.writes_through.ensures ∙ c.if-writes_through.false)))))
 
 pub invariant_of-self-in_default : goal.invariant_of-self-in_default
 invariant_of-self-in_default g c =

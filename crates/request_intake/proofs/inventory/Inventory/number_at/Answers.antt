@@ -1,4 +1,4 @@
-use Rattle.std.proofs.Common.{◌<◌, Some, sym, ◌∙◌, ap, subst, false, length}
+use Rattle.std.proofs.Common.{◌<◌, Some, sym, ◌∙◌, ap, subst, length}
 use Rattle.std.proofs.lemmas.Option.{slice_get-get_or}
 use Rattle.cdb.specs.declared.profile.Profile.TheVariants.{Narrow}
 use Rattle.scsi_codec.specs.declared.lun.Address.{Address}
@@ -11,7 +11,7 @@ use Rattle.request_intake.proofs.inventory.Inventory.number_at.Goals as goal
 pub returns-clause-address : goal.returns-clause-address
 returns-clause-address c =
     let none : Address = record { target = 0; lun = 0 } in
-    let nothing : Known = record { profile = Narrow; write_cache = false; number = 0 } in
+    let nothing : Known = record { profile = Narrow; number = 0 } in
     let within : c.args.unit_index < length c.self.inside.addresses.items =
     subst (λ (i : PlainInventory). c.args.unit_index < length i.addresses) (sym c.self.view_is) c.requires.unit_index in
     let known = subst (λ n. c.args.unit_index < n) (sym c.self.invariant.1) within in
