@@ -1101,13 +1101,15 @@ def stamped(page, version):
 
 
 def run_cached(front, requests):
-    """Runs requests, each of which is a page's version to be written, a page to be read, or a SYNCHRONIZE CACHE. Gives their numbers."""
+    """Runs requests: a page's version to be written, or a page to be read, either also with FUA; or a SYNCHRONIZE CACHE. Gives their
+    numbers.
+    """
     numbers = range(front.count, front.count + len(requests))
     for kind, page, version in requests:
-        if kind == "write":
-            front.write(8 * page, stamped(page, version))
-        elif kind == "read":
-            front.read(8 * page, 4096)
+        if kind.startswith("write"):
+            front.write(8 * page, stamped(page, version), fua="FUA" in kind)
+        elif kind.startswith("read"):
+            front.read(8 * page, 4096, fua="FUA" in kind)
         else:
             front.flush()
     wait_for(lambda: front.answered() == front.count & 0xFFFF, lambda: f"{front.count - numbers[0]} requests from {requests[0]} on, of which "
@@ -1152,6 +1154,23 @@ def test_cached_killed(room):
         return NO_RING
     image = room.folder / "image"
     kill_and_compare(room, f"0:0=256M,file={image}{CACHED}", image, KILLS)
+    return None
+
+
+def test_cached_forced(room):
+    """What a WRITE with FUA wrote, or a READ with FUA read, is on the file when the daemon is killed behind the answer."""
+    if not has_ring(room):
+        return NO_RING
+    image = room.folder / "image"
+    for version in range(1, KILLS + 1):
+        kind = ("write with FUA", "read with FUA")[version % 2]
+        daemon = room.runs("--quiet", "--disk", f"0:0=256M,file={image}{CACHED}", ends=-signal.SIGKILL, by=signal.SIGKILL)
+        with daemon, FrontEnd(connected(room.socket)) as front:
+            assert caching_of(front) == (1, 1)
+            run_cached(front, [("write", page, version) for page in range(8)])
+            numbers = run_cached(front, [(kind, 0, version)])
+            assert kind.startswith("write") or front.data(numbers[0], 4096) == stamped(0, version)
+        assert has(image, 0, stamped(0, version)), (kind, version)
     return None
 
 

@@ -84,13 +84,13 @@ class FrontEnd:
         self.memory[AVAILABLE + 2 : AVAILABLE + 4] = struct.pack("<H", self.count & 0xFFFF)
         os.eventfd_write(self.kick, 1)
 
-    def write(self, lba, data, lun=0):
+    def write(self, lba, data, lun=0, fua=False):
         """Makes a WRITE available."""
-        self.put(struct.pack(">BBIBHB", 0x2A, 0, lba, 0, len(data) // BLOCK, 0), data, lun)
+        self.put(struct.pack(">BBIBHB", 0x2A, 8 * fua, lba, 0, len(data) // BLOCK, 0), data, lun)
 
-    def read(self, lba, length, lun=0):
+    def read(self, lba, length, lun=0, fua=False):
         """Makes a READ available."""
-        self.put(struct.pack(">BBIBHB", 0x28, 0, lba, 0, length // BLOCK, 0), lun=lun, writable=length)
+        self.put(struct.pack(">BBIBHB", 0x28, 8 * fua, lba, 0, length // BLOCK, 0), lun=lun, writable=length)
 
     def flush(self, lun=0):
         """Makes a SYNCHRONIZE CACHE available."""
