@@ -1,6 +1,6 @@
 -- A disk, whether its pages may go or not.
 use Rattle.std.specs.Prelude.{◌≡◌, ℕ, ◌/◌, ◌%◌, Bool, true, false, List, [], All, length, Option, Some, None, is_some, IfSome}
-use Rattle.block_store.specs.Blocks.{Blocks}
+use Rattle.block_store.specs.Blocks.{Blocks, is_within}
 use Rattle.block_store.specs.Storage.{Ledger, storage_by}
 use Rattle.block_store.specs.Inner.Hosted.{Hosted}
 use Rattle.block_store.specs.Kept as pages
@@ -56,6 +56,11 @@ abbrev pub owes : Disk → ℕ → Bool
 owes (Whole s) p = false
 owes (Backed s) p = flushes.owes s.store s.fence p
 
+-- whether page p differs from what its host's storage has, as far as the disk knows; never of one that isn't backed
+abbrev pub is_changed : Disk → ℕ → Bool
+is_changed (Whole s) p = false
+is_changed (Backed s) p = backed.is_dirty s.store p
+
 -- own: block b is as it is in what the storage keeps, and in all else that it may have of it
 abbrev pub IsKeptAs : Ledger → Blocks → ℕ → Type 0
 IsKeptAs l blocks b = ((storage_by l).kept b ≡ blocks b) × All (λ x. x ≡ blocks b) ((storage_by l).unkept b)
@@ -73,6 +78,10 @@ IsOver d = IfSome (hosted_of d) (λ h. (p : ℕ) → h.progress.kept p ≡ true)
 -- own: the storage has each block as it is
 abbrev pub IsKeptWhole : Disk → Type 0
 IsKeptWhole d = IfSome (storage_of d) (λ l. (b : ℕ) → IsKeptAs l (blocks_of d) b)
+
+-- own: the storage has each of so many blocks from the first on as it is
+abbrev pub AreKept : Disk → ℕ → ℕ → Type 0
+AreKept d first count = IfSome (storage_of d) (λ l. (b : ℕ) → is_within first count b ≡ true → IsKeptAs l (blocks_of d) b)
 
 -- the latest pages that the host said it can't read, the oldest first; none of one that isn't backed
 abbrev pub noted : Disk → List ℕ

@@ -25,8 +25,9 @@ pub struct BackedDisk {
 }
 
 impl BackedDisk {
-    ghost use Rattle.std.specs.Prelude.{◌≡◌, ℕ, ◌/◌, ◌^◌, ◌<◌, [], All, true, false, IsTrue, IsFalse, IfOk, OnErr, IfSome, IfNone, length, min};
-    ghost use Rattle.backed_store.specs.Stores.{contents, holds, backing_of, storage_of, ledger_of, latest_of};
+    ghost use Rattle.std.specs.Prelude.{◌≡◌, ℕ, ◌+◌, ◌/◌, ◌^◌, ◌<◌, ◌≤◌, [], All, true, false, IsTrue, IsFalse, IfOk, OnErr, IfSome, IfNone, length, min};
+    ghost use Rattle.block_store.specs.Blocks.{is_within};
+    ghost use Rattle.backed_store.specs.Stores.{contents, holds, is_dirty, backing_of, storage_of, ledger_of, latest_of};
     ghost use Rattle.block_store.specs.Pages.{blocks_in};
     ghost use Rattle.backed_store.specs.Flushes.{owes};
     ghost use Rattle.backed_store.specs.BackedDisks.{progress_of, hosted_of};
@@ -84,6 +85,18 @@ impl BackedDisk {
             All (λ x. x ≡ contents self.now.store b) ((storage_of self.now.store).unkept b) }
     {
         self.store.is_flushed(self.store.latest_change())
+    }
+
+    /// Returns true if the host's storage has each block of a range as it is. It looks at each page of the range.
+    pub(crate) fn are_kept(&self, first: u64, count: u32) -> bool
+        requires range { first + count ≤ self.now.store.capacity }
+        ensures kept { IsTrue result → (b : ℕ) → IsTrue (is_within first count b) →
+            backing_of self.now.store b ≡ contents self.now.store b }
+        ensures unkept { IsTrue result → (b : ℕ) → IsTrue (is_within first count b) →
+            All (λ x. x ≡ contents self.now.store b) ((storage_of self.now.store).unkept b) }
+        ensures changed { IsFalse result → (b : ℕ) × IsTrue (is_within first count b) × IsTrue (is_dirty self.now.store (b / 8)) }
+    {
+        self.store.are_kept(first, count as usize)
     }
 
     /// Takes the bytes of a page that the host was asked for, as [`BackedStore::load`] does.

@@ -84,15 +84,15 @@ impl Store for Disk {
 }
 
 impl Disk {
-    ghost use Rattle.std.specs.Prelude.{◌≡◌, ℕ, ◌+◌, ◌^◌, ◌<◌, ◌≤◌, IfOk, IfSome, OnErr, IsTrue, IsFalse, false, not, nat_lt, min, if◌then◌else◌};
-    ghost use Rattle.block_store.specs.Blocks.{zero_block};
+    ghost use Rattle.std.specs.Prelude.{◌≡◌, ℕ, ◌+◌, ◌/◌, ◌^◌, ◌<◌, ◌≤◌, IfOk, IfSome, OnErr, IsTrue, IsFalse, false, not, nat_lt, min, if◌then◌else◌};
+    ghost use Rattle.block_store.specs.Blocks.{is_within, zero_block};
     ghost use Rattle.block_store.specs.Drafts.{edges_draft, prepared_draft};
     ghost use Rattle.block_store.specs.Inner.Drafts.{IsAsCopied};
     ghost use Rattle.std.specs.Option.{option_map};
     ghost use Rattle.block_store.specs.Storage.{Dealing};
     ghost use Rattle.block_store.specs.Pages.{covered};
     ghost use Rattle.block_store.specs.Inner.Hosted.{hosted_after};
-    ghost use Rattle.backed_store.specs.Disks.{size_of, blocks_of, holds, is_coming, has_room, hosted_of, storage_of, is_backed, owes, IsBegun, IsOver, IsKeptWhole};
+    ghost use Rattle.backed_store.specs.Disks.{size_of, blocks_of, holds, is_coming, has_room, hosted_of, storage_of, is_backed, owes, is_changed, IsBegun, IsOver, IsKeptWhole, AreKept};
 
     /// Returns true if it isn't backed: all its blocks are in memory, now and later, and can be written over.
     #[inline(always)]
@@ -141,6 +141,20 @@ impl Disk {
         match self {
             Disk::Whole(_) => true,
             Disk::Backed(disk) => disk.is_kept(),
+        }
+    }
+
+    /// Returns true if the host's storage has each block of a range as it is. Always where the disk isn't backed: it has none. It
+    /// looks at each page of the range.
+    pub fn are_kept(&self, first: u64, count: u32) -> bool
+        requires range { first + count ≤ size_of self.now }
+        ensures kept { IsTrue result → AreKept self.now first count }
+        ensures changed { IsFalse result → (b : ℕ) × IsTrue (is_within first count b) × IsTrue (is_changed self.now (b / 8)) }
+        ensures whole { is_backed self.now ≡ false → IsTrue result }
+    {
+        match self {
+            Disk::Whole(_) => true,
+            Disk::Backed(disk) => disk.are_kept(first, count),
         }
     }
 

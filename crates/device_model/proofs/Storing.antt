@@ -6,18 +6,18 @@ use Rattle.block_store.specs.Storage.{Storage, Dealing, Ledger, opening, storage
 use Rattle.block_store.proofs.Dealt.{last_dealt}
 use Rattle.block_store.proofs.Losing.{lost-last, lose-last, load-last, keep-last, lose-else, load-else, keep-else}
 use Rattle.unit_model.specs.Steps.{Step}
-use Rattle.unit_model.specs.Contents.{capacity_of}
+use Rattle.unit_model.specs.Contents.{capacity_of, blocks_of}
 use Rattle.unit_model.specs.Unit.{PlainUnit, is_backed, after as stepped, parking, dealing, waits_behind, MayCommit, MayConclude}
 use Rattle.block_store.specs.Blocks.{Blocks}
 use Rattle.block_store.specs.Storage.{IsLeft}
 use Rattle.command_model.specs.PlainReply.{PlainReply}
 use Rattle.command_model.specs.Statuses.{good}
-use Rattle.command_model.specs.Waiting.{flushes}
+use Rattle.command_model.specs.Waiting.{flushes, is_read}
 use Rattle.unit_model.specs.Tasks.{Entry, task_of}
 use Rattle.unit_model.specs.Steps.{alive}
 use Rattle.unit_model.specs.Flushing.{HasBeen, is_in_flush, HasBeenBehind, IsThrough}
 use Rattle.unit_model.specs.Jobs.{PlainJob}
-use Rattle.unit_model.proofs.Flushing.{durable}
+use Rattle.unit_model.proofs.Flushing.{durable, as_left}
 use Rattle.device_model.specs.Happens.{Happens}
 use Rattle.task_mgmt.specs.Functions.{step_by}
 use Rattle.task_mgmt.specs.declared.kind.MarkBy.TheVariants.{Abort, Reset}
@@ -304,6 +304,15 @@ pub flush_kept : (w : PlainWorld) (k : ℕ) (x : PlainJob) (r : PlainReply) (u :
 flush_kept w k x r u e l left b h at ends there flush has leaves named =
     let one : h.holds.unit ≡ u = same (sym h.holds.there ∙ at) in
     durable u x.entry.ticket e r l left b (subst (λ v. MayCommit v x.entry.ticket r) one h.may) ends there flush has leaves named
+
+-- so is what a READ of the medium reads what a crash leaves
+pub read_kept : (w : PlainWorld) (k : ℕ) (x : PlainJob) (r : PlainReply) (u : PlainUnit) (e : Entry) (l : Ledger) (left : Blocks) (b : ℕ)
+    → Happens (Transition.Commit k x r) w → UnitIs w x.unit u → r.status ≡ good → task_of x.entry.ticket (alive u.steps) ≡ Some e
+    → flushes e.asks_medium e.command ≡ true → is_read e.command ≡ true → u.storage ≡ Some l → IsLeft l left → is_in_flush e.command b ≡ true
+    → left b ≡ blocks_of u.opening u.steps b
+read_kept w k x r u e l left b h at ends there flush reads has leaves named =
+    let one : h.holds.unit ≡ u = same (sym h.holds.there ∙ at) in
+    as_left u x.entry.ticket e r l left b (subst (λ v. MayCommit v x.entry.ticket r) one h.may) ends there flush reads has leaves named
 
 -- what a unit's storage is to be, where it has one
 if_stored : (P : Ledger → Type 0) (o : Option Ledger) (l : Ledger) → IfSome o P → o ≡ Some l → P l

@@ -6,9 +6,10 @@ ghost use Rattle.block_store.specs.Blocks.{Blocks};
 ghost use Rattle.block_store.specs.Storage.{Ledger, Dealing, IsLeft};
 ghost use Rattle.command_model.specs.PlainReply.{PlainReply};
 ghost use Rattle.command_model.specs.Statuses.{good};
-ghost use Rattle.command_model.specs.Waiting.{flushes};
+ghost use Rattle.command_model.specs.Waiting.{flushes, is_read};
 ghost use Rattle.unit_model.specs.Tasks.{Entry, task_of};
 ghost use Rattle.unit_model.specs.Steps.{Step, alive};
+ghost use Rattle.unit_model.specs.Contents.{blocks_of};
 ghost use Rattle.unit_model.specs.Flushing.{HasBeen, HasBeenBehind, is_in_flush};
 ghost use Rattle.unit_model.specs.Jobs.{PlainJob};
 ghost use Rattle.unit_model.specs.Unit.{PlainUnit, is_backed, waits_behind, dealing};
@@ -50,15 +51,21 @@ pub fn a_storage_changes_by_its_host()
         UnitIs (after (Transition.Deal unit_index x) w) unit_index (dealing x u) }
 {}
 
-/// A flush ends with GOOD only once the host's storage has what it names: where the command of a SYNCHRONIZE CACHE may run so, or a
-/// READ that asks for the medium (FUA, SBC-3 §5.11), a crash at that moment leaves each block that it names as the block was once the
-/// command might run (SAM-5 §8.5), or later. So each WRITE is left that was answered before the command came, or that it waited for,
-/// unless the block was written over since.
+/// A flush ends with GOOD only once the host's storage has what it names. So does a READ that asks for the medium (FUA, SBC-3
+/// §5.11). Each clause says what a crash at that moment leaves of a block that the command names.
+///
+/// - `flush`: what the block was once the command might run (SAM-5 §8.5), or later. So each WRITE is left that was answered
+///   before the command came, or that it waited for, unless the block was written over since.
+/// - `read`: of a READ, what the READ reads.
 pub fn a_flush_ends_once_it_is_kept()
-    ensures { (w : PlainWorld) (k : ℕ) (x : PlainJob) (r : PlainReply) (u : PlainUnit) (e : Entry) (l : Ledger) (left : Blocks) (b : ℕ) →
+    ensures flush { (w : PlainWorld) (k : ℕ) (x : PlainJob) (r : PlainReply) (u : PlainUnit) (e : Entry) (l : Ledger) (left : Blocks) (b : ℕ) →
         Happens (Transition.Commit k x r) w → UnitIs w x.unit u → r.status ≡ good → task_of x.entry.ticket (alive u.steps) ≡ Some e →
         flushes e.asks_medium e.command ≡ true → u.storage ≡ Some l → IsLeft l left → is_in_flush e.command b ≡ true →
         HasBeen u.opening u.steps e b (left b) }
+    ensures read { (w : PlainWorld) (k : ℕ) (x : PlainJob) (r : PlainReply) (u : PlainUnit) (e : Entry) (l : Ledger) (left : Blocks) (b : ℕ) →
+        Happens (Transition.Commit k x r) w → UnitIs w x.unit u → r.status ≡ good → task_of x.entry.ticket (alive u.steps) ≡ Some e →
+        flushes e.asks_medium e.command ≡ true → is_read e.command ≡ true → u.storage ≡ Some l → IsLeft l left →
+        is_in_flush e.command b ≡ true → left b ≡ blocks_of u.opening u.steps b }
 {}
 
 /// Where a unit tells of no volatile write cache (SBC-3 §6.5), or the command asks for the medium (FUA, SBC-3 §5.33), one that

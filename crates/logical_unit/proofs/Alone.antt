@@ -17,7 +17,7 @@ use Rattle.command_model.specs.Inner.PlainReply.{good_data}
 use Rattle.command_model.specs.Replies.{reply_of}
 use Rattle.command_model.specs.Statuses.{good}
 use Rattle.command_model.specs.Waiting.{flushes}
-use Rattle.unit_model.specs.Flushing.{IsDurable}
+use Rattle.unit_model.specs.Flushing.{IsFlushed}
 use Rattle.command_model.specs.Facts.{Facts}
 use Rattle.request_intake.specs.declared.attribute.TaskAttribute.{TaskAttribute}
 use Rattle.request_intake.specs.declared.attribute.TaskAttribute.TheVariants.{Simple, Ordered, HeadOfQueue}
@@ -27,7 +27,7 @@ use Rattle.unit_model.specs.Enabling.{enabled}
 use Rattle.unit_model.specs.Seen.{Seen, finished, freed}
 use Rattle.unit_model.specs.Base.{most_before}
 use Rattle.command_model.specs.Effects.{block_after, given}
-use Rattle.unit_model.specs.Contents.{Opening, capacity_of, facts_after, oldest}
+use Rattle.unit_model.specs.Contents.{Opening, capacity_of, facts_after, reply_after, oldest}
 use Rattle.unit_model.specs.Lawful.{IsReady}
 use Rattle.unit_model.specs.Endings.{Ending}
 use Rattle.unit_model.specs.Receipts.{unit_address}
@@ -195,8 +195,9 @@ module _ (o : Opening) (past : List Step) (block_at : Blocks) (pending : List Co
 
     -- all of it
     pub serves : (storage : Option Ledger) (answers : Ending → Type 0) → j.address ≡ unit_address o
-        → (enabled j.entry (Step.Enter j.entry ∷ past) ≡ true → (r : PlainReply) → r.status ≡ good → flushes j.entry.asks_medium j.entry.command ≡ true
-        → IfSome storage (λ l. IsDurable o (Step.Enter j.entry ∷ past) l j.entry))
+        → (enabled j.entry (Step.Enter j.entry ∷ past) ≡ true → (r : PlainReply)
+        → r ≡ reply_after o j.entry (Step.Enter j.entry ∷ past) → r.status ≡ good → flushes j.entry.asks_medium j.entry.command ≡ true
+        → IfSome storage (λ l. IsFlushed o (Step.Enter j.entry ∷ past) l j.entry))
         → writes_through (unit_with o past [] false storage) j.entry.asks_medium j.entry.command ≡ false
         → answers (ending_of (outcome_for (unit_address o) (length (Step.Enter j.entry ∷ past)) j.entry.ticket p))
         → j.chain.ticket ≡ j.entry.ticket
@@ -272,8 +273,9 @@ module _ (o : Opening) (past : List Step) (block_at : Blocks) (pending : List Co
   pub serves_alone : (answers : Ending → Type 0) (keeps keeps' : Bool) (storage storage' : Option Ledger) → storage' ≡ storage → j.address ≡ unit_address o → keeps ≡ false → keeps' ≡ false
       → answers (ending_of (outcome_for (unit_address o) (length (Step.Enter j.entry ∷ past)) j.entry.ticket p))
       → j.chain.ticket ≡ j.entry.ticket
-      → (enabled j.entry (Step.Enter j.entry ∷ past) ≡ true → (r : PlainReply) → r.status ≡ good → flushes j.entry.asks_medium j.entry.command ≡ true
-      → IfSome storage (λ l. IsDurable o (Step.Enter j.entry ∷ past) l j.entry))
+      → (enabled j.entry (Step.Enter j.entry ∷ past) ≡ true → (r : PlainReply)
+        → r ≡ reply_after o j.entry (Step.Enter j.entry ∷ past) → r.status ≡ good → flushes j.entry.asks_medium j.entry.command ≡ true
+      → IfSome storage (λ l. IsFlushed o (Step.Enter j.entry ∷ past) l j.entry))
       → writes_through (unit_with o past [] false storage) j.entry.asks_medium j.entry.command ≡ false
       → ServesAlone answers (unit_with o past (parked_of tasks) keeps storage) j (unit_with o steps' (parked_of tasks) keeps' storage')
   serves_alone answers keeps keeps' storage storage' kind named a b answered own durable off =

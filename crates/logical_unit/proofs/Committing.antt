@@ -23,7 +23,7 @@ use Rattle.task_set.specs.Inner.Tasks.{moved, task_at}
 use Rattle.unit_model.specs.Asking.{IsOf, asked_of, CannotCommit}
 use Rattle.command_model.specs.Waiting.{flushes, waits_at}
 use Rattle.command_model.specs.Statuses.{good}
-use Rattle.unit_model.specs.Flushing.{IsDurable}
+use Rattle.unit_model.specs.Flushing.{IsFlushed}
 use Rattle.logical_unit.specs.Calls.{Waits}
 use Rattle.logical_unit.specs.Inner.Calls.{Runs}
 use Rattle.logical_unit.specs.Inner.Parts.{AreKept}
@@ -55,8 +55,8 @@ cannot s j past is (inl other) = inl other
 cannot s j past is (inr (inl done)) = inr (inl (sym (ap (λ (x : Seen). x.done) is) ∙ done))
 cannot s j past is (inr (inr waits)) = inr (inr (sym (ap (λ (x : Seen). is_some x.mark) is) ∙ ap (λ m. is_some m) waits.0, sym (ap (λ (x : Seen). x.enabled) is) ∙ waits.1))
 
-with_durable : {A B C : Type 0} → A ⊎ B → C → (A × C) ⊎ B
-with_durable (inl a) c = inl (a, c)
+with_durable : {A B C : Type 0} → A ⊎ B → (A → C) → (A × C) ⊎ B
+with_durable (inl a) c = inl (a, c a)
 with_durable (inr b) c = inr b
 
 -- a command that was performed came so
@@ -148,7 +148,8 @@ module _ {o : Opening} {past : List Step} {block_at : Blocks} {pending : List Co
   pub commits_run : (j : PlainJob) (e : Entry) (keeps : Bool) (storage storage' : Option Ledger) (facts : Facts) (p : Option PlainPerformed) (block_at' : Blocks) (pending' : List Code)
       → storage' ≡ storage → IsOf j e past → IsReady j.entry.ticket e past → facts ≡ facts_after o past
       → Comes keeps facts (IsLostIn storage) e.command e.data_out p block_at block_at' pending pending'
-      → ((r : PlainReply) → r.status ≡ good → flushes e.asks_medium e.command ≡ true → IfSome storage (λ l. IsDurable o past l e))
+      → ((r : PlainReply) → r ≡ reply_after o e past → r.status ≡ good → flushes e.asks_medium e.command ≡ true
+      → IfSome storage (λ l. IsFlushed o past l e))
       → Runs (record { opening = o; steps = past; parked = parked_of tasks; keeps_replies = keeps; storage = storage }) j
       (outcome_for (unit_address o) (length past) j.entry.ticket p)
       (record { opening = o; steps = step_for j.entry.ticket p ∷ past; parked = parked_of (map (moved (finished j.entry.ticket (ran_well p))) tasks); keeps_replies = keeps; storage = storage' })

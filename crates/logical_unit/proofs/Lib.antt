@@ -9,6 +9,7 @@ pub mod Entering
 pub mod Noting
 pub mod Begun
 pub mod Durable
+pub mod Flushed
 pub mod Committing
 pub mod Losing
 pub mod Alone

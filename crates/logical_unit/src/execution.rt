@@ -160,8 +160,9 @@ impl UnitState {
     /// memory. Else the host is asked for each of them at once, and the command waits: `None`, with nothing changed. Where
     /// there is no room for them, clean pages go that aren't those of the command that has waited for the longest. So does
     /// a flush, until the host's storage has each change of the disk that was made before it was tried first, and one that comes
-    /// while another waits. A task that is marked, and one that may not run, never waits. Nor does a command on a disk that isn't
-    /// backed, nor one that needs no block and is no flush.
+    /// while another waits; and a READ that asks for the medium (FUA, SBC-3 §5.11), until the storage has its blocks as they are. A
+    /// task that is marked, and one that may not run, never waits. Nor does a command on a disk that isn't backed, nor one that
+    /// needs no block and is no flush.
     ///
     /// Where the disk is backed, and the unit tells of no volatile write cache (SBC-3 §6.5), or the command asks for the medium
     /// (FUA, SBC-3 §5.33), a command that may change blocks is told of GOOD only once the host's storage has all that was

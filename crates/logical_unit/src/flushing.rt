@@ -1,13 +1,15 @@
 //! A flush that waits until the host's storage has what was changed before it, and a reply that isn't told before that.
 
-ghost use Rattle.std.specs.Prelude.{◌≡◌, ◌≢◌, ℕ, List, is_some, true, false, None, IsTrue, IsFalse, IfSome};
-ghost use Rattle.backed_store.specs.Disks.{is_backed, size_of, blocks_of, hosted_of, storage_of, owes, IsOver, IsKeptWhole};
-ghost use Rattle.command_model.specs.Waiting.{flushes};
+ghost use Rattle.std.specs.Prelude.{◌≡◌, ◌≢◌, ℕ, ◌/◌, List, is_some, true, false, None, IsTrue, IsFalse, IfSome};
+ghost use Rattle.backed_store.specs.Disks.{is_backed, size_of, blocks_of, hosted_of, storage_of, owes, is_changed, IsOver, IsKeptWhole};
+ghost use Rattle.command_model.specs.Waiting.{is_flush, flushes};
 ghost use Rattle.unit_model.specs.Steps.{Step};
 ghost use Rattle.unit_model.specs.Contents.{Opening, blocks_of as unit_blocks};
-ghost use Rattle.logical_unit.specs.Inner.Flushes.{MayBegin, HasBegun, AreFenced, fence_of, without};
+ghost use Rattle.logical_unit.specs.Inner.Flushes.{MayBegin, HasBegun, AreFenced, IsReadKept, fence_of, without};
 
+use crate::making_room::is_inside;
 use backed_store::Disk;
+use block_store::Store;
 use cdb::Command;
 use ring_core::Ticket;
 
@@ -22,14 +24,25 @@ pub(crate) struct Fence {
     pub(crate) ran: bool,
 }
 
-/// Returns true if a command ends only once the host's storage has what was written before it: SYNCHRONIZE CACHE, and a READ
-/// that asks for the medium.
-fn is_flush(asks_medium: bool, command: &Command) -> bool
-    ensures { result ≡ flushes asks_medium command.now }
+/// Returns true if a command is a READ of blocks below the capacity that asks for the medium, whose blocks the host's storage
+/// doesn't have as they are.
+fn is_read_unkept(disk: &Disk, asks_medium: bool, command: &Command) -> bool
+    ensures flush { IsTrue result → IsTrue (flushes asks_medium command.now) }
+    ensures no_flush { IsTrue result → is_flush command.now ≡ false }
+    ensures kept { IsFalse result → IsTrue asks_medium → IsReadKept disk.now command.now }
+    ensures changed { IsTrue result → (b : ℕ) × IsTrue (is_changed disk.now (b / 8)) }
+    ensures whole { is_backed disk.now ≡ false → IsFalse result }
 {
     match *command {
-        Command::SynchronizeCache { .. } => true,
-        Command::Read { .. } => asks_medium,
+        Command::Read { lba, blocks } => {
+            if !asks_medium {
+                return false;
+            }
+            if !is_inside(disk.capacity(), lba, u64::from(blocks)) {
+                return false;
+            }
+            !disk.are_kept(lba, u32::from(blocks))
+        }
         _ => false,
     }
 }
@@ -84,8 +97,9 @@ fn is_behind(fence: &mut Option<Fence>, disk: &mut Disk, own: Fence) -> bool
     true
 }
 
-/// Returns true if a command of a ticket, whose task entered at a place, waits for the host's storage: it is a flush that
-/// waits. Nothing waits on a disk that isn't backed.
+/// Returns true if a command of a ticket, whose task entered at a place, waits for the host's storage: it is a SYNCHRONIZE CACHE,
+/// as long as that flush waits, or a READ that asks for the medium, as long as the storage doesn't have its blocks as they are.
+/// Nothing waits on a disk that isn't backed.
 #[inline(always)]
 pub(crate) fn has_to_wait(
     fence: &mut Option<Fence>,
@@ -102,10 +116,13 @@ pub(crate) fn has_to_wait(
         AreFenced o steps fence.new (hosted_of disk.new) }
     ensures since { (o : Opening) (steps : List Step) → MayBegin steps (fence_of ticket place false) →
         ((b : ℕ) → blocks_of disk.old b ≡ unit_blocks o steps b) → AreFenced o steps fence.old (hosted_of disk.old) →
-        IsFalse result → IsTrue (flushes asks_medium command.now) → HasBegun o steps (fence_of ticket place false) (hosted_of disk.new) }
-    ensures over { IsFalse result → IsTrue (flushes asks_medium command.now) → IsOver disk.new }
-    ensures owed { IsTrue result → IfSome fence.new (λ f. f ≡ fence_of ticket place false → (p : ℕ) × IsTrue (owes disk.new p)) }
-    ensures kept { IsTrue result → IsTrue (is_some fence.new) }
+        IsFalse result → IsTrue (is_flush command.now) → HasBegun o steps (fence_of ticket place false) (hosted_of disk.new) }
+    ensures over { IsFalse result → IsTrue (is_flush command.now) → IsOver disk.new }
+    ensures read { IsFalse result → IsTrue asks_medium → IsReadKept disk.new command.now }
+    ensures owed { IsTrue result → IsTrue (is_flush command.now) →
+        IfSome fence.new (λ f. f ≡ fence_of ticket place false → (p : ℕ) × IsTrue (owes disk.new p)) }
+    ensures changed { IsTrue result → is_flush command.now ≡ false → (b : ℕ) × IsTrue (is_changed disk.new (b / 8)) }
+    ensures kept { IsTrue result → IsTrue (is_flush command.now) → IsTrue (is_some fence.new) }
     ensures waits { IsTrue result → IsTrue (is_some fence.old) → (fence.new ≡ fence.old) × (disk.new ≡ disk.old) }
     ensures blocks { blocks_of disk.new ≡ blocks_of disk.old }
     ensures size { size_of disk.new ≡ size_of disk.old }
@@ -114,18 +131,18 @@ pub(crate) fn has_to_wait(
     if disk.is_resident() {
         return false;
     }
-    if !is_flush(asks_medium, command) {
-        return false;
+    match *command {
+        Command::SynchronizeCache { .. } => is_behind(
+            fence,
+            disk,
+            Fence {
+                ticket,
+                place,
+                ran: false,
+            },
+        ),
+        _ => is_read_unkept(disk, asks_medium, command),
     }
-    is_behind(
-        fence,
-        disk,
-        Fence {
-            ticket,
-            place,
-            ran: false,
-        },
-    )
 }
 
 /// Returns true if the host's storage has what the command of a ticket changed, which ran, and whose task entered at a place: so
@@ -161,10 +178,14 @@ pub(crate) fn is_through(
 
 /// Returns true if a command would wait that comes now, while no other flush waits.
 pub(crate) fn would_wait(disk: &Disk, asks_medium: bool, command: &Command) -> bool
-    ensures over { IsFalse result → IsTrue (flushes asks_medium command.now) → IsKeptWhole disk.now }
+    ensures over { IsFalse result → IsTrue (is_flush command.now) → IsKeptWhole disk.now }
+    ensures read { IsFalse result → IsTrue asks_medium → IsReadKept disk.now command.now }
     ensures whole { is_backed disk.now ≡ false → IsFalse result }
 {
-    is_flush(asks_medium, command) && !disk.is_kept()
+    match *command {
+        Command::SynchronizeCache { .. } => !disk.is_kept(),
+        _ => is_read_unkept(disk, asks_medium, command),
+    }
 }
 
 /// Forgets that the flush of a ticket waits, whose task leaves.

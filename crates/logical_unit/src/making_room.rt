@@ -79,7 +79,7 @@ fn pages_of(command: &Command, bytes: &[u8]) -> PageRange {
 }
 
 /// Returns true if a range of blocks lies below a capacity.
-fn is_inside(capacity: u64, lba: u64, blocks: u64) -> bool
+pub(crate) fn is_inside(capacity: u64, lba: u64, blocks: u64) -> bool
     ensures { result ≡ is_in_range capacity lba blocks }
 {
     lba <= capacity && blocks <= capacity - lba

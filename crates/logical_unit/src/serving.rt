@@ -6,11 +6,12 @@ ghost use Rattle.backed_store.specs.Disks.{is_backed, IsKeptWhole};
 ghost use Rattle.block_commands.specs.Inner.Ready.{IsReady};
 ghost use Rattle.block_commands.specs.Inner.Told.{facts_of, protects};
 ghost use Rattle.command_model.specs.Attention.{met};
-ghost use Rattle.command_model.specs.Waiting.{flushes};
+ghost use Rattle.command_model.specs.Waiting.{is_flush};
 ghost use Rattle.logical_unit.specs.Endings.{ending_of_run, plain_run};
 ghost use Rattle.logical_unit.specs.Inner.Performing.{Performs, step_for, told, unkept};
 ghost use Rattle.unit_log.specs.Recorded.{step_recorded};
 ghost use Rattle.logical_unit.specs.Serving.{ServesAlone};
+ghost use Rattle.logical_unit.specs.Inner.Flushes.{IsReadKept};
 
 use crate::answering::Answering;
 use crate::execution::keep_larger;
@@ -100,7 +101,8 @@ fn step_of_run(ticket: Ticket, ran: Result<RecordedReply, NoMemory>) -> Recorded
 }
 
 /// Returns true if the command of a request may run on its disk as it stands, or as [`is_ready`] left it: at once where
-/// the disk isn't backed. A flush may where the host's storage lacks no change.
+/// the disk isn't backed. A flush may where the host's storage lacks no change, a READ that asks for the medium where it lacks none
+/// of its blocks.
 #[inline(always)]
 fn may_run(
     facts: &mut UnitFacts,
@@ -114,7 +116,8 @@ fn may_run(
         IsReady (⟦<Disk as Store>⟧.is_held store.new) (⟦<Disk as Store>⟧.has_room store.new) (⟦<Disk as Store>⟧.size store.new)
         arrival.now.entry.command arrival.now.entry.data_out }
     ensures whole { is_backed store.old ≡ false → IsTrue result }
-    ensures flushed { IsTrue result → IsTrue (flushes arrival.now.entry.asks_medium arrival.now.entry.command) → IsKeptWhole store.new }
+    ensures flushed { IsTrue result → IsTrue (is_flush arrival.now.entry.command) → IsKeptWhole store.new }
+    ensures read { IsTrue result → IsTrue arrival.now.entry.asks_medium → IsReadKept store.new arrival.now.entry.command }
     ensures storage { ⟦<Disk as Store>⟧.storage store.new ≡ ⟦<Disk as Store>⟧.storage store.old }
     ensures blocks { ⟦<Disk as Store>⟧.block_at store.new ≡ ⟦<Disk as Store>⟧.block_at store.old }
     ensures size { ⟦<Disk as Store>⟧.size store.new ≡ ⟦<Disk as Store>⟧.size store.old }
@@ -140,7 +143,8 @@ fn is_arrival_ready(
         IsReady (⟦<Disk as Store>⟧.is_held store.new) (⟦<Disk as Store>⟧.has_room store.new) (⟦<Disk as Store>⟧.size store.new)
         arrival.now.entry.command arrival.now.entry.data_out }
     ensures whole { is_backed store.old ≡ false → IsTrue result }
-    ensures flushed { IsTrue result → IsTrue (flushes arrival.now.entry.asks_medium arrival.now.entry.command) → IsKeptWhole store.new }
+    ensures flushed { IsTrue result → IsTrue (is_flush arrival.now.entry.command) → IsKeptWhole store.new }
+    ensures read { IsTrue result → IsTrue arrival.now.entry.asks_medium → IsReadKept store.new arrival.now.entry.command }
     ensures storage { ⟦<Disk as Store>⟧.storage store.new ≡ ⟦<Disk as Store>⟧.storage store.old }
     ensures blocks { ⟦<Disk as Store>⟧.block_at store.new ≡ ⟦<Disk as Store>⟧.block_at store.old }
     ensures size { ⟦<Disk as Store>⟧.size store.new ≡ ⟦<Disk as Store>⟧.size store.old }

@@ -1,5 +1,6 @@
 -- What a flush promises of a unit's blocks.
 use Rattle.std.specs.Prelude.{ℕ, ◌≡◌, ◌≤◌, ◌==◌, Bool, true, false, nat_le, List, length, if◌then◌else◌}
+use Rattle.command_model.specs.Waiting.{is_read}
 use Rattle.block_store.specs.Blocks.{Blocks, is_within}
 use Rattle.block_store.specs.Storage.{Ledger, IsLeft}
 use Rattle.cdb.specs.declared.commands.Command.{Command}
@@ -29,6 +30,15 @@ pub record HasBeen (o : Opening) (steps : List Step) (e : Entry) (b : ℕ) (byte
 abbrev pub IsDurable : Opening → List Step → Ledger → Entry → Type 0
 IsDurable o steps l e =
     (left : Blocks) → IsLeft l left → (b : ℕ) → is_in_flush e.command b ≡ true → HasBeen o steps e b (left b)
+
+-- whatever a crash leaves, it leaves each block that a command names as the unit has it
+abbrev pub IsAsLeft : Opening → List Step → Ledger → Command → Type 0
+IsAsLeft o steps l command = (left : Blocks) → IsLeft l left → (b : ℕ) → is_in_flush command b ≡ true → left b ≡ blocks_of o steps b
+
+-- what a flush promises as it ends: that, and, of a READ, which reads the medium itself (FUA), that what it reads is on the medium
+-- (SBC-3 §5.11)
+abbrev pub IsFlushed : Opening → List Step → Ledger → Entry → Type 0
+IsFlushed o steps l e = IsDurable o steps l e × (is_read e.command ≡ true → IsAsLeft o steps l e.command)
 
 -- own: block b of a unit had these bytes at a moment by which the command of a ticket's task had run
 pub record HasBeenBehind (o : Opening) (steps : List Step) (t : Ticket) (b : ℕ) (bytes : List ℕ) : Type 0 where

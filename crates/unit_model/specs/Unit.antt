@@ -13,7 +13,7 @@ use Rattle.unit_model.specs.Steps.{Step, alive}
 use Rattle.unit_model.specs.Enabling.{is_parked}
 use Rattle.unit_model.specs.Released.{released}
 use Rattle.unit_model.specs.Contents.{Opening, blocks_of, capacity_of, facts_after, reply_after, IsUnreadAfter}
-use Rattle.unit_model.specs.Flushing.{IsDurable, IsThrough}
+use Rattle.unit_model.specs.Flushing.{IsFlushed, IsThrough}
 use Rattle.unit_model.specs.Lawful.{May, IsLawful, IsReady}
 use Rattle.unit_model.specs.Jobs.{PlainJob, Jobs, of_tasks, but_tasks}
 
@@ -56,9 +56,10 @@ waits_behind u e status = is_backed u && (needs_medium u e && (changes_medium e.
 abbrev pub HasLost : PlainUnit → ℕ → Type 0
 HasLost u p = IsLostIn u.storage p
 
--- a flush ends with GOOD only where a crash at that moment leaves what the unit had once the flush might run, or later
+-- a flush ends with GOOD only where a crash at that moment leaves what the unit had once the flush might run, or later; a READ of
+-- the medium itself where it leaves what the READ reads
 abbrev pub Flushes : PlainUnit → Entry → PlainReply → Type 0
-Flushes u e r = r.status ≡ good → flushes e.asks_medium e.command ≡ true → IfSome u.storage (λ l. IsDurable u.opening u.steps l e)
+Flushes u e r = r.status ≡ good → flushes e.asks_medium e.command ≡ true → IfSome u.storage (λ l. IsFlushed u.opening u.steps l e)
 
 -- own: the command of a task, which runs next at the unit, may be replied to so: as the history says, or since it needs a
 -- page that the host can't read

@@ -579,8 +579,8 @@ enum vscsi_answer vscsi_live_destroy(struct vscsi_live *device);
  * A unit of the wide profile tells its guest of a volatile write cache: WCE is 1 (docs/COMMANDS.md). A WRITE is answered as it stands
  * in memory. One of the narrow profile, or of which `write_through` is true, tells of none: a command that may change blocks is
  * answered GOOD only once the host said that it kept each page that was changed by then. With a write cache so is WRITE AND VERIFY, and
- * such a command with FUA. So wait SYNCHRONIZE CACHE, and a READ with FUA, for what was changed before they might run, one command of a
- * disk at a time. A command that needs a page which isn't in memory waits, alone.
+ * such a command with FUA. So waits SYNCHRONIZE CACHE for what was changed before it might run, one command of a disk at a time; a READ
+ * with FUA waits until the host kept its pages as they are. A command that needs a page which isn't in memory waits, alone.
  *
  * What the host owes, and nothing checks:
  * - What it hands in by vscsi_live_load is what its storage had of the page when the disk was made, or what it last said by

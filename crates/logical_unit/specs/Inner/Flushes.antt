@@ -2,6 +2,11 @@
 use Rattle.std.specs.Prelude.{ℕ, ◌≡◌, ◌≤◌, ◌<◌, ◌+◌, ◌/◌, Bool, true, false, List, ◌∷◌, All, length, Option, Some, None, IfSome, if◌then◌else◌, ⊤}
 use Rattle.block_store.specs.Storage.{Storage, storage_by}
 use Rattle.block_store.specs.Inner.Hosted.{Hosted}
+use Rattle.backed_store.specs.Disks.{size_of, AreKept}
+use Rattle.backed_store.specs.declared.disk.Disk.{Disk}
+use Rattle.cdb.specs.declared.commands.Command.{Command}
+use Rattle.cdb.specs.declared.commands.Command.TheVariants.{Read}
+use Rattle.command_model.specs.Capacity.{is_in_range}
 use Rattle.ring_core.specs.declared.log.Ticket.{Ticket}
 use Rattle.unit_model.specs.Tasks.{Entry, same_ticket}
 use Rattle.unit_model.specs.Steps.{Step, as_of, done}
@@ -65,3 +70,8 @@ AreFenced o steps (Some f) hosted = HasBegun o steps f hosted
 abbrev pub without : Option Fence → Ticket → Option Fence
 without None t = None
 without (Some f) t = if same_ticket f.ticket t then None else Some f
+
+-- the storage has each block below the capacity that a READ reads as it is
+abbrev pub IsReadKept : Disk → Command → Type 0
+IsReadKept d (Read lba count) = is_in_range (size_of d) lba count ≡ true → AreKept d lba count
+IsReadKept d command = ⊤

@@ -8,7 +8,7 @@ ghost use Rattle.cdb.specs.declared.commands.Command.TheVariants.{Read, Write, S
 ghost use Rattle.command_model.specs.Effects.{changes_medium};
 ghost use Rattle.command_model.specs.PlainReply.{PlainReply};
 ghost use Rattle.command_model.specs.Statuses.{good};
-ghost use Rattle.command_model.specs.Waiting.{flushes};
+ghost use Rattle.command_model.specs.Waiting.{flushes, is_read};
 ghost use Rattle.unit_model.specs.Tasks.{Entry, task_of};
 ghost use Rattle.unit_model.specs.Steps.{Step, alive, as_of};
 ghost use Rattle.unit_model.specs.Enabling.{enabled};
@@ -20,6 +20,7 @@ ghost use Rattle.unit_model.specs.Unit.{PlainUnit, MayCommit, tells_no_cache, wa
 /// each block that it names as the block was once the command might run (SAM-5 §8.5), or later.
 ///
 /// - `durable`: so whatever is left of writes that are under way.
+/// - `read`: of a READ, it leaves what the READ reads.
 /// - `written`: a block that had the same bytes all that time is left with these. So each WRITE is left that ran before the
 ///   command came, or that it waited for, and that none has written over since.
 pub fn a_flush_leaves_what_was_written()
@@ -27,6 +28,10 @@ pub fn a_flush_leaves_what_was_written()
         MayCommit u t r → r.status ≡ good → task_of t (alive u.steps) ≡ Some e → flushes e.asks_medium e.command ≡ true →
         u.storage ≡ Some l → IsLeft l left → is_in_flush e.command b ≡ true →
         HasBeen u.opening u.steps e b (left b) }
+    ensures read { (u : PlainUnit) (t : Ticket) (e : Entry) (r : PlainReply) (l : Ledger) (left : Blocks) (b : ℕ) →
+        MayCommit u t r → r.status ≡ good → task_of t (alive u.steps) ≡ Some e → flushes e.asks_medium e.command ≡ true →
+        is_read e.command ≡ true → u.storage ≡ Some l → IsLeft l left → is_in_flush e.command b ≡ true →
+        left b ≡ blocks_of u.opening u.steps b }
     ensures written { (o : Opening) (steps : List Step) (e : Entry) (b : ℕ) (left bytes : List ℕ) → HasBeen o steps e b left →
         ((p : ℕ) → p ≤ length steps → enabled e (as_of p steps) ≡ true → blocks_of o (as_of p steps) b ≡ bytes) → left ≡ bytes }
 {}

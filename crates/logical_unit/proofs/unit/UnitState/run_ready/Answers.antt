@@ -14,7 +14,8 @@ use Rattle.task_set.specs.Inner.Tasks.{task_at, seen_of}
 use Rattle.logical_unit.proofs.Keeping.{has_room, is_ready, told_is, task_at_alive}
 use Rattle.logical_unit.proofs.Committing.{cannot_none, cannot_turn, is_of, is_aborted, keep_run, commits_run, waits_for, or-left, or-right}
 use Rattle.logical_unit.proofs.Noting.{recorded_run}
-use Rattle.unit_model.specs.Flushing.{IsDurable}
+use Rattle.unit_model.specs.Flushing.{IsFlushed}
+use Rattle.logical_unit.proofs.Flushed.{flushed}
 use Rattle.logical_unit.proofs.Durable.{fenced_more, fenced_same, hosted_ledger, over_durable, stands_at, may_begin, kept_on, came_on, backed_on}
 use Rattle.logical_unit.proofs.unit.UnitState.run_ready.Goals as goal
 
@@ -153,12 +154,18 @@ returns-in-Ok-clause-step c =
     (is_ready kept c.args.job.now.entry.ticket c.in-Some.task.now at turns.1 turns.2 turns.3)
     (told_is kept c.self.inside.facts (disks.size_of store) refl refl refl refl refl refl (c.has_to_wait.ensures.size ∙ c.self.invariant.sized))
     (came_on _ _ _ _ _ _ _ _ _ _ _ c.has_to_wait.ensures.storage (rw keeps (rw (c.command-command.ensures, c.data-bytes.ensures.data) at c.in-Ok.ensures.performed)))
-    (λ r ends flush.
-    let is = rw (← c.command-command.ensures, ← c.asks_medium.ensures) at flush in
-    subst (λ x. IfSome x (λ l. IsDurable (opening_of u) u.log.steps l e)) c.has_to_wait.ensures.storage
-    (over_durable (opening_of u) u.log.steps (fence_of c.ticket-ticket.result _ false) e store refl stands.entered
+    (λ r replied ends flush.
+    subst (λ x. IfSome x (λ l. IsFlushed (opening_of u) u.log.steps l e)) c.has_to_wait.ensures.storage
+    (flushed (opening_of u) u.log.steps e r
+    (is_ready c.self.invariant.kept c.ticket-ticket.result c.in-Some.task.now there turns.1 turns.2 turns.3).is_enabled replied ends store kept.stored
+    (c.has_to_wait.ensures.size ∙ c.self.invariant.sized)
+    (λ syncs.
+    let is = rw (← c.command-command.ensures) at syncs in
+    over_durable (opening_of u) u.log.steps (fence_of c.ticket-ticket.result _ false) e store refl stands.entered
     (c.has_to_wait.ensures.since (opening_of u) u.log.steps begins c.self.invariant.kept.stored c.self.invariant.flushing c.if-has_to_wait.false is)
-    (c.has_to_wait.ensures.over c.if-has_to_wait.false is))))
+    (c.has_to_wait.ensures.over c.if-has_to_wait.false is))
+    (rw (c.command-command.ensures, c.asks_medium.ensures) at c.has_to_wait.ensures.read c.if-has_to_wait.false)
+    flush)))
 
 pub returns-in_default-perform_if_ready-clause-waits : goal.returns-in_default-perform_if_ready-clause-waits
 returns-in_default-perform_if_ready-clause-waits c =

@@ -10,7 +10,8 @@ use Rattle.unit_model.specs.Steps.{Step, next_number}
 use Rattle.logical_unit.specs.Fields.{opening_of}
 use Rattle.logical_unit.specs.Inner.Performing.{told, step_for, unkept}
 use Rattle.block_store.specs.Storage.{Ledger}
-use Rattle.unit_model.specs.Flushing.{IsDurable}
+use Rattle.unit_model.specs.Flushing.{IsFlushed}
+use Rattle.logical_unit.proofs.Flushed.{flushed}
 use Rattle.logical_unit.proofs.Durable.{fenced_more, fenced_same, hosted_ledger, kept_durable}
 use Rattle.logical_unit.proofs.Alone.{no_tasks, ends_as, all_steps, based_served, kept_served, recorded_served, serves_alone}
 use Rattle.logical_unit.proofs.Entering.{not_stale, came_then}
@@ -121,11 +122,15 @@ returns-clause-serves g c =
     (c.push_three.ensures.keeps ∙ c.in-Ok-make_way.ensures.keeps ∙ keeps)
     (subst answers (ends_as _ _ _ c.run_and_answer-ran.result) c.run_and_answer-ran.ensures.answered)
     (sym c.ticket-ticket.ensures.chain ∙ own)
-    (λ on r ends flush.
-    subst (λ (x : Option Ledger). IfSome x (λ l. IsDurable (opening_of u) (Step.Enter c.args.arrival.now.entry ∷ u.log.steps) l c.args.arrival.now.entry))
+    (λ on r replied ends flush.
+    subst (λ (x : Option Ledger). IfSome x (λ l. IsFlushed (opening_of u) (Step.Enter c.args.arrival.now.entry ∷ u.log.steps) l c.args.arrival.now.entry))
     (hosted_ledger c.may_run.new.store u.store c.may_run.ensures.storage)
-    (kept_durable (opening_of u) (Step.Enter c.args.arrival.now.entry ∷ u.log.steps) c.args.arrival.now.entry c.may_run.new.store on
-    (λ b. ap (λ f. f b) blocks ∙ c.self.invariant.kept.stored b) (c.may_run.ensures.flushed (c.if-not-may_run.false) flush)))
+    (flushed (opening_of u) (Step.Enter c.args.arrival.now.entry ∷ u.log.steps) c.args.arrival.now.entry r on replied ends c.may_run.new.store
+    (λ b. ap (λ f. f b) blocks ∙ c.self.invariant.kept.stored b) (size ∙ c.self.invariant.sized)
+    (λ syncs.
+    kept_durable (opening_of u) (Step.Enter c.args.arrival.now.entry ∷ u.log.steps) c.args.arrival.now.entry c.may_run.new.store on
+    (λ b. ap (λ f. f b) blocks ∙ c.self.invariant.kept.stored b) (c.may_run.ensures.flushed (c.if-not-may_run.false) syncs))
+    (c.may_run.ensures.read (c.if-not-may_run.false)) flush))
     (subst (λ b. writes_through (plain_unit u) b c.args.arrival.now.entry.command ≡ false) c.asks_medium.ensures
     (subst (λ (k : Command). writes_through (plain_unit u) c.asks_medium.result k ≡ false) c.command.ensures (rw (← c.self.view_is) at (sym c.writes_through.ensures ∙ c.if-writes_through.false)))))
 
