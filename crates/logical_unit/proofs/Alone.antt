@@ -274,7 +274,7 @@ module _ (o : Opening) (past : List Step) (block_at : Blocks) (pending : List Co
       → answers (ending_of (outcome_for (unit_address o) (length (Step.Enter j.entry ∷ past)) j.entry.ticket p))
       → j.chain.ticket ≡ j.entry.ticket
       → (enabled j.entry (Step.Enter j.entry ∷ past) ≡ true → (r : PlainReply)
-        → r ≡ reply_after o j.entry (Step.Enter j.entry ∷ past) → r.status ≡ good → flushes j.entry.asks_medium j.entry.command ≡ true
+      → r ≡ reply_after o j.entry (Step.Enter j.entry ∷ past) → r.status ≡ good → flushes j.entry.asks_medium j.entry.command ≡ true
       → IfSome storage (λ l. IsFlushed o (Step.Enter j.entry ∷ past) l j.entry))
       → writes_through (unit_with o past [] false storage) j.entry.asks_medium j.entry.command ≡ false
       → ServesAlone answers (unit_with o past (parked_of tasks) keeps storage) j (unit_with o steps' (parked_of tasks) keeps' storage')

@@ -66,12 +66,12 @@ read_flushed : (o : Opening) (steps : List Step) (e : Entry) (l : Ledger) → en
     → IsFlushed o steps l e
 read_flushed o steps e l might exact = (
   λ left leaves b named.
-  record {
-    place = length steps;
-    past = omega arith;
-    might = ap (λ w. enabled e w) (as_of-now (length steps) steps (omega arith)) ∙ might;
-    is = exact left leaves b named ∙ ap (λ w. blocks_of o w b) (sym (as_of-now (length steps) steps (omega arith)));
-  },
+      record {
+        place = length steps;
+        past = omega arith;
+        might = ap (λ w. enabled e w) (as_of-now (length steps) steps (omega arith)) ∙ might;
+        is = exact left leaves b named ∙ ap (λ w. blocks_of o w b) (sym (as_of-now (length steps) steps (omega arith)));
+      },
   λ reads. exact,
 )
 
