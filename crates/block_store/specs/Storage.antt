@@ -11,11 +11,13 @@ pub record Storage : Type 0 where
   pub unkept : ℕ → List (List ℕ)
 
 -- own: the host takes the bytes of a page to write them; it says that it wrote the page as it was last given it, so that a
--- crash leaves it; it says that it can't read the page; it hands in the bytes of the page; it cuts its storage off at a block
+-- crash leaves it; it says that it can't read the page; that it can't write it; it hands in the bytes of the page; it cuts its
+-- storage off at a block
 pub data Dealing : Type 0 where
   Give : ℕ → List ℕ → Dealing
   Keep : ℕ → Dealing
   Lose : ℕ → Dealing
+  Deny : ℕ → Dealing
   Load : ℕ → Dealing
   Cut : ℕ → Dealing
 
@@ -36,6 +38,7 @@ dealt (Dealing.Give p bytes) s =
 dealt (Dealing.Keep p) s =
     record s { kept = with_page p s.given s.kept; unkept = λ b. if b / 8 == p then [] else s.unkept b }
 dealt (Dealing.Lose p) s = s
+dealt (Dealing.Deny p) s = s
 dealt (Dealing.Load p) s = s
 dealt (Dealing.Cut n) s =
     record { given = cut n s.given; kept = cut n s.kept; unkept = λ b. if nat_lt b n then s.unkept b else [] }
@@ -85,6 +88,26 @@ is_lost p l = lost_by p false l.dealings
 -- own: there is a storage, and the host said so of it
 abbrev pub IsLostIn : Option Ledger → ℕ → Type 0
 IsLostIn storage p = (l : Ledger) × (storage ≡ Some l) × (is_lost p l ≡ true)
+
+-- own: whether page p is denied once this was done: the host can write a page that it wrote, and has none behind the end
+abbrev pub denied_after : ℕ → Bool → Dealing → Bool
+denied_after p was (Dealing.Deny q) = was || p == q
+denied_after p was (Dealing.Keep q) = was && not (p == q)
+denied_after p was (Dealing.Cut n) = was && nat_lt (8 * p) n
+denied_after p was d = was
+
+-- own: once all of this was done, the first of it first
+abbrev pub denied_by : ℕ → Bool → List Dealing → Bool
+denied_by p was [] = was
+denied_by p was (d ∷ more) = denied_by p (denied_after p was d) more
+
+-- own: the host's last word of writing page p is that it can't
+abbrev pub is_denied : ℕ → Ledger → Bool
+is_denied p l = denied_by p false l.dealings
+
+-- own: there is a storage, and the host said so of it
+abbrev pub IsDeniedIn : Option Ledger → ℕ → Type 0
+IsDeniedIn storage p = (l : Ledger) × (storage ≡ Some l) × (is_denied p l ≡ true)
 
 -- the bytes are the 8 blocks of page p
 abbrev pub IsPageOf : Blocks → ℕ → List ℕ → Type 0

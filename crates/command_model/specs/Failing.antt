@@ -1,9 +1,9 @@
--- How a command ends that needs what its unit's host can't read.
+-- How a command ends that needs what its unit's host can't read, or flushes what it can't write.
 use Rattle.std.specs.Prelude.{ℕ, ◌≡◌, ◌+◌, ◌-◌, ◌*◌, ◌/◌, ◌&&◌, not, Bool, true, false, nat_le, nat_lt, max, List, None, is_ok}
 use Rattle.std.specs.List.{list_any}
-use Rattle.sense.specs.Conditions.{unrecovered_read_error}
+use Rattle.sense.specs.Conditions.{unrecovered_read_error, write_error}
 use Rattle.cdb.specs.declared.commands.Command.{Command}
-use Rattle.cdb.specs.declared.commands.Command.TheVariants.{Read, Write, WriteSame, Unmap, CompareAndWrite, Wide}
+use Rattle.cdb.specs.declared.commands.Command.TheVariants.{Read, Write, WriteSame, Unmap, CompareAndWrite, SynchronizeCache, Wide}
 use Rattle.cdb.specs.declared.wide_commands.WideCommand.{WideCommand}
 use Rattle.cdb.specs.declared.wide_commands.WideCommand.TheVariants.{GetLbaStatus, Verify, WriteZeros, OrWrite}
 use Rattle.command_model.specs.Attention.{met}
@@ -74,3 +74,22 @@ pub record IsUnread (facts : Facts) (command : Command) (bytes : List ℕ) (p : 
   pub unprotected : is_protected facts command ≡ false
   pub needed : needs_page facts.capacity command bytes p ≡ true
   pub is : r ≡ unread facts command p
+
+-- own: a command that asks for the medium itself, or doesn't, flushes page p of a disk of so many blocks: SYNCHRONIZE CACHE of
+-- blocks below the capacity each page, since its device server may write more than it names (SBC-3 §5.26); a READ that asks for
+-- the medium (FUA, SBC-3 §5.11) those that it reads a block of
+abbrev pub flushes_page : Bool → ℕ → Command → ℕ → Bool
+flushes_page asks_medium blocks (SynchronizeCache lba count) p = is_in_range blocks lba count && nat_lt (8 * p) blocks
+flushes_page asks_medium blocks (Read lba count) p = asks_medium && reaches blocks lba count p
+flushes_page asks_medium blocks _ p = false
+
+-- MEDIUM ERROR, with the first block of page p
+abbrev pub unwritten : Facts → ℕ → PlainReply
+unwritten facts p = sent_in (format_told facts) (refusal (write_error (8 * p)))
+
+-- own: a command that meets no attention ends so where it flushes page p; only at a unit whose disk is one whose pages come and go
+pub record IsUnwritten (facts : Facts) (asks_medium : Bool) (command : Command) (p : ℕ) (r : PlainReply) : Type 0 where
+  pub backed : facts.backed ≡ true
+  pub unmet : met command facts.pending ≡ None
+  pub flushed : flushes_page asks_medium facts.capacity command p ≡ true
+  pub is : r ≡ unwritten facts p

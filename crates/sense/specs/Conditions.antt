@@ -21,6 +21,10 @@ abbrev pub unrecovered_read_error : ℕ → Sense
 unrecovered_read_error b =
     record { key = 0x3; asc = 0x11; ascq = 0x00; format = Fixed; information = block_information b }
 
+-- sense key 3h, MEDIUM ERROR: WRITE ERROR, with the first block of what can't be written as its information
+abbrev pub write_error : ℕ → Sense
+write_error b = record { key = 0x3; asc = 0x0c; ascq = 0x00; format = Fixed; information = block_information b }
+
 -- sense key 5h, ILLEGAL REQUEST
 abbrev pub parameter_list_length_error : Sense
 parameter_list_length_error = condition 0x5 0x1a 0x00
