@@ -3,7 +3,7 @@
 ghost use Rattle.std.specs.Prelude.{◌≡◌, ℕ, true, false, ◌+◌, ◌-◌, ◌*◌, ◌<◌, ◌≤◌, ◌++◌, List, [], IsTrue, length, replicate};
 ghost use Rattle.block_store.specs.Pages.{covered};
 ghost use Rattle.block_store.specs.Blocks.{Blocks, block_count, nth_block, is_within, overwritten, filled, zeroed, run};
-ghost use Rattle.block_store.specs.Storage.{Ledger, Dealing, and_then, is_lost};
+ghost use Rattle.block_store.specs.Storage.{Ledger, Dealing, and_then, is_lost, is_denied};
 
 /// A read gives back the bytes that were written.
 pub fn written_is_read_back()
@@ -74,4 +74,11 @@ pub fn the_latest_word_of_a_page_counts()
     ensures lost { (p : ℕ) (l : Ledger) → is_lost p (and_then (Dealing.Lose p) l) ≡ true }
     ensures loaded { (p : ℕ) (l : Ledger) → is_lost p (and_then (Dealing.Load p) l) ≡ false }
     ensures kept { (p : ℕ) (l : Ledger) → is_lost p (and_then (Dealing.Keep p) l) ≡ false }
+{}
+
+/// A page is denied once the host said that it can't write it, until the host says that it wrote it, or cuts it off.
+pub fn a_page_is_denied_until_it_is_written()
+    ensures denied { (p : ℕ) (l : Ledger) → is_denied p (and_then (Dealing.Deny p) l) ≡ true }
+    ensures kept { (p : ℕ) (l : Ledger) → is_denied p (and_then (Dealing.Keep p) l) ≡ false }
+    ensures cut { (p n : ℕ) (l : Ledger) → n ≤ 8 * p → is_denied p (and_then (Dealing.Cut n) l) ≡ false }
 {}

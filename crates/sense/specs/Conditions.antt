@@ -16,14 +16,18 @@ no_sense = condition 0x0 0x00 0x00
 abbrev pub block_information : ℕ → Option ℕ
 block_information b = if nat_lt b (2 ^ 32) then Some b else None
 
--- sense key 3h, MEDIUM ERROR: UNRECOVERED READ ERROR, with the block that can't be read as its information
-abbrev pub unrecovered_read_error : ℕ → Sense
-unrecovered_read_error b =
-    record { key = 0x3; asc = 0x11; ascq = 0x00; format = Fixed; information = block_information b }
+-- sense key 3h, MEDIUM ERROR, of this code, with a block as its information
+abbrev pub medium_error : ℕ → ℕ → Sense
+medium_error asc b =
+    record { key = 0x3; asc = asc; ascq = 0x00; format = Fixed; information = block_information b }
 
--- sense key 3h, MEDIUM ERROR: WRITE ERROR, with the first block of what can't be written as its information
+-- UNRECOVERED READ ERROR, with the block that can't be read
+abbrev pub unrecovered_read_error : ℕ → Sense
+unrecovered_read_error b = medium_error 0x11 b
+
+-- WRITE ERROR, with the first block of what can't be written
 abbrev pub write_error : ℕ → Sense
-write_error b = record { key = 0x3; asc = 0x0c; ascq = 0x00; format = Fixed; information = block_information b }
+write_error b = medium_error 0x0c b
 
 -- sense key 5h, ILLEGAL REQUEST
 abbrev pub parameter_list_length_error : Sense

@@ -8,7 +8,7 @@
 #![tactic(auto)]
 
 ghost use Rattle.std.specs.Prelude.{◌≡◌, ◌≤◌, length};
-ghost use Rattle.sense.specs.Conditions.{block_information, miscompare, unit_attention, unrecovered_read_error};
+ghost use Rattle.sense.specs.Conditions.{block_information, medium_error, miscompare, unit_attention, unrecovered_read_error, write_error};
 ghost use Rattle.sense.specs.Descriptor.{descriptor, descriptor_header, information_descriptor};
 ghost use Rattle.sense.specs.Fixed.{fixed};
 ghost use Rattle.sense.specs.Format.{bytes_in, in_format, sent};
@@ -181,13 +181,15 @@ impl Sense {
     pub fn unrecovered_read_error(block: u64) -> Sense
         ensures { result ≡ unrecovered_read_error block }
     {
-        Sense {
-            key: MEDIUM_ERROR,
-            asc: 0x11,
-            ascq: 0x00,
-            format: SenseFormat::Fixed,
-            information: block_information(block),
-        }
+        medium_error(0x11, block)
+    }
+
+    /// Makes WRITE ERROR: what a command answers that needs a block to be written which can't be. The block's number is its
+    /// information, where that is below 2^32 (SBC-3 §4.18).
+    pub fn write_error(block: u64) -> Sense
+        ensures { result ≡ write_error block }
+    {
+        medium_error(0x0c, block)
     }
 
     /// Makes MISCOMPARE DURING VERIFY OPERATION: what a COMPARE AND WRITE answers where its data and the blocks differ.
@@ -277,6 +279,19 @@ impl Sense {
             SenseFormat::Fixed => in_place(&self.to_fixed()),
             SenseFormat::Descriptor => self.to_descriptor(),
         }
+    }
+}
+
+/// Makes a condition of the medium at this block.
+fn medium_error(asc: u8, block: u64) -> Sense
+    ensures { result ≡ medium_error asc block }
+{
+    Sense {
+        key: MEDIUM_ERROR,
+        asc,
+        ascq: 0x00,
+        format: SenseFormat::Fixed,
+        information: block_information(block),
     }
 }
 
