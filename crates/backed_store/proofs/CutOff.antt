@@ -1,5 +1,5 @@
 -- The blocks of a store that was cut off.
-use Rattle.std.proofs.Common.{◌≡◌, ◌≢◌, ℕ, ◌-◌, ◌*◌, ◌/◌, ◌%◌, ◌<◌, Bool, true, false, IsTrue, List, nat_lt, is_some, Option, Some, None, inl, inr, if◌then◌else◌, refl, sym, ◌∙◌, ap, subst, arith}
+use Rattle.std.proofs.Common.{◌≡◌, ◌≢◌, ℕ, ◌+◌, ◌-◌, ◌*◌, ◌/◌, ◌%◌, ◌<◌, ◌&&◌, Bool, true, false, IsTrue, List, nat_lt, is_some, Option, Some, None, inl, inr, if◌then◌else◌, refl, sym, ◌∙◌, ap, subst, arith}
 use Rattle.std.specs.Option.{option_map}
 use Rattle.std.proofs.lemmas.Bool.{cases_eq}
 use Rattle.std.proofs.lemmas.Bool.Decides.{nat_tests, leb_tells}
@@ -10,6 +10,7 @@ use Rattle.backed_store.specs.Slots.{slot_at, mark_at, bytes_at, bytes_of}
 use Rattle.backed_store.specs.declared.slot.Slot.{Slot}
 use Rattle.backed_store.specs.declared.slots.Slots.{Slots}
 use Rattle.backed_store.specs.declared.mark.Mark.{Mark}
+use Rattle.backed_store.proofs.Over.{and-left, and-right}
 use Rattle.backed_store.proofs.Parted.{stored}
 
 -- a page that is in memory has a slot
@@ -80,3 +81,17 @@ cut-stored states new_states bytes new_bytes kept left marked here b =
         let stays : nat_lt (8 * (b / 8)) left ≡ true = grind (arith, nat_tests, short) in
         let state : new_states (b / 8) ≡ states (b / 8) = marked (b / 8) ∙ rw stays refl in
         rw (state, there) refl
+
+-- Pages that are noted
+
+-- a page lies below the end where its first block does
+pub page-below : (p end left n : ℕ) → end ≡ (left + 7) / 8 → left ≡ n → nat_lt p end ≡ nat_lt (8 * p) n
+page-below p end left n pages is = grind (arith, nat_tests)
+
+-- one that is noted behind the cut was noted, and isn't cut off
+pub still-denied : (p end left : ℕ) (noted was : Bool) → end ≡ (left + 7) / 8 → (nat_lt p end && noted) ≡ true → (noted ≡ true → was ≡ true) →
+    (was && nat_lt (8 * p) left) ≡ true
+still-denied p end left noted was pages here before =
+    let below : nat_lt (8 * p) left ≡ true = sym (page-below p end left left pages refl) ∙ and-left (nat_lt p end) noted here in
+    let there : was ≡ true = before (and-right (nat_lt p end) noted here) in
+    rw (there, below) refl

@@ -10,13 +10,17 @@ use Rattle.backed_store.specs.Marks.{State, state_of, is_clean, is_steady, given
 use Rattle.block_store.specs.Storage.{with_page}
 use Rattle.backed_store.specs.Slots.{bytes_of}
 use Rattle.backed_store.specs.declared.dealing.Dealing.{Dealing}
-use Rattle.backed_store.specs.declared.dealing.Dealing.TheVariants.{Given, Kept, Lost, Loaded, Cut}
+use Rattle.backed_store.specs.declared.dealing.Dealing.TheVariants.{Given, Kept, Lost, Denied, Loaded, Cut}
 use Rattle.backed_store.specs.declared.slot.Slot.{Slot}
 use Rattle.backed_store.proofs.Parted.{stored}
 
 pub and-left : (a b : Bool) → IsTrue (a && b) → IsTrue a
 and-left true b is = refl
 and-left false b never = never
+
+pub and-right : (a b : Bool) → IsTrue (a && b) → IsTrue b
+and-right true b is = is
+and-right false b never = let no : false ≡ true = never in cc
 
 module _ (states new_states : ℕ → State) (bytes new_bytes : ℕ → List ℕ) (page : ℕ)
     (marked : (p : ℕ) → new_states p ≡ (if p == page then given (states p) else states p))
@@ -61,6 +65,7 @@ abbrev pub given-page : Dealing → ℕ
 given-page (Given g) = g.page
 given-page (Kept p) = 0
 given-page (Lost p) = 0
+given-page (Denied p) = 0
 given-page (Loaded p) = 0
 given-page (Cut n) = 0
 
@@ -68,6 +73,7 @@ abbrev pub given-bytes : Dealing → List ℕ
 given-bytes (Given g) = g.bytes.items
 given-bytes (Kept p) = []
 given-bytes (Lost p) = []
+given-bytes (Denied p) = []
 given-bytes (Loaded p) = []
 given-bytes (Cut n) = []
 

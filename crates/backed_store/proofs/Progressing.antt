@@ -110,6 +110,9 @@ stays n began old new behind kept given storage owed writing was =
           (ap (λ (s : Storage). s.kept b) storage);
     }
 
+same-storage : (old new : BackedStore) → ledger_of new ≡ ledger_of old → storage_of new ≡ storage_of old
+same-storage old new same = by-ledger new ∙ ap storage_by same ∙ sym (by-ledger old)
+
 pub same-ledger : (n : ℕ) (began : List BackedStore) (old new : BackedStore) → ledger_of new ≡ ledger_of old →
     storage_of new ≡ storage_of old → ((p : ℕ) → IsOwed old new p) → ((p : ℕ) → is_writing new p ≡ is_writing old p) →
     IsFenced n began old → IsFenced n began new
@@ -121,18 +124,27 @@ same-ledger n began old new ledger storage owed writing was =
 pub as-host : (n : ℕ) (began : List BackedStore) (old new : BackedStore) → IsHost old new → IsFenced n began old → IsFenced n began new
 as-host n began old new host was = same-ledger n began old new host.ledger host.storage host.owed host.writing was
 
--- the host said something that wasnt about what it was given
+-- the host said something that makes no difference to how far the flush is
+said-more : (n : ℕ) (began : List BackedStore) (old new : BackedStore) (d : Dealing) → ledger_of new ≡ and_then d (ledger_of old) →
+    done_by began ≤ length (ledger_of old).dealings → done_by began ≤ length (ledger_of new).dealings
+said-more n began old new d ledger behind =
+    subst (λ (l : Ledger). done_by began ≤ length l.dealings) (sym ledger) (length-more _ (ledger_of old) d behind)
+
+said-progress : (n : ℕ) (began : List BackedStore) (old new : BackedStore) (d : Dealing) → ledger_of new ≡ and_then d (ledger_of old) →
+    ((x : Progress) → progress_after d x ≡ x) → done_by began ≤ length (ledger_of old).dealings →
+    progress_by n began (ledger_of new) ≡ progress_by n began (ledger_of old)
+said-progress n began old new d ledger nothing behind =
+    ap (λ (l : Ledger). progress_by n began l) ledger ∙ progress-more n began (ledger_of old) d behind
+    ∙ nothing (progress_by n began (ledger_of old))
+
+-- and isn't about what it was given
 pub said : (n : ℕ) (began : List BackedStore) (old new : BackedStore) (d : Dealing) → ledger_of new ≡ and_then d (ledger_of old) →
     ((x : Progress) → progress_after d x ≡ x) → storage_of new ≡ storage_of old → ((p : ℕ) → IsOwed old new p) →
     ((p : ℕ) → is_writing new p ≡ is_writing old p) → IsFenced n began old → IsFenced n began new
 said n began old new d ledger nothing storage owed writing was =
-    stays n began old new (subst (λ (l : Ledger). done_by began ≤ length l.dealings) (sym ledger) (length-more _ (ledger_of old) d was.behind))
-    (λ p. ap (λ (x : Progress). x.kept p) as_before) (λ p. ap (λ (x : Progress). x.given p) as_before) storage owed writing was
-  where
-    as_before : progress_by n began (ledger_of new) ≡ progress_by n began (ledger_of old)
-    as_before =
-        ap (λ (l : Ledger). progress_by n began l) ledger ∙ progress-more n began (ledger_of old) d was.behind
-        ∙ nothing (progress_by n began (ledger_of old))
+    let same = said-progress n began old new d ledger nothing was.behind in
+    stays n began old new (said-more n began old new d ledger was.behind)
+    (λ p. ap (λ (x : Progress). x.kept p) same) (λ p. ap (λ (x : Progress). x.given p) same) storage owed writing was
 
 -- The host was given a page
 
@@ -280,8 +292,9 @@ module _ (n : ℕ) (began : List BackedStore) (old new : BackedStore) (page : �
 number-again : (s : BackedStore) (p : ℕ) → IsTrue (is_rewritten s p) → number_of s p ≤ again_of s p
 number-again s p is = s.cache.indexed.later p is
 
-module _ (n : ℕ) (began : List BackedStore) (old new : BackedStore) (page : ℕ) (ledger : ledger_of new ≡ ledger_of old)
-    (storage : (b : ℕ) → (storage_of new).given b ≡ (storage_of old).given b) (kept : (b : ℕ) → backing_of new b ≡ backing_of old b)
+module _ (n : ℕ) (began : List BackedStore) (old new : BackedStore) (page : ℕ)
+    (behind : done_by began ≤ length (ledger_of new).dealings) (same : progress_by n began (ledger_of new) ≡ progress_by n began (ledger_of old))
+    (storage : storage_of new ≡ storage_of old)
     (over : is_writing new page ≡ false) (others : (p : ℕ) → p ≢ page → IsOwed old new p)
     (still : (p : ℕ) → p ≢ page → is_writing new p ≡ is_writing old p)
     (dirty : IsTrue (is_dirty old page) → IsTrue (is_dirty new page))
@@ -352,14 +365,25 @@ module _ (n : ℕ) (began : List BackedStore) (old new : BackedStore) (page : �
   pub unkept-page : IsFenced n began new
   unkept-page =
       record {
-        behind = subst (λ (l : Ledger). done_by began ≤ length l.dealings) (sym ledger) was.behind;
-        kept = λ p due. ap (λ (l : Ledger). (progress_by n began l).kept p) ledger ∙ was.kept p (kept_by_fail p due (p == page) refl);
-        given = λ p due. ap (λ (l : Ledger). (progress_by n began l).given p) ledger ∙ was.given p (given_by_fail p due (p == page) refl);
-        idle = λ b clean idle. storage b ∙ idle_by_fail b clean idle (b / 8 == page) refl ∙ sym (kept b);
+        behind = behind;
+        kept = λ p due. ap (λ (x : Progress). x.kept p) same ∙ was.kept p (kept_by_fail p due (p == page) refl);
+        given = λ p due. ap (λ (x : Progress). x.given p) same ∙ was.given p (given_by_fail p due (p == page) refl);
+        idle = λ b clean idle.
+            ap (λ (s : Storage). s.given b) storage ∙ idle_by_fail b clean idle (b / 8 == page) refl ∙ sym (ap (λ (s : Storage). s.kept b) storage);
         unkept = λ b clean.
-            unkept-as (unkept_by_fail b clean (b / 8 == page) refl)
-            (ap (λ (s : Storage). s.unkept b) (by-ledger new ∙ ap storage_by ledger ∙ sym (by-ledger old))) (kept b);
+            unkept-as (unkept_by_fail b clean (b / 8 == page) refl) (ap (λ (s : Storage). s.unkept b) storage)
+            (ap (λ (s : Storage). s.kept b) storage);
       }
+
+-- the same where nothing was recorded
+unkept-unsaid : (n : ℕ) (began : List BackedStore) (old new : BackedStore) (page : ℕ) → ledger_of new ≡ ledger_of old →
+    is_writing new page ≡ false → ((p : ℕ) → p ≢ page → IsOwed old new p) →
+    ((p : ℕ) → p ≢ page → is_writing new p ≡ is_writing old p) → (IsTrue (is_dirty old page) → IsTrue (is_dirty new page)) →
+    number_of new page ≡ number_of old page → (IsTrue (is_writing old page) → IsTrue (is_dirty new page)) → IsFenced n began old →
+    IsFenced n began new
+unkept-unsaid n began old new page ledger over others still dirty number unkept was =
+    unkept-page n began old new page (subst (λ (l : Ledger). done_by began ≤ length l.dealings) (sym ledger) was.behind)
+    (ap (λ (l : Ledger). progress_by n began l) ledger) (same-storage old new ledger) over others still dirty number unkept was
 
 -- The storage was cut off
 
@@ -545,9 +569,6 @@ both-true true true is = (refl, refl)
 both-true true false is = never-both false is refl
 both-true false y is = never-both false is refl
 
-same-storage : (old new : BackedStore) → ledger_of new ≡ ledger_of old → storage_of new ≡ storage_of old
-same-storage old new same = by-ledger new ∙ ap storage_by same ∙ sym (by-ledger old)
-
 -- The ledger with one thing more, and how far the flush is by that
 
 pub hosted-more : (n : ℕ) (began : List BackedStore) (l m : Ledger) (d : Dealing) → done_by began ≤ length l.dealings →
@@ -609,16 +630,33 @@ wrote-fenced (Ok true) kept n began old new page was given keeps told storage er
     kept-page n began old new page storage both.1 over others still (again both.0) (later both.0) given
     (λ b. keeps b ∙ rw (both.0, both.1) refl) was
 wrote-fenced (Ok false) kept n began old new page was given keeps told storage err over still unchanged again later failed earlier unkept others owed =
-    unkept-page n began old new page storage given
-    (λ b. keeps b ∙ ap (λ (t : Bool). if t then with_page page (storage_of old).given (backing_of old) b else backing_of old b) (sym told))
-    over others still (failed refl) (earlier refl) (unkept refl) was
+    unkept-unsaid n began old new page storage over others still (failed refl) (earlier refl) (unkept refl) was
 
-pub wrote-hosted : (r : Result Bool NoMemory) (n : ℕ) (began : List BackedStore) (old new : BackedStore) (page : ℕ) → IsFenced n began old →
-    IfOk r (λ done. ledger_of new ≡ (if done then and_then (Dealing.Keep page) (ledger_of old) else ledger_of old)) →
-    IfOk r (λ done. IsTrue done → hosted_by n began (ledger_of new) ≡ hosted_after (Dealing.Keep page) (hosted_by n began (ledger_of old)))
-wrote-hosted (Ok true) n began old new page was storage = λ _. hosted-more n began (ledger_of old) (ledger_of new) (Dealing.Keep page) was.behind storage
-wrote-hosted (Ok false) n began old new page was storage = λ never. never-both false never refl
-wrote-hosted (Err e) n began old new page was storage = storage
+pub denied-fenced : (r : Result Bool NoMemory) (n : ℕ) (began : List BackedStore) (old new : BackedStore) (page : ℕ) → IsFenced n began old →
+    IfOk r (λ done. ledger_of new ≡ (if done then and_then (Dealing.Deny page) (ledger_of old) else ledger_of old)) →
+    OnErr r (ledger_of new ≡ ledger_of old) → storage_of new ≡ storage_of old →
+    OnOk r (is_writing new page ≡ false) →
+    OnOk r ((p : ℕ) → p ≢ page → is_writing new p ≡ is_writing old p) →
+    OnErr r ((p : ℕ) → is_writing new p ≡ is_writing old p) →
+    OnOk r (IsTrue (is_dirty old page) → IsTrue (is_dirty new page)) →
+    OnOk r (number_of new page ≡ number_of old page) →
+    OnOk r (IsTrue (is_writing old page) → IsTrue (is_dirty new page)) →
+    OnOk r ((p : ℕ) → p ≢ page → IsOwed old new p) →
+    OnErr r ((p : ℕ) → IsOwed old new p) → IsFenced n began new
+denied-fenced (Err e) n began old new page was told err storage over still unchanged dirty earlier unkept others owed =
+    same-ledger n began old new err storage owed unchanged was
+denied-fenced (Ok true) n began old new page was told err storage over still unchanged dirty earlier unkept others owed =
+    unkept-page n began old new page (said-more n began old new (Dealing.Deny page) told was.behind)
+    (said-progress n began old new (Dealing.Deny page) told (λ x. refl) was.behind) storage over others still dirty earlier unkept was
+denied-fenced (Ok false) n began old new page was told err storage over still unchanged dirty earlier unkept others owed =
+    unkept-unsaid n began old new page told over others still dirty earlier unkept was
+
+pub told-hosted : (r : Result Bool NoMemory) (n : ℕ) (began : List BackedStore) (old new : BackedStore) (d : Dealing) → IsFenced n began old →
+    IfOk r (λ done. ledger_of new ≡ (if done then and_then d (ledger_of old) else ledger_of old)) →
+    IfOk r (λ done. IsTrue done → hosted_by n began (ledger_of new) ≡ hosted_after d (hosted_by n began (ledger_of old)))
+told-hosted (Ok true) n began old new d was told = λ _. hosted-more n began (ledger_of old) (ledger_of new) d was.behind told
+told-hosted (Ok false) n began old new d was told = λ never. never-both false never refl
+told-hosted (Err e) n began old new d was told = told
 
 pub lost-fenced : (r : Bool) (n : ℕ) (began : List BackedStore) (old new : BackedStore) (page : ℕ) → IsFenced n began old →
     (IsTrue r → ledger_of new ≡ and_then (Dealing.Lose page) (ledger_of old)) → (IsFalse r → ledger_of new ≡ ledger_of old) →
@@ -657,10 +695,3 @@ loaded-fenced (Ok true) n began old new page was told err storage owed writing =
     said n began old new (Dealing.Load page) told (λ x. refl) storage owed writing was
 loaded-fenced (Ok false) n began old new page was told err storage owed writing = same-ledger n began old new told storage owed writing was
 loaded-fenced (Err e) n began old new page was told err storage owed writing = same-ledger n began old new err storage owed writing was
-
-pub loaded-hosted : (r : Result Bool NoMemory) (n : ℕ) (began : List BackedStore) (old new : BackedStore) (page : ℕ) → IsFenced n began old →
-    IfOk r (λ done. ledger_of new ≡ (if done then and_then (Dealing.Load page) (ledger_of old) else ledger_of old)) →
-    IfOk r (λ done. IsTrue done → hosted_by n began (ledger_of new) ≡ hosted_after (Dealing.Load page) (hosted_by n began (ledger_of old)))
-loaded-hosted (Ok true) n began old new page was told = λ _. hosted-more n began (ledger_of old) (ledger_of new) (Dealing.Load page) was.behind told
-loaded-hosted (Ok false) n began old new page was told = λ never. never-both false never refl
-loaded-hosted (Err e) n began old new page was told = told

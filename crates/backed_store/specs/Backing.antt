@@ -3,13 +3,14 @@ use Rattle.std.specs.Prelude.{List, [], ◌∷◌}
 use Rattle.block_store.specs.Storage as storage
 use Rattle.block_store.specs.Storage.{Storage, dealt}
 use Rattle.backed_store.specs.declared.dealing.Dealing.{Dealing}
-use Rattle.backed_store.specs.declared.dealing.Dealing.TheVariants.{Given, Kept, Lost, Loaded, Cut}
+use Rattle.backed_store.specs.declared.dealing.Dealing.TheVariants.{Given, Kept, Lost, Denied, Loaded, Cut}
 
 -- as it is said of a storage
 abbrev pub plain : Dealing → storage.Dealing
 plain (Given g) = storage.Dealing.Give g.page g.bytes.items
 plain (Kept p) = storage.Dealing.Keep p
 plain (Lost p) = storage.Dealing.Lose p
+plain (Denied p) = storage.Dealing.Deny p
 plain (Loaded p) = storage.Dealing.Load p
 plain (Cut n) = storage.Dealing.Cut n
 

@@ -88,6 +88,11 @@ abbrev pub noted : Disk → List ℕ
 noted (Whole s) = []
 noted (Backed s) = backed.noted s.store
 
+-- the latest pages that the host said it can't write, the oldest first; none of one that isn't backed
+abbrev pub noted_denied : Disk → List ℕ
+noted_denied (Whole s) = []
+noted_denied (Backed s) = backed.noted_denied s.store
+
 -- how many of its pages are in memory at most; not said of one that isn't backed
 abbrev pub budget_of : Disk → Option ℕ
 budget_of (Whole s) = None

@@ -9,7 +9,7 @@ pub mod Caches
 pub mod Spared
 pub mod Passing
 pub mod Backing
-pub mod Lost
+pub mod Noted
 pub mod Stores
 pub mod Flushes
 pub mod Fences

@@ -6,7 +6,7 @@ use Rattle.backed_store.specs.Marks.{State}
 use Rattle.backed_store.specs.Caches.{mark_at, state_at, bytes_at, number_at, again_at}
 use Rattle.block_store.specs.Storage.{Storage, Ledger, opening}
 use Rattle.backed_store.specs.Backing.{plain, after_all}
-use Rattle.backed_store.specs.Lost as lost
+use Rattle.backed_store.specs.Noted as notes
 use Rattle.backed_store.specs.declared.backed.BackedStore.{BackedStore}
 
 -- what the host was given, and what its storage has, as far as the host said
@@ -75,11 +75,19 @@ latest_of s = s.cache.latest
 
 -- the latest pages that the host said it can't read, the oldest first
 abbrev pub noted : BackedStore → List ℕ
-noted s = lost.noted s.lost_pages
+noted s = notes.noted s.lost_pages
 
 -- whether page p is one of them
 abbrev pub is_noted : BackedStore → ℕ → Bool
-is_noted s p = lost.is_noted s.lost_pages p
+is_noted s p = notes.is_noted s.lost_pages p
+
+-- the latest pages that the host said it can't write, the oldest first
+abbrev pub noted_denied : BackedStore → List ℕ
+noted_denied s = notes.noted s.denied_pages
+
+-- whether page p is one of them
+abbrev pub is_noted_denied : BackedStore → ℕ → Bool
+is_noted_denied s p = notes.is_noted s.denied_pages p
 
 -- what is due of page p until the host's storage has its changes up to n: 0 where it has them
 abbrev pub dues : BackedStore → ℕ → ℕ → ℕ

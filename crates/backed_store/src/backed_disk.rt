@@ -150,6 +150,17 @@ impl BackedDisk {
         self.store.written(page, kept)
     }
 
+    /// Notes that the host can't write a page, as [`BackedStore::denied`] does.
+    pub(crate) fn denied(&mut self, page: u64) -> Result<bool, NoMemory>
+        ensures blocks { (b : ℕ) → contents self.new.store b ≡ contents self.old.store b }
+        ensures size { self.new.store.capacity ≡ self.old.store.capacity }
+        ensures denied { IfOk result (λ done. IsTrue done → hosted_of self.new ≡ hosted_after (Dealing.Deny page) (hosted_of self.old)) }
+        ensures otherwise { IfOk result (λ done. IsFalse done → hosted_of self.new ≡ hosted_of self.old) }
+        ensures err { OnErr result (hosted_of self.new ≡ hosted_of self.old) }
+    {
+        self.store.denied(page)
+    }
+
     /// Has so many blocks from now on, as [`BackedStore::resize`] does.
     pub fn resize(&mut self, blocks: u64)
         requires { blocks < 2 ^ 63 }

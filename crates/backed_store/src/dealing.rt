@@ -18,6 +18,8 @@ pub enum Dealing {
     Kept(u64),
     /// The host said that it can't read the page.
     Lost(u64),
+    /// The host said that it can't write the page.
+    Denied(u64),
     /// The host handed in the bytes of the page.
     Loaded(u64),
     /// The host cut its storage off at a block: from there on it has zeros.

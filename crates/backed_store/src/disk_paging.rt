@@ -2,9 +2,9 @@
 
 ghost use Rattle.std.specs.Prelude.{◌≡◌, ℕ, ◌*◌, ◌/◌, ◌<◌, ◌==◌, not, true, length, filter, slice_get, IsTrue, IsFalse, IfOk, OnErr, IfSome, IfNone};
 ghost use Rattle.std.specs.Option.{option_map};
-ghost use Rattle.block_store.specs.Storage.{IsPageOf, Dealing, storage_by, is_lost};
+ghost use Rattle.block_store.specs.Storage.{IsPageOf, Dealing, storage_by, is_lost, is_denied};
 ghost use Rattle.block_store.specs.Inner.Hosted.{hosted_after};
-ghost use Rattle.backed_store.specs.Disks.{size_of, blocks_of, holds, is_coming, has_room, hosted_of, storage_of, is_backed, noted};
+ghost use Rattle.backed_store.specs.Disks.{size_of, blocks_of, holds, is_coming, has_room, hosted_of, storage_of, is_backed, noted, noted_denied};
 
 use crate::dealing::GivenPage;
 use crate::disk::Disk;
@@ -141,6 +141,53 @@ impl Disk {
         match self {
             Disk::Whole(_) => Ok(false),
             Disk::Backed(disk) => disk.written(page, kept),
+        }
+    }
+
+    /// Notes that the host's storage can't write a page that the host was given. Returns true if a write of it was under way:
+    /// that is over then, and the page is to be written again. The commands that wait for it may be tried again, and end with
+    /// an error. `NoMemory` where memory was refused: the host says it again later.
+    pub fn denied(&mut self, page: u64) -> Result<bool, NoMemory>
+        ensures blocks { (b : ℕ) → blocks_of self.new b ≡ blocks_of self.old b }
+        ensures size { size_of self.new ≡ size_of self.old }
+        ensures backed { IfOk result (λ done. IsTrue done → is_backed self.old ≡ true) }
+        ensures denied { IfOk result (λ done. IsTrue done →
+            hosted_of self.new ≡ option_map (hosted_after (Dealing.Deny page)) (hosted_of self.old)) }
+        ensures otherwise { IfOk result (λ done. IsFalse done → hosted_of self.new ≡ hosted_of self.old) }
+        ensures err { OnErr result (hosted_of self.new ≡ hosted_of self.old) }
+    {
+        match self {
+            Disk::Whole(_) => Ok(false),
+            Disk::Backed(disk) => disk.denied(page),
+        }
+    }
+
+    /// Returns the page that was noted as denied at an index, the oldest at 0. `None` from the number of noted pages on, which is
+    /// at most 64; so always of a disk that isn't backed. Takes no memory.
+    pub fn denied_page(&self, index: usize) -> Option<u64>
+        ensures index { result ≡ slice_get (noted_denied self.now) index }
+        ensures bound { IfSome result (λ page. index < 64) }
+        ensures denied { IfSome result (λ page. (is_backed self.now ≡ true) × IfSome (storage_of self.now) (λ l. is_denied page l ≡ true)) }
+    {
+        match self {
+            Disk::Whole(_) => None,
+            Disk::Backed(disk) => disk.store.denied_page(index),
+        }
+    }
+
+    /// Forgets that a page is denied. Nothing else changes.
+    pub fn forget_denied(&mut self, page: u64)
+        ensures blocks { (b : ℕ) → blocks_of self.new b ≡ blocks_of self.old b }
+        ensures size { size_of self.new ≡ size_of self.old }
+        ensures storage { hosted_of self.new ≡ hosted_of self.old }
+        ensures held { (b : ℕ) → holds self.new b ≡ holds self.old b }
+        ensures coming { (b : ℕ) → is_coming self.new b ≡ is_coming self.old b }
+        ensures keeps_room { (b : ℕ) → has_room self.new b ≡ has_room self.old b }
+        ensures noted { noted_denied self.new ≡ filter (λ p. not (p == page)) (noted_denied self.old) }
+    {
+        match self {
+            Disk::Whole(_) => {}
+            Disk::Backed(disk) => disk.store.forget_denied(page),
         }
     }
 

@@ -1,4 +1,4 @@
-//! The pages that the host said it can't read.
+//! Pages that the host said it can't read, or can't write.
 
 ghost use Rattle.std.specs.Prelude.{◌≤◌, vec_len};
 
@@ -8,22 +8,22 @@ use std::alloc::Global;
 /// The most pages that are kept.
 const MOST: usize = 64;
 
-/// The latest pages that the host said it can't read, each once, the oldest first: at most 64.
+/// The latest pages of which the host said so, each once, the oldest first: at most 64.
 #[derive(Drop)]
-pub(crate) struct LostPages {
+pub(crate) struct NotedPages {
     pub(crate) pages: Vec<u64>,
     ghost bound: { vec_len pages ≤ 64 },
 }
 
-impl LostPages {
+impl NotedPages {
     ghost use Rattle.std.specs.Prelude.{◌≡◌, ◌≢◌, ℕ, ◌==◌, ◌<◌, ◌&&◌, not, false, drop, filter, length, nat_lt, IsTrue, IfSome, OnOk, slice_get};
-    ghost use Rattle.backed_store.specs.Lost.{noted, is_noted};
+    ghost use Rattle.backed_store.specs.Noted.{noted, is_noted};
 
     /// Makes one of no page. Takes no memory.
-    pub(crate) fn new(alloc: Global) -> LostPages
+    pub(crate) fn new(alloc: Global) -> NotedPages
         ensures { (p : ℕ) → is_noted result p ≡ false }
     {
-        LostPages {
+        NotedPages {
             pages: Vec::new(alloc),
         }
     }

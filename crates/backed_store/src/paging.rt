@@ -1,10 +1,10 @@
 //! Pages that come and go.
 
 ghost use Rattle.std.specs.Prelude.{◌≡◌, ◌≢◌, ℕ, slice_get, filter, ◌==◌, ◌*◌, ◌/◌, ◌^◌, ◌<◌, ◌≤◌, ◌&&◌, not, true, false, length, IsTrue, IsFalse, IfOk, OnOk, OnErr, IfSome, IfNone, if◌then◌else◌};
-ghost use Rattle.block_store.specs.Storage.{with_page, IsPageOf, and_then, is_lost, Dealing as ADealing};
+ghost use Rattle.block_store.specs.Storage.{with_page, IsPageOf, and_then, is_lost, is_denied, Dealing as ADealing};
 ghost use Rattle.backed_store.specs.Spared.{is_spared};
 ghost use Rattle.backed_store.specs.Flushes.{owes};
-ghost use Rattle.backed_store.specs.Stores.{contents, holds, is_coming, has_room, is_wanted, is_reading, is_writing, is_dirty, is_rewritten, may_go, number_of, again_of, dues, storage_of, ledger_of, backing_of, noted, is_noted, IsSame, IsHost, IsOwed, OwesNoMore};
+ghost use Rattle.backed_store.specs.Stores.{contents, holds, is_coming, has_room, is_wanted, is_reading, is_writing, is_dirty, is_rewritten, may_go, number_of, again_of, dues, storage_of, ledger_of, backing_of, noted, is_noted, noted_denied, is_noted_denied, IsSame, IsHost, IsOwed, OwesNoMore};
 
 use crate::backed::BackedStore;
 use crate::dealing::{Dealing, GivenPage};
@@ -181,7 +181,21 @@ impl BackedStore {
         given::record(&mut self.dealings, &dealing);
         match dealing {
             Dealing::Given(given) => Ok(Some(given)),
-            Dealing::Kept(_) | Dealing::Lost(_) | Dealing::Loaded(_) | Dealing::Cut(_) => Ok(None),
+            Dealing::Kept(_)
+            | Dealing::Lost(_)
+            | Dealing::Denied(_)
+            | Dealing::Loaded(_)
+            | Dealing::Cut(_) => Ok(None),
+        }
+    }
+
+    /// Returns true if the host was given a page to write, and has not answered.
+    fn is_under_way(&self, page: u64) -> bool
+        ensures { result ≡ is_writing self.now page }
+    {
+        match self.cache.slots.mark(page) {
+            Some(mark) => mark.held && mark.writing,
+            None => false,
         }
     }
 
@@ -202,8 +216,9 @@ impl BackedStore {
         ensures over { OnOk result (is_writing self.new page ≡ false) }
         ensures still { OnOk result ((p : ℕ) → p ≢ page → is_writing self.new p ≡ is_writing self.old p) }
         ensures unchanged { OnErr result ((p : ℕ) → is_writing self.new p ≡ is_writing self.old p) }
-        // The host's storage can read what it kept.
+        // The host's storage can read what it kept, and could write it.
         ensures found { IfOk result (λ done. IsTrue done → is_noted self.new page ≡ false) }
+        ensures undenied { IfOk result (λ done. IsTrue done → is_noted_denied self.new page ≡ false) }
         // What changed since the page was given is owed from the first of these changes on.
         ensures again { OnOk result (IsTrue kept → IsTrue (is_rewritten self.old page) → IsTrue (is_dirty self.new page)) }
         ensures later { OnOk result (IsTrue kept → IsTrue (is_rewritten self.old page) → number_of self.new page ≡ again_of self.old page) }
@@ -219,18 +234,76 @@ impl BackedStore {
         ensures unpaid { OnErr result (OwesNoMore self.old self.new) }
         ensures held { (b : ℕ) → holds self.new b ≡ holds self.old b }
     {
-        let Some(mark) = self.cache.slots.mark(page) else {
-            return Ok(false);
-        };
-        if !mark.held || !mark.writing {
+        if !self.is_under_way(page) {
             return Ok(false);
         }
         self.cache.end_write(page, kept)?;
         if kept {
             self.lost_pages.forget(page);
+            self.denied_pages.forget(page);
             given::record(&mut self.dealings, &Dealing::Kept(page));
         }
         Ok(kept)
+    }
+
+    /// Notes that the host's storage can't write a page that the host was given. Returns true if a write of it was under way:
+    /// that is over then, and the page is to be written again. The commands that wait for it may be tried again, and end with
+    /// an error. `NoMemory` where memory was refused: the host says it again later.
+    pub fn denied(&mut self, page: u64) -> Result<bool, NoMemory>
+        ensures same { IsSame self.old self.new }
+        ensures storage { storage_of self.new ≡ storage_of self.old }
+        ensures answer { IfOk result (λ done. done ≡ is_writing self.old page) }
+        ensures told { IfOk result (λ done. ledger_of self.new
+            ≡ (if done then and_then (ADealing.Deny page) (ledger_of self.old) else ledger_of self.old)) }
+        ensures err { OnErr result (ledger_of self.new ≡ ledger_of self.old) }
+        ensures over { OnOk result (is_writing self.new page ≡ false) }
+        ensures still { OnOk result ((p : ℕ) → p ≢ page → is_writing self.new p ≡ is_writing self.old p) }
+        ensures unchanged { OnErr result ((p : ℕ) → is_writing self.new p ≡ is_writing self.old p) }
+        ensures dirty { OnOk result (IsTrue (is_dirty self.old page) → IsTrue (is_dirty self.new page)) }
+        ensures earlier { OnOk result (number_of self.new page ≡ number_of self.old page) }
+        ensures unkept { OnOk result (IsTrue (is_writing self.old page) → IsTrue (is_dirty self.new page)) }
+        ensures others { OnOk result ((p : ℕ) → p ≢ page → IsOwed self.old self.new p) }
+        ensures owed { OnErr result ((p : ℕ) → IsOwed self.old self.new p) }
+        ensures due { OnOk result ((n p : ℕ) → p ≢ page → dues self.new n p ≡ dues self.old n p) }
+        ensures unpaid { OnErr result (OwesNoMore self.old self.new) }
+        ensures held { (b : ℕ) → holds self.new b ≡ holds self.old b }
+        // Only this page is noted.
+        ensures alone { (p : ℕ) → p ≢ page → IsTrue (is_noted_denied self.new p) → IsTrue (is_noted_denied self.old p) }
+        ensures kept { length (noted_denied self.old) < 64 → (p : ℕ) → p ≢ page → is_noted_denied self.new p ≡ is_noted_denied self.old p }
+        ensures unnoted { IfOk result (λ done. IsFalse done → noted_denied self.new ≡ noted_denied self.old) }
+        ensures noted { noted self.new ≡ noted self.old }
+    {
+        if !self.is_under_way(page) {
+            return Ok(false);
+        }
+        self.cache.end_write(page, false)?;
+        given::record(&mut self.dealings, &Dealing::Denied(page));
+        // A page that isn't noted is given again.
+        let _noted = self.denied_pages.note(page);
+        Ok(true)
+    }
+
+    /// Returns the page that was noted as denied at an index, the oldest at 0; `None` from the number of noted pages on. At most
+    /// 64 are noted: one more drops the oldest.
+    pub fn denied_page(&self, index: usize) -> Option<u64>
+        ensures index { result ≡ slice_get (noted_denied self.now) index }
+        ensures denied { IfSome result (λ page. is_denied page (ledger_of self.now) ≡ true) }
+        ensures bound { IfSome result (λ page. index < 64) }
+    {
+        self.denied_pages.at(index)
+    }
+
+    /// Forgets that a page is denied. Nothing else changes.
+    pub fn forget_denied(&mut self, page: u64)
+        ensures same { IsSame self.old self.new }
+        ensures host { IsHost self.old self.new }
+        ensures held { (b : ℕ) → holds self.new b ≡ holds self.old b }
+        ensures coming { (b : ℕ) → is_coming self.new b ≡ is_coming self.old b }
+        ensures room { (b : ℕ) → has_room self.new b ≡ has_room self.old b }
+        ensures noted { noted_denied self.new ≡ filter (λ p. not (p == page)) (noted_denied self.old) }
+        ensures lost { noted self.new ≡ noted self.old }
+    {
+        self.denied_pages.forget(page);
     }
 
     /// Drops a clean page from memory with which the host has nothing to do, that isn't about to be changed, and that isn't

@@ -5,7 +5,7 @@ use Rattle.block_store.specs.Blocks.{nth_block}
 use Rattle.block_store.specs.Inner.Whole.{length-nth_block}
 use Rattle.block_store.specs.Inner.Padding.{length-blocks_in, length-zero_block}
 use Rattle.backed_store.specs.declared.dealing.Dealing.{Dealing}
-use Rattle.backed_store.specs.declared.dealing.Dealing.TheVariants.{Given, Kept, Lost, Loaded, Cut}
+use Rattle.backed_store.specs.declared.dealing.Dealing.TheVariants.{Given, Kept, Lost, Denied, Loaded, Cut}
 use Rattle.block_store.specs.Storage.{Storage, opening}
 use Rattle.backed_store.specs.Backing.{after, after_all}
 use Rattle.backed_store.specs.Marks.{state_of}
@@ -28,6 +28,7 @@ whole-after (Given g) h whole = ((λ b. either (b / 8 == g.page) _ _ (length-blo
 whole-after (Cut n) h whole = ((λ b. either (nat_lt b n) _ _ (whole.0 b) length-zero_block), (λ b. either (nat_lt b n) _ _ (whole.1 b) length-zero_block))
 whole-after (Kept p) h whole = (whole.0, (λ b. either (b / 8 == p) _ _ (whole.0 b) (whole.1 b)))
 whole-after (Lost p) h whole = whole
+whole-after (Denied p) h whole = whole
 whole-after (Loaded p) h whole = whole
 
 pub whole-all : (ds : List Dealing) (h : Storage) → AreWhole h → AreWhole (after_all ds h)

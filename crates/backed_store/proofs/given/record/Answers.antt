@@ -1,6 +1,6 @@
 use Rattle.std.proofs.Common.{false, ap, map, ◌∙◌}
-use Rattle.block_store.specs.Storage.{lost_by}
-use Rattle.block_store.proofs.Losing.{lost-last}
+use Rattle.block_store.specs.Storage.{lost_by, denied_by}
+use Rattle.block_store.proofs.Losing.{lost-last, denied-last}
 use Rattle.backed_store.specs.Backing.{plain, after_all}
 use Rattle.backed_store.proofs.Dealt.{after-last, plain-last}
 use Rattle.backed_store.proofs.given.record.Goals as goal
@@ -15,3 +15,8 @@ pub returns-clause-lost : goal.returns-clause-lost
 returns-clause-lost c = λ p.
     ap (λ l. lost_by p false l) (returns-clause-ledger c)
     ∙ lost-last p false (map plain c.args.dealings.now.items) (plain c.args.dealing.now)
+
+pub returns-clause-denied : goal.returns-clause-denied
+returns-clause-denied c = λ p.
+    ap (λ l. denied_by p false l) (returns-clause-ledger c)
+    ∙ denied-last p false (map plain c.args.dealings.now.items) (plain c.args.dealing.now)

@@ -28,6 +28,7 @@ invariant_of-self-3 c =
           ∙ given-steady (state_at old.cache) (state_at new) (bytes_at old.cache) (bytes_at new) page e.states e.bytes (storage_of old).given c.copied-bytes.result.items
           copy size old.steady b is;
       lost = λ p is. c.record.ensures.lost p ∙ old.lost p is;
+      denied = λ p is. c.record.ensures.denied p ∙ old.denied p is;
     }
 
 pub returns-in-Given-clause-bytes : goal.returns-in-Given-clause-bytes

@@ -1,4 +1,5 @@
-use Rattle.backed_store.proofs.Progressing.{loaded-fenced, loaded-hosted}
+use Rattle.block_store.specs.Storage.{Dealing}
+use Rattle.backed_store.proofs.Progressing.{loaded-fenced, told-hosted}
 use Rattle.backed_store.proofs.backed_disk.BackedDisk.load.Goals as goal
 
 pub invariant_of-self : goal.invariant_of-self
@@ -8,5 +9,5 @@ invariant_of-self c =
 
 pub returns-clause-loaded : goal.returns-clause-loaded
 returns-clause-loaded c =
-    loaded-hosted c.load.result c.args.self.now.fence c.args.self.now.began.items c.args.self.now.store c.load.new.self c.args.page
+    told-hosted c.load.result c.args.self.now.fence c.args.self.now.began.items c.args.self.now.store c.load.new.self (Dealing.Load c.args.page)
     c.args.self.now.fenced c.load.ensures.told

@@ -1,4 +1,5 @@
-use Rattle.backed_store.proofs.Progressing.{wrote-fenced, wrote-hosted}
+use Rattle.block_store.specs.Storage.{Dealing}
+use Rattle.backed_store.proofs.Progressing.{wrote-fenced, told-hosted}
 use Rattle.backed_store.proofs.backed_disk.BackedDisk.written.Goals as goal
 
 pub invariant_of-self : goal.invariant_of-self
@@ -11,4 +12,4 @@ invariant_of-self c =
     }
 
 pub returns-clause-kept : goal.returns-clause-kept
-returns-clause-kept c = wrote-hosted c.written.result c.args.self.now.fence c.args.self.now.began.items c.args.self.now.store c.written.new.self c.args.page c.args.self.now.fenced c.written.ensures.storage
+returns-clause-kept c = told-hosted c.written.result c.args.self.now.fence c.args.self.now.began.items c.args.self.now.store c.written.new.self (Dealing.Keep c.args.page) c.args.self.now.fenced c.written.ensures.storage

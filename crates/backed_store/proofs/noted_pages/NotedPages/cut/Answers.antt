@@ -3,7 +3,7 @@ use Rattle.std.specs.List.{list_any}
 use Rattle.std.proofs.lemmas.Bool.Decides.{nat_tests}
 use Rattle.std.proofs.lemmas.Fn.{filter_same}
 use Rattle.std.proofs.lemmas.Map.Views.{any-filter_same}
-use Rattle.backed_store.proofs.lost.LostPages.cut.Goals as goal
+use Rattle.backed_store.proofs.noted_pages.NotedPages.cut.Goals as goal
 
 pub returns : goal.returns
 returns c = λ p.

@@ -2,8 +2,8 @@ use Rattle.std.proofs.Common.{◌≡◌, ◌≢◌, ◌==◌, ◌||◌, ℕ, Boo
 use Rattle.std.specs.List.{list_any}
 use Rattle.std.proofs.lemmas.Bool.Decides.{nat_tests}
 use Rattle.std.proofs.lemmas.List.Folds.{list_any-append}
-use Rattle.backed_store.specs.Lost.{noted}
-use Rattle.backed_store.proofs.lost.LostPages.note.Goals as goal
+use Rattle.backed_store.specs.Noted.{noted}
+use Rattle.backed_store.proofs.noted_pages.NotedPages.note.Goals as goal
 
 -- one more page behind the others makes no difference to a page that it isn't
 added : (p page : ℕ) (xs : List ℕ) → p ≢ page → list_any (nat_eq p) (xs ++ page ∷ []) ≡ list_any (nat_eq p) xs
