@@ -1,8 +1,8 @@
-//! Commands that need what their unit's host can't read.
+//! Commands that need what their unit's host can't read, or flush what it can't write.
 
 ghost use Rattle.std.specs.Prelude.{◌≡◌, ◌*◌, ◌≤◌, ◌&&◌, true, false, length, IfSome, IfNone, is_ok};
 ghost use Rattle.command_model.specs.PlainReply.{plain_of};
-ghost use Rattle.command_model.specs.Failing.{reaches, cuts, are_cut, needs_page, needs_page_wide, first_named, first_named_wide, unread};
+ghost use Rattle.command_model.specs.Failing.{reaches, cuts, are_cut, needs_page, needs_page_wide, first_named, first_named_wide, unread, flushes_page, unwritten};
 ghost use Rattle.command_model.specs.Replies.{unmap_answer};
 ghost use Rattle.command_model.specs.UnmapList.{descriptors, descriptors_in};
 ghost use Rattle.block_commands.specs.Inner.Told.{facts_of, protects};
@@ -160,4 +160,41 @@ pub fn unread(
     let block = first_named(command).max(page.saturating_mul(PAGE_BLOCKS));
     let sense = Sense::unrecovered_read_error(block).in_format(facts.format_told());
     Some(Reply::refusal(alloc, sense))
+}
+
+/// Returns true if a command that asks for the medium itself, or doesn't, flushes a page: SYNCHRONIZE CACHE each page of the
+/// disk, and a READ that asks for the medium those that it reads.
+fn flushes_page(asks_medium: bool, capacity: u64, command: &Command, page: u64) -> bool
+    ensures { result ≡ flushes_page asks_medium capacity command.now page }
+{
+    match *command {
+        Command::SynchronizeCache { lba, blocks } => {
+            is_in_range(capacity, lba, blocks) && page.saturating_mul(PAGE_BLOCKS) < capacity
+        }
+        Command::Read { lba, blocks } => {
+            asks_medium && reaches(capacity, lba, u32::from(blocks), page)
+        }
+        _ => false,
+    }
+}
+
+/// Returns what a command is answered that flushes a page which its unit's host can't write: MEDIUM ERROR, WRITE ERROR. `None`
+/// where it doesn't flush that page. The unit calls it for a command that waits, in the hold of its lock.
+pub fn unwritten(
+    alloc: Global,
+    facts: &UnitFacts,
+    capacity: u64,
+    asks_medium: bool,
+    command: &Command,
+    page: u64,
+) -> Option<Reply>
+    ensures flushed { IfSome result (λ r. flushes_page asks_medium capacity command.now page ≡ true) }
+    ensures reply { IfSome result (λ r. plain_of r ≡ unwritten (facts_of facts.now capacity) page) }
+    ensures unflushed { IfNone result (flushes_page asks_medium capacity command.now page ≡ false) }
+{
+    if !flushes_page(asks_medium, capacity, command, page) {
+        return None;
+    }
+    let sense = Sense::write_error(page.saturating_mul(PAGE_BLOCKS));
+    Some(Reply::refusal(alloc, sense.in_format(facts.format_told())))
 }
