@@ -2,9 +2,9 @@
 use Rattle.std.proofs.Common.{◌≡◌, ℕ, Bool, true, false, ◌&&◌, eqb, List, Option, Some, None, is_some, refl, sym, ◌∙◌, ap, subst, IfSome, ◌∷◌}
 use Rattle.std.specs.Prelude.{slice_get, option_map, unwrap_or, min}
 use Rattle.block_store.specs.Storage as storage
-use Rattle.block_store.specs.Storage.{Storage, Dealing, Ledger, opening, storage_by, and_then, lost_after, lost_by}
+use Rattle.block_store.specs.Storage.{Storage, Dealing, Ledger, dealt, opening, storage_by, and_then, lost_after, lost_by, denied_after, denied_by}
 use Rattle.block_store.proofs.Dealt.{last_dealt}
-use Rattle.block_store.proofs.Losing.{lost-last, lose-last, load-last, keep-last, lose-else, load-else, keep-else}
+use Rattle.block_store.proofs.Losing.{lost-last, lose-last, load-last, keep-last, lose-else, load-else, keep-else, denied-last, deny-last, keep-denied, deny-else, keep-denied-else}
 use Rattle.unit_model.specs.Steps.{Step}
 use Rattle.unit_model.specs.Contents.{capacity_of, blocks_of}
 use Rattle.unit_model.specs.Unit.{PlainUnit, is_backed, after as stepped, parking, dealing, waits_behind, MayCommit, MayConclude}
@@ -26,7 +26,7 @@ use Rattle.device_model.specs.Transitions.{Transition}
 use Rattle.device_model.specs.Event.Hard.{hard_code}
 use Rattle.device_model.specs.After.{after}
 use Rattle.device_model.specs.Found.{UnitIs}
-use Rattle.device_model.specs.Storing.{given_of, kept_of, unkept_of, lost_of, gives, keeps, tells}
+use Rattle.device_model.specs.Storing.{given_of, kept_of, unkept_of, lost_of, denied_of, gives, keeps, tells, tells_writing}
 use Rattle.device_model.proofs.Lists.{same, stays, get_other, get_change}
 
 -- what a change leaves of a unit
@@ -55,149 +55,102 @@ given_kept : (page : ℕ) (o : Option Ledger)
 given_kept page None = refl
 given_kept page (Some l) = ap (λ (s : Storage). Some s.given) (last_dealt l.dealings (Dealing.Keep page) (opening l.content))
 
-kept_lost : (page : ℕ) (o : Option Ledger)
-    → option_map (λ (l : Ledger). (storage_by l).kept) (option_map (and_then (Dealing.Lose page)) o)
-    ≡ option_map (λ (l : Ledger). (storage_by l).kept) o
-kept_lost page None = refl
-kept_lost page (Some l) = ap (λ (s : Storage). Some s.kept) (last_dealt l.dealings (Dealing.Lose page) (opening l.content))
+-- what is said of a page changes nothing that the storage has
+said : {X : Type 0} (f : Storage → X) (d : Dealing) → ((s : Storage) → dealt d s ≡ s) → (o : Option Ledger)
+    → option_map (λ (l : Ledger). f (storage_by l)) (option_map (and_then d) o) ≡ option_map (λ (l : Ledger). f (storage_by l)) o
+said f d still None = refl
+said f d still (Some l) =
+    ap (λ (s : Storage). Some (f s)) (last_dealt l.dealings d (opening l.content) ∙ still (storage_by l))
 
-given_lost : (page : ℕ) (o : Option Ledger)
-    → option_map (λ (l : Ledger). (storage_by l).given) (option_map (and_then (Dealing.Lose page)) o)
-    ≡ option_map (λ (l : Ledger). (storage_by l).given) o
-given_lost page None = refl
-given_lost page (Some l) = ap (λ (s : Storage). Some s.given) (last_dealt l.dealings (Dealing.Lose page) (opening l.content))
+-- whether a transition is one of a storage
+abbrev deals : Transition → Bool
+deals (Transition.Deal k x) = true
+deals (Transition.Resize k blocks) = true
+deals d = false
 
-unkept_lost : (page : ℕ) (o : Option Ledger)
-    → option_map (λ (l : Ledger). (storage_by l).unkept) (option_map (and_then (Dealing.Lose page)) o)
-    ≡ option_map (λ (l : Ledger). (storage_by l).unkept) o
-unkept_lost page None = refl
-unkept_lost page (Some l) = ap (λ (s : Storage). Some s.unkept) (last_dealt l.dealings (Dealing.Lose page) (opening l.content))
-
-unkept_loaded : (page : ℕ) (o : Option Ledger)
-    → option_map (λ (l : Ledger). (storage_by l).unkept) (option_map (and_then (Dealing.Load page)) o)
-    ≡ option_map (λ (l : Ledger). (storage_by l).unkept) o
-unkept_loaded page None = refl
-unkept_loaded page (Some l) = ap (λ (s : Storage). Some s.unkept) (last_dealt l.dealings (Dealing.Load page) (opening l.content))
-
-kept_loaded : (page : ℕ) (o : Option Ledger)
-    → option_map (λ (l : Ledger). (storage_by l).kept) (option_map (and_then (Dealing.Load page)) o)
-    ≡ option_map (λ (l : Ledger). (storage_by l).kept) o
-kept_loaded page None = refl
-kept_loaded page (Some l) = ap (λ (s : Storage). Some s.kept) (last_dealt l.dealings (Dealing.Load page) (opening l.content))
-
-given_loaded : (page : ℕ) (o : Option Ledger)
-    → option_map (λ (l : Ledger). (storage_by l).given) (option_map (and_then (Dealing.Load page)) o)
-    ≡ option_map (λ (l : Ledger). (storage_by l).given) o
-given_loaded page None = refl
-given_loaded page (Some l) = ap (λ (s : Storage). Some s.given) (last_dealt l.dealings (Dealing.Load page) (opening l.content))
+-- others leave it
+storage_stays : (d : Transition) (w : PlainWorld) (unit_index : ℕ) (u v : PlainUnit) → UnitIs w unit_index u → UnitIs (after d w) unit_index v
+    → deals d ≡ false → v.storage ≡ u.storage
+storage_stays (Transition.Run x) w unit_index u v at now off =
+    unchanged (λ (z : PlainUnit). z.storage) (stepped (Step.Enter x.entry)) x.unit w.units (λ z. refl) unit_index u v at now
+storage_stays (Transition.Park x) w unit_index u v at now off =
+    unchanged (λ (z : PlainUnit). z.storage) (parking x) x.unit w.units (λ z. refl) unit_index u v at now
+storage_stays (Transition.EnterFull x) w unit_index u v at now off =
+    unchanged (λ (z : PlainUnit). z.storage) (stepped (Step.Full x.entry.ticket)) x.unit w.units (λ z. refl) unit_index u v at now
+storage_stays (Transition.Commit k x r) w unit_index u v at now off =
+    unchanged (λ (z : PlainUnit). z.storage) (stepped (Step.Commit x.entry.ticket r)) x.unit w.units (λ z. refl) unit_index u v at now
+storage_stays (Transition.Withhold k x r) w unit_index u v at now off =
+    unchanged (λ (z : PlainUnit). z.storage) (stepped (Step.Commit x.entry.ticket r)) x.unit w.units (λ z. refl) unit_index u v at now
+storage_stays (Transition.CommitBusy k x) w unit_index u v at now off =
+    unchanged (λ (z : PlainUnit). z.storage) (stepped (Step.Busy x.entry.ticket)) x.unit w.units (λ z. refl) unit_index u v at now
+storage_stays (Transition.Leave k i t jobs) w unit_index u v at now off =
+    unchanged (λ (z : PlainUnit). z.storage) (stepped (Step.Leave t)) i w.units (λ z. refl) unit_index u v at now
+storage_stays (Transition.Mark t p (Abort rule) jobs) w unit_index u v at now off =
+    unchanged (λ (z : PlainUnit). z.storage) (stepped (step_by (Abort rule))) p.unit w.units (λ z. refl) unit_index u v at now
+storage_stays (Transition.Mark t p (Reset c) jobs) w unit_index u v at now off =
+    unchanged (λ (z : PlainUnit). z.storage) (stepped (step_by (Reset c))) p.unit w.units (λ z. refl) unit_index u v at now
+storage_stays (Transition.Hard p jobs) w unit_index u v at now off =
+    unchanged (λ (z : PlainUnit). z.storage) (stepped (Step.Reset hard_code)) p.unit w.units (λ z. refl) unit_index u v at now
+storage_stays (Transition.Resize k blocks) w unit_index u v at now never = absurd (let no : true ≡ false = never in cc)
+storage_stays (Transition.Deal k x) w unit_index u v at now never = absurd (let no : true ≡ false = never in cc)
+storage_stays d w unit_index u v at now off = ap (λ (z : PlainUnit). z.storage) (same (sym now ∙ at))
 
 pub given_stays : (d : Transition) (w : PlainWorld) (unit_index : ℕ) (u v : PlainUnit) → UnitIs w unit_index u → UnitIs (after d w) unit_index v
     → gives unit_index d ≡ false → given_of v ≡ given_of u
-given_stays (Transition.Run x) w unit_index u v at now off =
-    unchanged given_of (stepped (Step.Enter x.entry)) x.unit w.units (λ z. refl) unit_index u v at now
-given_stays (Transition.Park x) w unit_index u v at now off =
-    unchanged given_of (parking x) x.unit w.units (λ z. refl) unit_index u v at now
-given_stays (Transition.EnterFull x) w unit_index u v at now off =
-    unchanged given_of (stepped (Step.Full x.entry.ticket)) x.unit w.units (λ z. refl) unit_index u v at now
-given_stays (Transition.Commit k x r) w unit_index u v at now off =
-    unchanged given_of (stepped (Step.Commit x.entry.ticket r)) x.unit w.units (λ z. refl) unit_index u v at now
-given_stays (Transition.Withhold k x r) w unit_index u v at now off =
-    unchanged given_of (stepped (Step.Commit x.entry.ticket r)) x.unit w.units (λ z. refl) unit_index u v at now
-given_stays (Transition.CommitBusy k x) w unit_index u v at now off =
-    unchanged given_of (stepped (Step.Busy x.entry.ticket)) x.unit w.units (λ z. refl) unit_index u v at now
-given_stays (Transition.Leave k i t jobs) w unit_index u v at now off =
-    unchanged given_of (stepped (Step.Leave t)) i w.units (λ z. refl) unit_index u v at now
-given_stays (Transition.Mark t p (Abort rule) jobs) w unit_index u v at now off =
-    unchanged given_of (stepped (step_by (Abort rule))) p.unit w.units (λ z. refl) unit_index u v at now
-given_stays (Transition.Mark t p (Reset c) jobs) w unit_index u v at now off =
-    unchanged given_of (stepped (step_by (Reset c))) p.unit w.units (λ z. refl) unit_index u v at now
-given_stays (Transition.Hard p jobs) w unit_index u v at now off =
-    unchanged given_of (stepped (Step.Reset hard_code)) p.unit w.units (λ z. refl) unit_index u v at now
 given_stays (Transition.Resize k blocks) w unit_index u v at now off =
     ap (λ z. given_of z) (elsewhere (stepped (Step.Resize blocks)) k w.units unit_index u v off at now)
 given_stays (Transition.Deal k (Dealing.Keep page)) w unit_index u v at now off =
     unchanged given_of (dealing (Dealing.Keep page)) k w.units (λ z. given_kept page z.storage) unit_index u v at now
 given_stays (Transition.Deal k (Dealing.Lose page)) w unit_index u v at now off =
-    unchanged given_of (dealing (Dealing.Lose page)) k w.units (λ z. given_lost page z.storage) unit_index u v at now
+    unchanged given_of (dealing (Dealing.Lose page)) k w.units (λ z. said (λ (s : Storage). s.given) (Dealing.Lose page) (λ s. refl) z.storage) unit_index u v at now
+given_stays (Transition.Deal k (Dealing.Deny page)) w unit_index u v at now off =
+    unchanged given_of (dealing (Dealing.Deny page)) k w.units (λ z. said (λ (s : Storage). s.given) (Dealing.Deny page) (λ s. refl) z.storage) unit_index u v at now
 given_stays (Transition.Deal k (Dealing.Load page)) w unit_index u v at now off =
-    unchanged given_of (dealing (Dealing.Load page)) k w.units (λ z. given_loaded page z.storage) unit_index u v at now
+    unchanged given_of (dealing (Dealing.Load page)) k w.units (λ z. said (λ (s : Storage). s.given) (Dealing.Load page) (λ s. refl) z.storage) unit_index u v at now
 given_stays (Transition.Deal k (Dealing.Give page bytes)) w unit_index u v at now off =
     ap (λ z. given_of z) (elsewhere (dealing (Dealing.Give page bytes)) k w.units unit_index u v off at now)
 given_stays (Transition.Deal k (Dealing.Cut blocks)) w unit_index u v at now off =
     ap (λ z. given_of z) (elsewhere (dealing (Dealing.Cut blocks)) k w.units unit_index u v off at now)
-given_stays d w unit_index u v at now off = ap (λ z. given_of z) (same (sym now ∙ at))
+given_stays d w unit_index u v at now off =
+    ap (λ (o : Option Ledger). option_map (λ (l : Ledger). (storage_by l).given) o) (storage_stays d w unit_index u v at now refl)
 
 pub kept_stays : (d : Transition) (w : PlainWorld) (unit_index : ℕ) (u v : PlainUnit) → UnitIs w unit_index u → UnitIs (after d w) unit_index v
     → keeps unit_index d ≡ false → kept_of v ≡ kept_of u
-kept_stays (Transition.Run x) w unit_index u v at now off =
-    unchanged kept_of (stepped (Step.Enter x.entry)) x.unit w.units (λ z. refl) unit_index u v at now
-kept_stays (Transition.Park x) w unit_index u v at now off =
-    unchanged kept_of (parking x) x.unit w.units (λ z. refl) unit_index u v at now
-kept_stays (Transition.EnterFull x) w unit_index u v at now off =
-    unchanged kept_of (stepped (Step.Full x.entry.ticket)) x.unit w.units (λ z. refl) unit_index u v at now
-kept_stays (Transition.Commit k x r) w unit_index u v at now off =
-    unchanged kept_of (stepped (Step.Commit x.entry.ticket r)) x.unit w.units (λ z. refl) unit_index u v at now
-kept_stays (Transition.Withhold k x r) w unit_index u v at now off =
-    unchanged kept_of (stepped (Step.Commit x.entry.ticket r)) x.unit w.units (λ z. refl) unit_index u v at now
-kept_stays (Transition.CommitBusy k x) w unit_index u v at now off =
-    unchanged kept_of (stepped (Step.Busy x.entry.ticket)) x.unit w.units (λ z. refl) unit_index u v at now
-kept_stays (Transition.Leave k i t jobs) w unit_index u v at now off =
-    unchanged kept_of (stepped (Step.Leave t)) i w.units (λ z. refl) unit_index u v at now
-kept_stays (Transition.Mark t p (Abort rule) jobs) w unit_index u v at now off =
-    unchanged kept_of (stepped (step_by (Abort rule))) p.unit w.units (λ z. refl) unit_index u v at now
-kept_stays (Transition.Mark t p (Reset c) jobs) w unit_index u v at now off =
-    unchanged kept_of (stepped (step_by (Reset c))) p.unit w.units (λ z. refl) unit_index u v at now
-kept_stays (Transition.Hard p jobs) w unit_index u v at now off =
-    unchanged kept_of (stepped (Step.Reset hard_code)) p.unit w.units (λ z. refl) unit_index u v at now
 kept_stays (Transition.Resize k blocks) w unit_index u v at now off =
     ap (λ z. kept_of z) (elsewhere (stepped (Step.Resize blocks)) k w.units unit_index u v off at now)
 kept_stays (Transition.Deal k (Dealing.Give page bytes)) w unit_index u v at now off =
     unchanged kept_of (dealing (Dealing.Give page bytes)) k w.units (λ z. kept_given page bytes z.storage) unit_index u v at now
 kept_stays (Transition.Deal k (Dealing.Lose page)) w unit_index u v at now off =
-    unchanged kept_of (dealing (Dealing.Lose page)) k w.units (λ z. kept_lost page z.storage) unit_index u v at now
+    unchanged kept_of (dealing (Dealing.Lose page)) k w.units (λ z. said (λ (s : Storage). s.kept) (Dealing.Lose page) (λ s. refl) z.storage) unit_index u v at now
+kept_stays (Transition.Deal k (Dealing.Deny page)) w unit_index u v at now off =
+    unchanged kept_of (dealing (Dealing.Deny page)) k w.units (λ z. said (λ (s : Storage). s.kept) (Dealing.Deny page) (λ s. refl) z.storage) unit_index u v at now
 kept_stays (Transition.Deal k (Dealing.Load page)) w unit_index u v at now off =
-    unchanged kept_of (dealing (Dealing.Load page)) k w.units (λ z. kept_loaded page z.storage) unit_index u v at now
+    unchanged kept_of (dealing (Dealing.Load page)) k w.units (λ z. said (λ (s : Storage). s.kept) (Dealing.Load page) (λ s. refl) z.storage) unit_index u v at now
 kept_stays (Transition.Deal k (Dealing.Keep page)) w unit_index u v at now off =
     ap (λ z. kept_of z) (elsewhere (dealing (Dealing.Keep page)) k w.units unit_index u v off at now)
 kept_stays (Transition.Deal k (Dealing.Cut blocks)) w unit_index u v at now off =
     ap (λ z. kept_of z) (elsewhere (dealing (Dealing.Cut blocks)) k w.units unit_index u v off at now)
-kept_stays d w unit_index u v at now off = ap (λ z. kept_of z) (same (sym now ∙ at))
+kept_stays d w unit_index u v at now off =
+    ap (λ (o : Option Ledger). option_map (λ (l : Ledger). (storage_by l).kept) o) (storage_stays d w unit_index u v at now refl)
 
 pub unkept_stays : (d : Transition) (w : PlainWorld) (unit_index : ℕ) (u v : PlainUnit) → UnitIs w unit_index u → UnitIs (after d w) unit_index v
     → gives unit_index d ≡ false → keeps unit_index d ≡ false → unkept_of v ≡ unkept_of u
-unkept_stays (Transition.Run x) w unit_index u v at now ungiven unkept =
-    unchanged unkept_of (stepped (Step.Enter x.entry)) x.unit w.units (λ z. refl) unit_index u v at now
-unkept_stays (Transition.Park x) w unit_index u v at now ungiven unkept =
-    unchanged unkept_of (parking x) x.unit w.units (λ z. refl) unit_index u v at now
-unkept_stays (Transition.EnterFull x) w unit_index u v at now ungiven unkept =
-    unchanged unkept_of (stepped (Step.Full x.entry.ticket)) x.unit w.units (λ z. refl) unit_index u v at now
-unkept_stays (Transition.Commit k x r) w unit_index u v at now ungiven unkept =
-    unchanged unkept_of (stepped (Step.Commit x.entry.ticket r)) x.unit w.units (λ z. refl) unit_index u v at now
-unkept_stays (Transition.Withhold k x r) w unit_index u v at now ungiven unkept =
-    unchanged unkept_of (stepped (Step.Commit x.entry.ticket r)) x.unit w.units (λ z. refl) unit_index u v at now
-unkept_stays (Transition.CommitBusy k x) w unit_index u v at now ungiven unkept =
-    unchanged unkept_of (stepped (Step.Busy x.entry.ticket)) x.unit w.units (λ z. refl) unit_index u v at now
-unkept_stays (Transition.Leave k i t jobs) w unit_index u v at now ungiven unkept =
-    unchanged unkept_of (stepped (Step.Leave t)) i w.units (λ z. refl) unit_index u v at now
-unkept_stays (Transition.Mark t p (Abort rule) jobs) w unit_index u v at now ungiven unkept =
-    unchanged unkept_of (stepped (step_by (Abort rule))) p.unit w.units (λ z. refl) unit_index u v at now
-unkept_stays (Transition.Mark t p (Reset c) jobs) w unit_index u v at now ungiven unkept =
-    unchanged unkept_of (stepped (step_by (Reset c))) p.unit w.units (λ z. refl) unit_index u v at now
-unkept_stays (Transition.Hard p jobs) w unit_index u v at now ungiven unkept =
-    unchanged unkept_of (stepped (Step.Reset hard_code)) p.unit w.units (λ z. refl) unit_index u v at now
 unkept_stays (Transition.Resize k blocks) w unit_index u v at now ungiven unkept =
     ap (λ z. unkept_of z) (elsewhere (stepped (Step.Resize blocks)) k w.units unit_index u v unkept at now)
 unkept_stays (Transition.Deal k (Dealing.Give page bytes)) w unit_index u v at now ungiven unkept =
     ap (λ z. unkept_of z) (elsewhere (dealing (Dealing.Give page bytes)) k w.units unit_index u v ungiven at now)
 unkept_stays (Transition.Deal k (Dealing.Lose page)) w unit_index u v at now ungiven unkept =
-    unchanged unkept_of (dealing (Dealing.Lose page)) k w.units (λ z. unkept_lost page z.storage) unit_index u v at now
+    unchanged unkept_of (dealing (Dealing.Lose page)) k w.units (λ z. said (λ (s : Storage). s.unkept) (Dealing.Lose page) (λ s. refl) z.storage) unit_index u v at now
+unkept_stays (Transition.Deal k (Dealing.Deny page)) w unit_index u v at now ungiven unkept =
+    unchanged unkept_of (dealing (Dealing.Deny page)) k w.units (λ z. said (λ (s : Storage). s.unkept) (Dealing.Deny page) (λ s. refl) z.storage) unit_index u v at now
 unkept_stays (Transition.Deal k (Dealing.Load page)) w unit_index u v at now ungiven unkept =
-    unchanged unkept_of (dealing (Dealing.Load page)) k w.units (λ z. unkept_loaded page z.storage) unit_index u v at now
+    unchanged unkept_of (dealing (Dealing.Load page)) k w.units (λ z. said (λ (s : Storage). s.unkept) (Dealing.Load page) (λ s. refl) z.storage) unit_index u v at now
 unkept_stays (Transition.Deal k (Dealing.Keep page)) w unit_index u v at now ungiven unkept =
     ap (λ z. unkept_of z) (elsewhere (dealing (Dealing.Keep page)) k w.units unit_index u v unkept at now)
 unkept_stays (Transition.Deal k (Dealing.Cut blocks)) w unit_index u v at now ungiven unkept =
     ap (λ z. unkept_of z) (elsewhere (dealing (Dealing.Cut blocks)) k w.units unit_index u v unkept at now)
-unkept_stays d w unit_index u v at now ungiven unkept = ap (λ z. unkept_of z) (same (sym now ∙ at))
+unkept_stays d w unit_index u v at now ungiven unkept =
+    ap (λ (o : Option Ledger). option_map (λ (l : Ledger). (storage_by l).unkept) o) (storage_stays d w unit_index u v at now refl)
 
 -- whether a page is lost, by a storage
 abbrev lost_by_storage : ℕ → Option Ledger → Bool
@@ -210,38 +163,18 @@ lost_on p x None off = refl
 lost_on p x (Some l) off = lost-last p false l.dealings x ∙ off (lost_by p false l.dealings)
 
 -- it is said of another unit's page, or of another page
-told_else : (k page : ℕ) (x : Dealing) (w : PlainWorld) (unit_index p : ℕ) (u v : PlainUnit)
-    → (eqb p page ≡ false → (was : Bool) → lost_after p was x ≡ was) → UnitIs w unit_index u
+told_else : (f : PlainUnit → Bool) (k page : ℕ) (x : Dealing) (w : PlainWorld) (unit_index p : ℕ) (u v : PlainUnit)
+    → (eqb p page ≡ false → (z : PlainUnit) → f (dealing x z) ≡ f z) → UnitIs w unit_index u
     → UnitIs (after (Transition.Deal k x) w) unit_index v → (here : Bool) → eqb k unit_index ≡ here → (same_page : Bool)
-    → eqb p page ≡ same_page → (here && same_page) ≡ false → lost_of p v ≡ lost_of p u
-told_else k page x w unit_index p u v else_same at now false off same_page is untold =
-    ap (λ z. lost_of p z) (elsewhere (dealing x) k w.units unit_index u v off at now)
-told_else k page x w unit_index p u v else_same at now true on false off untold =
-    unchanged (lost_of p) (dealing x) k w.units (λ z. lost_on p x z.storage (else_same off)) unit_index u v at now
-told_else k page x w unit_index p u v else_same at now true on true off untold = absurd (let f : false ≡ true = sym untold in cc)
+    → eqb p page ≡ same_page → (here && same_page) ≡ false → f v ≡ f u
+told_else f k page x w unit_index p u v else_same at now false off same_page is untold =
+    ap f (elsewhere (dealing x) k w.units unit_index u v off at now)
+told_else f k page x w unit_index p u v else_same at now true on false off untold =
+    unchanged f (dealing x) k w.units (else_same off) unit_index u v at now
+told_else f k page x w unit_index p u v else_same at now true on true off untold = absurd (let no : false ≡ true = sym untold in cc)
 
 pub lost_stays : (d : Transition) (w : PlainWorld) (unit_index p : ℕ) (u v : PlainUnit) → UnitIs w unit_index u → UnitIs (after d w) unit_index v
     → tells unit_index p d ≡ false → lost_of p v ≡ lost_of p u
-lost_stays (Transition.Run x) w unit_index p u v at now off =
-    unchanged (lost_of p) (stepped (Step.Enter x.entry)) x.unit w.units (λ z. refl) unit_index u v at now
-lost_stays (Transition.Park x) w unit_index p u v at now off =
-    unchanged (lost_of p) (parking x) x.unit w.units (λ z. refl) unit_index u v at now
-lost_stays (Transition.EnterFull x) w unit_index p u v at now off =
-    unchanged (lost_of p) (stepped (Step.Full x.entry.ticket)) x.unit w.units (λ z. refl) unit_index u v at now
-lost_stays (Transition.Commit k x r) w unit_index p u v at now off =
-    unchanged (lost_of p) (stepped (Step.Commit x.entry.ticket r)) x.unit w.units (λ z. refl) unit_index u v at now
-lost_stays (Transition.Withhold k x r) w unit_index p u v at now off =
-    unchanged (lost_of p) (stepped (Step.Commit x.entry.ticket r)) x.unit w.units (λ z. refl) unit_index u v at now
-lost_stays (Transition.CommitBusy k x) w unit_index p u v at now off =
-    unchanged (lost_of p) (stepped (Step.Busy x.entry.ticket)) x.unit w.units (λ z. refl) unit_index u v at now
-lost_stays (Transition.Leave k i t jobs) w unit_index p u v at now off =
-    unchanged (lost_of p) (stepped (Step.Leave t)) i w.units (λ z. refl) unit_index u v at now
-lost_stays (Transition.Mark t q (Abort rule) jobs) w unit_index p u v at now off =
-    unchanged (lost_of p) (stepped (step_by (Abort rule))) q.unit w.units (λ z. refl) unit_index u v at now
-lost_stays (Transition.Mark t q (Reset c) jobs) w unit_index p u v at now off =
-    unchanged (lost_of p) (stepped (step_by (Reset c))) q.unit w.units (λ z. refl) unit_index u v at now
-lost_stays (Transition.Hard q jobs) w unit_index p u v at now off =
-    unchanged (lost_of p) (stepped (Step.Reset hard_code)) q.unit w.units (λ z. refl) unit_index u v at now
 lost_stays (Transition.Resize k blocks) w unit_index p u v at now off =
     unchanged (lost_of p) (stepped (Step.Resize blocks)) k w.units
     (λ z. lost_on p (Dealing.Cut (min (capacity_of z.opening z.steps) blocks)) z.storage (λ was. refl)) unit_index u v at now
@@ -249,13 +182,47 @@ lost_stays (Transition.Deal k (Dealing.Give page bytes)) w unit_index p u v at n
     unchanged (lost_of p) (dealing (Dealing.Give page bytes)) k w.units (λ z. lost_on p (Dealing.Give page bytes) z.storage (λ was. refl)) unit_index u v at now
 lost_stays (Transition.Deal k (Dealing.Cut blocks)) w unit_index p u v at now off =
     unchanged (lost_of p) (dealing (Dealing.Cut blocks)) k w.units (λ z. lost_on p (Dealing.Cut blocks) z.storage (λ was. refl)) unit_index u v at now
+lost_stays (Transition.Deal k (Dealing.Deny page)) w unit_index p u v at now off =
+    unchanged (lost_of p) (dealing (Dealing.Deny page)) k w.units (λ z. lost_on p (Dealing.Deny page) z.storage (λ was. refl)) unit_index u v at now
 lost_stays (Transition.Deal k (Dealing.Lose page)) w unit_index p u v at now off =
-    told_else k page (Dealing.Lose page) w unit_index p u v (lose-else p page) at now (eqb k unit_index) refl (eqb p page) refl off
+    told_else (lost_of p) k page (Dealing.Lose page) w unit_index p u v (λ apart z. lost_on p (Dealing.Lose page) z.storage (lose-else p page apart)) at now
+    (eqb k unit_index) refl (eqb p page) refl off
 lost_stays (Transition.Deal k (Dealing.Load page)) w unit_index p u v at now off =
-    told_else k page (Dealing.Load page) w unit_index p u v (load-else p page) at now (eqb k unit_index) refl (eqb p page) refl off
+    told_else (lost_of p) k page (Dealing.Load page) w unit_index p u v (λ apart z. lost_on p (Dealing.Load page) z.storage (load-else p page apart)) at now
+    (eqb k unit_index) refl (eqb p page) refl off
 lost_stays (Transition.Deal k (Dealing.Keep page)) w unit_index p u v at now off =
-    told_else k page (Dealing.Keep page) w unit_index p u v (keep-else p page) at now (eqb k unit_index) refl (eqb p page) refl off
-lost_stays d w unit_index p u v at now off = ap (λ z. lost_of p z) (same (sym now ∙ at))
+    told_else (lost_of p) k page (Dealing.Keep page) w unit_index p u v (λ apart z. lost_on p (Dealing.Keep page) z.storage (keep-else p page apart)) at now
+    (eqb k unit_index) refl (eqb p page) refl off
+lost_stays d w unit_index p u v at now off = ap (λ o. lost_by_storage p o) (storage_stays d w unit_index u v at now refl)
+
+-- whether a page is denied, by a storage
+abbrev denied_by_storage : ℕ → Option Ledger → Bool
+denied_by_storage p o = unwrap_or (option_map (λ (l : Ledger). storage.is_denied p l) o) false
+
+denied_on : (p : ℕ) (x : Dealing) (o : Option Ledger) → ((was : Bool) → denied_after p was x ≡ was)
+    → denied_by_storage p (option_map (and_then x) o) ≡ denied_by_storage p o
+denied_on p x None off = refl
+denied_on p x (Some l) off = denied-last p false l.dealings x ∙ off (denied_by p false l.dealings)
+
+pub denied_stays : (d : Transition) (w : PlainWorld) (unit_index p : ℕ) (u v : PlainUnit) → UnitIs w unit_index u → UnitIs (after d w) unit_index v
+    → tells_writing unit_index p d ≡ false → denied_of p v ≡ denied_of p u
+denied_stays (Transition.Resize k blocks) w unit_index p u v at now off =
+    ap (λ z. denied_of p z) (elsewhere (stepped (Step.Resize blocks)) k w.units unit_index u v off at now)
+denied_stays (Transition.Deal k (Dealing.Cut blocks)) w unit_index p u v at now off =
+    ap (λ z. denied_of p z) (elsewhere (dealing (Dealing.Cut blocks)) k w.units unit_index u v off at now)
+denied_stays (Transition.Deal k (Dealing.Give page bytes)) w unit_index p u v at now off =
+    unchanged (denied_of p) (dealing (Dealing.Give page bytes)) k w.units (λ z. denied_on p (Dealing.Give page bytes) z.storage (λ was. refl)) unit_index u v at now
+denied_stays (Transition.Deal k (Dealing.Lose page)) w unit_index p u v at now off =
+    unchanged (denied_of p) (dealing (Dealing.Lose page)) k w.units (λ z. denied_on p (Dealing.Lose page) z.storage (λ was. refl)) unit_index u v at now
+denied_stays (Transition.Deal k (Dealing.Load page)) w unit_index p u v at now off =
+    unchanged (denied_of p) (dealing (Dealing.Load page)) k w.units (λ z. denied_on p (Dealing.Load page) z.storage (λ was. refl)) unit_index u v at now
+denied_stays (Transition.Deal k (Dealing.Deny page)) w unit_index p u v at now off =
+    told_else (denied_of p) k page (Dealing.Deny page) w unit_index p u v (λ apart z. denied_on p (Dealing.Deny page) z.storage (deny-else p page apart)) at now
+    (eqb k unit_index) refl (eqb p page) refl off
+denied_stays (Transition.Deal k (Dealing.Keep page)) w unit_index p u v at now off =
+    told_else (denied_of p) k page (Dealing.Keep page) w unit_index p u v (λ apart z. denied_on p (Dealing.Keep page) z.storage (keep-denied-else p page apart)) at now
+    (eqb k unit_index) refl (eqb p page) refl off
+denied_stays d w unit_index p u v at now off = ap (λ o. denied_by_storage p o) (storage_stays d w unit_index u v at now refl)
 
 -- a deal is one of the unit's storage alone
 pub deals_alone : (w : PlainWorld) (unit_index : ℕ) (x : Dealing) (u : PlainUnit) → UnitIs w unit_index u
@@ -295,6 +262,26 @@ pub kept_then : (w : PlainWorld) (unit_index p : ℕ) (u v : PlainUnit) → Unit
     → UnitIs (after (Transition.Deal unit_index (Dealing.Keep p)) w) unit_index v → lost_of p v ≡ false
 kept_then w unit_index p u v at now =
     ap (λ (z : PlainUnit). lost_of p z) (dealt_so w unit_index (Dealing.Keep p) u v at now) ∙ kept_now p u.storage
+
+denied_now : (p : ℕ) (o : Option Ledger) → is_some o ≡ true → denied_by_storage p (option_map (and_then (Dealing.Deny p)) o) ≡ true
+denied_now p None never = let no : false ≡ true = never in cc
+denied_now p (Some l) there = deny-last p false l.dealings
+
+written_now : (p : ℕ) (o : Option Ledger) → denied_by_storage p (option_map (and_then (Dealing.Keep p)) o) ≡ false
+written_now p None = refl
+written_now p (Some l) = keep-denied p false l.dealings
+
+-- a page is denied once the host said that it can't write it
+pub denied_then : (w : PlainWorld) (unit_index p : ℕ) (u v : PlainUnit) → UnitIs w unit_index u
+    → UnitIs (after (Transition.Deal unit_index (Dealing.Deny p)) w) unit_index v → is_backed u ≡ true → denied_of p v ≡ true
+denied_then w unit_index p u v at now backed =
+    ap (λ (z : PlainUnit). denied_of p z) (dealt_so w unit_index (Dealing.Deny p) u v at now) ∙ denied_now p u.storage backed
+
+-- and isn't once it wrote it
+pub written_then : (w : PlainWorld) (unit_index p : ℕ) (u v : PlainUnit) → UnitIs w unit_index u
+    → UnitIs (after (Transition.Deal unit_index (Dealing.Keep p)) w) unit_index v → denied_of p v ≡ false
+written_then w unit_index p u v at now =
+    ap (λ (z : PlainUnit). denied_of p z) (dealt_so w unit_index (Dealing.Keep p) u v at now) ∙ written_now p u.storage
 
 -- a flush that may end with GOOD is durable
 pub flush_kept : (w : PlainWorld) (k : ℕ) (x : PlainJob) (r : PlainReply) (u : PlainUnit) (e : Entry) (l : Ledger) (left : Blocks) (b : ℕ)

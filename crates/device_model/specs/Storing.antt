@@ -1,7 +1,7 @@
 -- Which transitions change what the host's storage has of a unit's disk.
 use Rattle.std.specs.Prelude.{ℕ, Bool, false, ◌==◌, ◌&&◌, List, Option, option_map, unwrap_or}
 use Rattle.block_store.specs.Blocks.{Blocks}
-use Rattle.block_store.specs.Storage.{Ledger, Dealing, storage_by, is_lost}
+use Rattle.block_store.specs.Storage.{Ledger, Dealing, storage_by, is_lost, is_denied}
 use Rattle.unit_model.specs.Unit.{PlainUnit}
 use Rattle.device_model.specs.Transitions.{Transition}
 
@@ -42,3 +42,16 @@ tells unit_index p (Transition.Deal k (Dealing.Lose page)) = k == unit_index && 
 tells unit_index p (Transition.Deal k (Dealing.Load page)) = k == unit_index && p == page
 tells unit_index p (Transition.Deal k (Dealing.Keep page)) = k == unit_index && p == page
 tells unit_index p d = false
+
+-- the host's last word of writing page p of a unit's disk is that it can't
+abbrev pub denied_of : ℕ → PlainUnit → Bool
+denied_of p u = unwrap_or (option_map (λ (l : Ledger). is_denied p l) u.storage) false
+
+-- the transition says whether the host can write page p of the unit of an index: not one that it denied, but one that it wrote;
+-- or it resizes the unit
+abbrev pub tells_writing : ℕ → ℕ → Transition → Bool
+tells_writing unit_index p (Transition.Deal k (Dealing.Deny page)) = k == unit_index && p == page
+tells_writing unit_index p (Transition.Deal k (Dealing.Keep page)) = k == unit_index && p == page
+tells_writing unit_index p (Transition.Deal k (Dealing.Cut blocks)) = k == unit_index
+tells_writing unit_index p (Transition.Resize k blocks) = k == unit_index
+tells_writing unit_index p d = false

@@ -18,7 +18,7 @@ ghost use Rattle.device_model.specs.Transitions.{Transition};
 ghost use Rattle.device_model.specs.After.{after};
 ghost use Rattle.device_model.specs.Happens.{Happens};
 ghost use Rattle.device_model.specs.Found.{UnitIs};
-ghost use Rattle.device_model.specs.Storing.{given_of, kept_of, unkept_of, lost_of, gives, keeps, tells};
+ghost use Rattle.device_model.specs.Storing.{given_of, kept_of, unkept_of, lost_of, denied_of, gives, keeps, tells, tells_writing};
 
 /// States when the storage of a unit's disk changes: where the host says that it wrote a page of that unit, and where the
 /// unit is resized. It never changes by a command of a guest, nor by what is done of another unit.
@@ -31,6 +31,10 @@ ghost use Rattle.device_model.specs.Storing.{given_of, kept_of, unkept_of, lost_
 /// - `unread`: a page is lost once the host said that it can't read it.
 /// - `read`: it isn't, once the host handed it in.
 /// - `written`: nor once the host said that it wrote it.
+/// - `denied`: whether a page is denied changes where the host says that it can't write it, says that it wrote it, and by a
+///   resize. A flush may end with MEDIUM ERROR where it flushes a page that is denied (`Replies`).
+/// - `unwritten`: a page is denied once the host said that it can't write it.
+/// - `rewritten`: it isn't, once the host said that it wrote it.
 /// - `deals`: a deal changes what its unit's storage has, and nothing else of the unit.
 pub fn a_storage_changes_by_its_host()
     ensures given { (w : PlainWorld) (d : Transition) (unit_index : ℕ) (u v : PlainUnit) → UnitIs w unit_index u →
@@ -47,6 +51,12 @@ pub fn a_storage_changes_by_its_host()
         UnitIs (after (Transition.Deal unit_index (Dealing.Load p)) w) unit_index v → lost_of p v ≡ false }
     ensures written { (w : PlainWorld) (unit_index p : ℕ) (u v : PlainUnit) → UnitIs w unit_index u →
         UnitIs (after (Transition.Deal unit_index (Dealing.Keep p)) w) unit_index v → lost_of p v ≡ false }
+    ensures denied { (w : PlainWorld) (d : Transition) (unit_index p : ℕ) (u v : PlainUnit) → UnitIs w unit_index u →
+        UnitIs (after d w) unit_index v → tells_writing unit_index p d ≡ false → denied_of p v ≡ denied_of p u }
+    ensures unwritten { (w : PlainWorld) (unit_index p : ℕ) (u v : PlainUnit) → UnitIs w unit_index u →
+        UnitIs (after (Transition.Deal unit_index (Dealing.Deny p)) w) unit_index v → is_backed u ≡ true → denied_of p v ≡ true }
+    ensures rewritten { (w : PlainWorld) (unit_index p : ℕ) (u v : PlainUnit) → UnitIs w unit_index u →
+        UnitIs (after (Transition.Deal unit_index (Dealing.Keep p)) w) unit_index v → denied_of p v ≡ false }
     ensures deals { (w : PlainWorld) (unit_index : ℕ) (x : Dealing) (u : PlainUnit) → UnitIs w unit_index u →
         UnitIs (after (Transition.Deal unit_index x) w) unit_index (dealing x u) }
 {}

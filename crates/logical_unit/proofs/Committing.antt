@@ -2,12 +2,12 @@
 use Rattle.std.proofs.Common.{◌≡◌, ◌⊎◌, ℕ, ◌+◌, ◌≤◌, ◌||◌, ◌&&◌, Bool, inl, inr, List, ◌∷◌, map, length, Option, Some, None, is_some, IfSome, IsTrue, true, false, refl, sym, ◌∙◌, ap, subst}
 use Rattle.ring_core.specs.declared.log.Ticket.{Ticket}
 use Rattle.block_store.specs.Blocks.{Blocks}
-use Rattle.block_store.specs.Storage.{Ledger, IsLostIn}
+use Rattle.block_store.specs.Storage.{Ledger, IsLostIn, IsDeniedIn}
 use Rattle.unit_attention.specs.declared.code.Code.{Code}
 use Rattle.command_model.specs.PlainReply.{PlainReply}
 use Rattle.command_model.specs.Effects.{block_after}
 use Rattle.command_model.specs.Facts.{Facts}
-use Rattle.command_model.specs.Failing.{IsUnread}
+use Rattle.command_model.specs.Failing.{IsUnread, IsUnwritten}
 use Rattle.command_model.specs.Replies.{reply_of}
 use Rattle.unit_model.specs.declared.reason.Reason.{Reason}
 use Rattle.unit_model.specs.Tasks.{Entry, task_of}
@@ -29,7 +29,7 @@ use Rattle.logical_unit.specs.Inner.Calls.{Runs}
 use Rattle.logical_unit.specs.Inner.Parts.{AreKept}
 use Rattle.command_model.specs.Memory.{may_run_short}
 use Rattle.cdb.specs.declared.commands.Command.{Command}
-use Rattle.logical_unit.specs.Inner.Performing.{PlainPerformed, Performs, Comes, Ran, RanUnread, ran_well, step_for, taken}
+use Rattle.logical_unit.specs.Inner.Performing.{PlainPerformed, Performs, Comes, Ran, RanUnread, RanUnwritten, ran_well, step_for, taken}
 use Rattle.logical_unit.specs.Inner.Outcomes.{outcome_for}
 use Rattle.logical_unit.specs.Inner.Turns.{Turns}
 use Rattle.logical_unit.specs.declared.turn.Turn.TheVariants as turn
@@ -55,9 +55,9 @@ cannot s j past is (inl other) = inl other
 cannot s j past is (inr (inl done)) = inr (inl (sym (ap (λ (x : Seen). x.done) is) ∙ done))
 cannot s j past is (inr (inr waits)) = inr (inr (sym (ap (λ (x : Seen). is_some x.mark) is) ∙ ap (λ m. is_some m) waits.0, sym (ap (λ (x : Seen). x.enabled) is) ∙ waits.1))
 
-with_durable : {A B C : Type 0} → A ⊎ B → (A → C) → (A × C) ⊎ B
+with_durable : {A B C D : Type 0} → A ⊎ B → (A → C) → (A × C) ⊎ (B ⊎ D)
 with_durable (inl a) c = inl (a, c a)
-with_durable (inr b) c = inr b
+with_durable (inr b) c = inr (inl b)
 
 -- a command that was performed came so
 pub performed_comes : (keeps : Bool) (facts : Facts) (lost : ℕ → Type 0) (command : Command) (bytes : List ℕ) (p : Option PlainPerformed)
@@ -131,7 +131,7 @@ module _ {o : Opening} {past : List Step} {block_at : Blocks} {pending : List Co
   may_reply : (e : Entry) (lost : ℕ → Type 0) (r : PlainReply)
       → (r ≡ reply_after o e past) ⊎ ((page : ℕ) × IsUnread (facts_after o past) e.command e.data_out page r × lost page) → MayReply o e past r
   may_reply e lost r (inl is) = inl is
-  may_reply e lost r (inr (page, unread, is_lost)) = inr (page, unread)
+  may_reply e lost r (inr (page, unread, is_lost)) = inr (inl (page, unread))
 
   -- the parts once a command ran, or was refused memory
   pub keep_run : (t : Ticket) (e : Entry) (keeps : Bool) (facts : Facts) (lost : ℕ → Type 0) (p : Option PlainPerformed) (block_at' : Blocks) (pending' : List Code) (room' : ℕ)
@@ -143,6 +143,40 @@ module _ {o : Opening} {past : List Step} {block_at : Blocks} {pending : List Co
       (may_reply e lost p.reply (came_replied e keeps facts lost p block_at' pending' as_told ran))
       (came_stored keeps facts lost e.command e.data_out p block_at block_at' pending pending' ran)
       (came_pends keeps facts lost e.command e.data_out p block_at block_at' pending pending' ran) reserve
+
+  -- the same of a flush of what can't be written
+  unwritten_stores : (e : Entry) (facts : Facts) (page : ℕ) (r : PlainReply) (b : ℕ) → IsUnwritten facts e.asks_medium e.command page r
+      → block_at b ≡ block_after e.command e.data_out r.status block_at b
+  unwritten_stores e facts page r b unwritten = sym (ap (λ (w : PlainReply). block_after e.command e.data_out w.status block_at b) unwritten.is)
+
+  pub keep_unwritten : (t : Ticket) (e : Entry) (keeps : Bool) (facts : Facts) (denied : ℕ → Type 0) (p : PlainPerformed) (block_at' : Blocks) (pending' : List Code) (room' : ℕ)
+      → IsReady t e past → facts ≡ facts_after o past → RanUnwritten keeps facts e.asks_medium denied e.command p block_at block_at' pending pending' → room ≤ room' + 1
+      → AreKept o (step_for t (Some p) ∷ past) block_at' pending' (map (moved (finished t (ran_well (Some p)))) tasks) last_tickets room'
+  keep_unwritten t e keeps facts denied p block_at' pending' room' ready as_told ran reserve =
+      keep_commit k t e p.reply block_at' pending' room' ready
+      (inr (inr (ran.page, subst (λ f. IsUnwritten f e.asks_medium e.command ran.page p.reply) as_told ran.unwritten)))
+      (λ b. ran.stored b ∙ unwritten_stores e facts ran.page p.reply b ran.unwritten) ran.pends reserve
+
+  pub commits_unwritten : (j : PlainJob) (e : Entry) (keeps : Bool) (storage storage' : Option Ledger) (facts : Facts) (p : PlainPerformed) (block_at' : Blocks) (pending' : List Code)
+      → storage' ≡ storage → IsOf j e past → IsReady j.entry.ticket e past → facts ≡ facts_after o past
+      → RanUnwritten keeps facts e.asks_medium (IsDeniedIn storage) e.command p block_at block_at' pending pending'
+      → Runs (record { opening = o; steps = past; parked = parked_of tasks; keeps_replies = keeps; storage = storage }) j
+      (outcome_for (unit_address o) (length past) j.entry.ticket (Some p))
+      (record { opening = o; steps = step_for j.entry.ticket (Some p) ∷ past; parked = parked_of (map (moved (finished j.entry.ticket (ran_well (Some p)))) tasks); keeps_replies = keeps; storage = storage' })
+  commits_unwritten j e keeps storage storage' facts p block_at' pending' kind of ready as_told ran =
+      let unwritten = subst (λ f. IsUnwritten f e.asks_medium e.command ran.page p.reply) as_told ran.unwritten in (
+        e,
+        of,
+        ready,
+        p.reply,
+        inr (inr (ran.page, unwritten, ran.is_denied)),
+        refl,
+        record {
+          may = may_commit k j.entry.ticket e p.reply ready (inr (inr (ran.page, unwritten)));
+          is = same_unit o _ _ _ _ keeps keeps storage storage' refl
+              (parked_commit o past block_at pending tasks last_tickets room j.entry.ticket p.reply k) refl kind;
+        },
+      )
 
   -- and what is answered; a flush only once the storage has what it promises
   pub commits_run : (j : PlainJob) (e : Entry) (keeps : Bool) (storage storage' : Option Ledger) (facts : Facts) (p : Option PlainPerformed) (block_at' : Blocks) (pending' : List Code)

@@ -29,7 +29,7 @@ use Rattle.backed_store.specs.declared.dealing.GivenPage.{GivenPage}
 use Rattle.foundation.specs.declared.NoMemory.{NoMemory}
 use Rattle.unit_model.proofs.Past.{as_of-more, as_of-now, enabled_since}
 use Rattle.block_store.proofs.Dealt.{storage_then}
-use Rattle.block_store.specs.Storage.{IsLostIn}
+use Rattle.block_store.specs.Storage.{IsLostIn, IsDeniedIn}
 use Rattle.cdb.specs.declared.commands.Command.{Command}
 use Rattle.command_model.specs.Facts.{Facts}
 use Rattle.unit_attention.specs.declared.code.Code.{Code}
@@ -37,7 +37,7 @@ use Rattle.unit_model.specs.Seen.{Seen}
 use Rattle.task_set.specs.Tasks.{PlainTask}
 use Rattle.task_set.specs.Inner.Tasks.{task_at}
 use Rattle.logical_unit.specs.Inner.Parts.{AreKept}
-use Rattle.logical_unit.specs.Inner.Performing.{PlainPerformed, Comes}
+use Rattle.logical_unit.specs.Inner.Performing.{PlainPerformed, Comes, RanUnwritten}
 use Rattle.logical_unit.proofs.Keeping.{task_at_alive}
 
 -- the ledger of a disk, by that and how far its flush is
@@ -446,6 +446,13 @@ pub came_on : (keeps : Bool) (facts : Facts) (storage storage' : Option Ledger) 
 came_on keeps facts storage storage' command bytes p blocks blocks' pending pending' same ran =
     subst (λ x. Comes keeps facts (IsLostIn x) command bytes p blocks blocks' pending pending') same ran
 
+pub unwritten_on : (keeps : Bool) (facts : Facts) (asks_medium : Bool) (storage storage' : Option Ledger) (command : Command) (p : PlainPerformed)
+    (blocks blocks' : Blocks) (pending pending' : List Code) → storage' ≡ storage
+    → RanUnwritten keeps facts asks_medium (IsDeniedIn storage') command p blocks blocks' pending pending'
+    → RanUnwritten keeps facts asks_medium (IsDeniedIn storage) command p blocks blocks' pending pending'
+unwritten_on keeps facts asks_medium storage storage' command p blocks blocks' pending pending' same ran =
+    subst (λ x. RanUnwritten keeps facts asks_medium (IsDeniedIn x) command p blocks blocks' pending pending') same ran
+
 pub backed_on : (storage storage' : Option Ledger) → storage' ≡ storage → is_some storage' ≡ true → is_some storage ≡ true
 backed_on storage storage' same is = ap (λ x. is_some x) (sym same) ∙ is
 
@@ -513,13 +520,13 @@ wrote_by o steps f (Ok false) page new old kept otherwise err was =
     fenced_same o steps f (disks.hosted_of old) (disks.hosted_of new) was (otherwise refl)
 wrote_by o steps f (Err e) page new old kept otherwise err was = fenced_same o steps f (disks.hosted_of old) (disks.hosted_of new) was err
 
-pub loaded_by : (o : Opening) (steps : List Step) (f : Option Fence) (r : Result Bool NoMemory) (page : ℕ) (new old : Disk)
-    → IfOk r (λ done. IsTrue done → disks.hosted_of new ≡ option_map (hosted_after (Dealing.Load page)) (disks.hosted_of old))
+pub said_by : (o : Opening) (steps : List Step) (f : Option Fence) (r : Result Bool NoMemory) (d : Dealing) (new old : Disk)
+    → ((s : Storage) → dealt d s ≡ s) → ((p : Progress) → progress_after d p ≡ p)
+    → IfOk r (λ done. IsTrue done → disks.hosted_of new ≡ option_map (hosted_after d) (disks.hosted_of old))
     → IfOk r (λ done. IsFalse done → disks.hosted_of new ≡ disks.hosted_of old) → OnErr r (disks.hosted_of new ≡ disks.hosted_of old)
     → AreFenced o steps f (disks.hosted_of old) → AreFenced o steps f (disks.hosted_of new)
-loaded_by o steps f (Ok true) page new old loaded otherwise err was =
-    fenced_same o steps f _ (disks.hosted_of new)
-    (said_fenced o steps f (Dealing.Load page) (disks.hosted_of old) (λ s. refl) (λ p. refl) was) (loaded refl)
-loaded_by o steps f (Ok false) page new old loaded otherwise err was =
+said_by o steps f (Ok true) d new old same still said otherwise err was =
+    fenced_same o steps f _ (disks.hosted_of new) (said_fenced o steps f d (disks.hosted_of old) same still was) (said refl)
+said_by o steps f (Ok false) d new old same still said otherwise err was =
     fenced_same o steps f (disks.hosted_of old) (disks.hosted_of new) was (otherwise refl)
-loaded_by o steps f (Err e) page new old loaded otherwise err was = fenced_same o steps f (disks.hosted_of old) (disks.hosted_of new) was err
+said_by o steps f (Err e) d new old same still said otherwise err was = fenced_same o steps f (disks.hosted_of old) (disks.hosted_of new) was err

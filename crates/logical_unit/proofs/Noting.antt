@@ -7,7 +7,9 @@ use Rattle.block_store.specs.Blocks.{Blocks, is_within, zero_block}
 use Rattle.command_model.specs.Effects.{given}
 use Rattle.unit_model.specs.Tasks.{Entry, task_of}
 use Rattle.unit_model.specs.Steps.{Step, alive, as_of}
-use Rattle.unit_model.specs.Contents.{Opening, blocks_of, block_with, capacity_of}
+use Rattle.command_model.specs.PlainReply.{PlainReply}
+use Rattle.unit_model.specs.Contents.{Opening, blocks_of, block_with, capacity_of, IsUnwrittenAfter}
+use Rattle.unit_model.proofs.Failing.{unwritten_blocks}
 use Rattle.unit_model.proofs.Past.{as_of-more, as_of-now}
 use Rattle.logical_unit.specs.Inner.Performing.{PlainPerformed, step_for}
 use Rattle.logical_unit.specs.Changes.{PlainChanges, is_in}
@@ -99,6 +101,12 @@ pub recorded_run : (o : Opening) (t : Ticket) (e : Entry) (p : Option PlainPerfo
 recorded_run o t e p past steps' capacity c c' k there n size is =
     recorded_by o (step_for t p) past (λ b. is_some (given e.command e.data_out b (blocks_of o past b))) capacity c c' k (n (blocks_of o past))
     (let same = capacity_ran o t p past in let h = size in omega (arith, same, h)) (leaves_run o t e p past there) steps' is
+
+-- after a flush of what can't be written
+pub recorded_unwritten : (o : Opening) (t : Ticket) (e : Entry) (past steps' : List Step) (page : ℕ) (r : PlainReply) (c : PlainChanges) → AreRecorded o past c
+    → IsUnwrittenAfter o e past page r → steps' ≡ Step.Commit t r ∷ past → AreRecorded o steps' c
+recorded_unwritten o t e past steps' page r c k unwritten is =
+    recorded_on o (Step.Commit t r) past steps' c k (λ b below out. (below, unwritten_blocks o e t past page r b unwritten)) is
 
 -- a unit that grows leaves the blocks that it had
 leaves_resize : (o : Opening) (blocks : ℕ) (past : List Step) → Leaves o (Step.Resize blocks) past (is_within (capacity_of o past) (blocks - capacity_of o past))

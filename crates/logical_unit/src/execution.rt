@@ -9,6 +9,7 @@ ghost use Rattle.task_set.specs.Inner.Tasks.{moved};
 ghost use Rattle.logical_unit.specs.Inner.Performing.{IsKeptReply, performed_of, ran_well, step_for};
 ghost use Rattle.logical_unit.specs.Inner.Outcomes.{outcome_for};
 
+use crate::failing::fail_flush;
 use crate::flushing::has_to_wait;
 use crate::outcomes::{Outcome, Receipt};
 use crate::pages::{PreparedWrite, StartedWrite, pages_for};
@@ -164,6 +165,9 @@ impl UnitState {
     /// task that is marked, and one that may not run, never waits. Nor does a command on a disk that isn't backed, nor one that
     /// needs no block and is no flush.
     ///
+    /// A flush that waits, and a READ that does for what was changed, ends with MEDIUM ERROR where the host can't write a page that
+    /// it flushes.
+    ///
     /// Where the disk is backed, and the unit tells of no volatile write cache (SBC-3 §6.5), or the command asks for the medium
     /// (FUA, SBC-3 §5.33), a command that may change blocks is told of GOOD only once the host's storage has all that was
     /// changed by then: its command ran, and `None` until that is so. The caller tries the job again.
@@ -208,19 +212,41 @@ impl UnitState {
             Turn::Ready => {
                 let unit = self.facts.address;
                 let command = task.command();
+                let asks_medium = task.asks_medium();
+                let keeps = self.log.keeps_replies();
                 if has_to_wait(
                     &mut self.fence,
                     &mut self.store,
-                    task.asks_medium(),
+                    asks_medium,
                     &command,
                     ticket,
                     task.place(),
                 ) {
-                    return None;
+                    let Some(failed) = fail_flush(
+                        self.alloc,
+                        &mut self.facts,
+                        &mut self.attentions,
+                        &mut self.store,
+                        &mut self.fence,
+                        &mut self.oldest,
+                        asks_medium,
+                        &command,
+                        keeps,
+                        ticket,
+                    ) else {
+                        return None;
+                    };
+                    let outcome = record_run(
+                        &mut self.log,
+                        &mut self.tasks,
+                        unit,
+                        ticket,
+                        Some(failed),
+                    );
+                    return Some(outcome);
                 }
                 let bytes = task.data();
                 let pages = pages_for(prepared, task);
-                let keeps = self.log.keeps_replies();
                 let Ok(performed) = perform_if_ready(
                     self.alloc,
                     &mut self.room,

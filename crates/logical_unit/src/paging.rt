@@ -70,8 +70,9 @@ impl UnitState {
     }
 
     /// Notes that the host's write of a page is over: its storage gives the page back as it was given, after a crash too, or
-    /// the write failed, and the page is given again. Returns true if its storage has the page so now: not where no write of
-    /// it was under way. `NoMemory` where memory was refused: the host says it again later.
+    /// the write failed, and the page is given again. One that can't be written is [`UnitState::denied`]. Returns true if its
+    /// storage has the page so now: not where no write of it was under way. `NoMemory` where memory was refused: the host says
+    /// it again later.
     pub fn written(&mut self, page: u64, kept: bool) -> Result<bool, NoMemory>
         ensures told { IfOk result (λ done. IsTrue done → IsTrue kept) }
         ensures may { IfOk result (λ done. IsTrue done → MayDeal self.old (Dealing.Keep page)) }
@@ -80,5 +81,17 @@ impl UnitState {
         ensures err { OnErr result (self.new ≡ self.old) }
     {
         self.store.written(page, kept)
+    }
+
+    /// Notes that the host's storage can't write a page that the host was given. Returns true if a write of it was under way:
+    /// that is over then, and the page is given again. A command that flushes it may be tried again, and ends with MEDIUM
+    /// ERROR. `NoMemory` where memory was refused: the host says it again later.
+    pub fn denied(&mut self, page: u64) -> Result<bool, NoMemory>
+        ensures may { IfOk result (λ done. IsTrue done → MayDeal self.old (Dealing.Deny page)) }
+        ensures denied { IfOk result (λ done. IsTrue done → self.new ≡ dealing (Dealing.Deny page) self.old) }
+        ensures otherwise { IfOk result (λ done. IsFalse done → self.new ≡ self.old) }
+        ensures err { OnErr result (self.new ≡ self.old) }
+    {
+        self.store.denied(page)
     }
 }

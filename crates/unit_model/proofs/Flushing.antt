@@ -21,8 +21,11 @@ replies_flushed : (u : PlainUnit) (e : Entry) (r : PlainReply) (l : Ledger) → 
     → u.storage ≡ Some l → IsFlushed u.opening u.steps l e
 replies_flushed u e r l (inl (is, flushed)) ends flush at =
     subst (λ (o : Option Ledger). IfSome o (λ l. IsFlushed u.opening u.steps l e)) at (flushed ends flush)
-replies_flushed u e r l (inr (p, unread, lost)) ends flush at =
+replies_flushed u e r l (inr (inl (p, unread, lost))) ends flush at =
     let never : 0 ≡ 2 = sym ends ∙ ap (λ (x : PlainReply). x.status) unread.is in
+    absurd (omega (arith, never))
+replies_flushed u e r l (inr (inr (p, unwritten, denied))) ends flush at =
+    let never : 0 ≡ 2 = sym ends ∙ ap (λ (x : PlainReply). x.status) unwritten.is in
     absurd (omega (arith, never))
 
 -- so of the task of a ticket

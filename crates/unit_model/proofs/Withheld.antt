@@ -107,8 +107,11 @@ may_well : (o : Opening) (e : Entry) (past : List Step) (r : PlainReply) → cha
     → MayReply o e past r → r ≡ success e.command []
 may_well o e past r changes ends (inl is) =
     is ∙ well_is (facts_after o past) e.command e.data_out (blocks_of o past) changes (ap (λ (x : PlainReply). x.status) (sym is) ∙ ends)
-may_well o e past r changes ends (inr (p, unread)) =
+may_well o e past r changes ends (inr (inl (p, unread))) =
     let never : 0 ≡ 2 = sym ends ∙ ap (λ (x : PlainReply). x.status) unread.is in
+    absurd (omega (arith, never))
+may_well o e past r changes ends (inr (inr (p, unwritten))) =
+    let never : 0 ≡ 2 = sym ends ∙ ap (λ (x : PlainReply). x.status) unwritten.is in
     absurd (omega (arith, never))
 
 pub same_entry : (x : Option Entry) (d e : Entry) → x ≡ Some d → x ≡ Some e → d ≡ e

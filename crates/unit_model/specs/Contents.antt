@@ -13,7 +13,7 @@ use Rattle.command_model.specs.PlainReply.{PlainReply}
 use Rattle.command_model.specs.Attention.{takes}
 use Rattle.command_model.specs.Effects.{block_after}
 use Rattle.command_model.specs.Facts.{Facts}
-use Rattle.command_model.specs.Failing.{IsUnread}
+use Rattle.command_model.specs.Failing.{IsUnread, IsUnwritten}
 use Rattle.command_model.specs.Replies.{reply_of}
 use Rattle.unit_model.specs.Tasks.{Entry, task_of}
 use Rattle.unit_model.specs.Steps.{Step, alive}
@@ -106,6 +106,11 @@ reply_after o e h = reply_of (facts_after o h) e.command e.data_out (blocks_of o
 abbrev pub IsUnreadAfter : Opening → Entry → List Step → ℕ → PlainReply → Type 0
 IsUnreadAfter o e h p r = IsUnread (facts_after o h) e.command e.data_out p r
 
--- own: either
+-- own: the reply to a task that flushes page p, which can't be written, in place of that reply
+abbrev pub IsUnwrittenAfter : Opening → Entry → List Step → ℕ → PlainReply → Type 0
+IsUnwrittenAfter o e h p r = IsUnwritten (facts_after o h) e.asks_medium e.command p r
+
+-- own: any of these
 abbrev pub MayReply : Opening → Entry → List Step → PlainReply → Type 0
-MayReply o e h r = (r ≡ reply_after o e h) ⊎ ((p : ℕ) × IsUnreadAfter o e h p r)
+MayReply o e h r =
+    (r ≡ reply_after o e h) ⊎ (((p : ℕ) × IsUnreadAfter o e h p r) ⊎ ((p : ℕ) × IsUnwrittenAfter o e h p r))

@@ -1,7 +1,7 @@
 -- A logical unit as a plain value: what it opened with, its history, and the jobs that it holds.
 use Rattle.std.specs.Prelude.{ℕ, ◌≡◌, ◌⊎◌, ◌++◌, ◌==◌, ◌&&◌, ◌||◌, not, Bool, true, min, List, [], ◌∷◌, map, filter, Contains, Option, Some, None, is_some, IfSome, ⊤}
 use Rattle.std.specs.Option.{option_map}
-use Rattle.block_store.specs.Storage.{Ledger, Dealing, IsPageOf, IsLostIn, and_then}
+use Rattle.block_store.specs.Storage.{Ledger, Dealing, IsPageOf, IsLostIn, IsDeniedIn, and_then}
 use Rattle.command_model.specs.PlainReply.{PlainReply}
 use Rattle.command_model.specs.Effects.{changes_medium}
 use Rattle.command_model.specs.Replies.{cache_told}
@@ -12,7 +12,7 @@ use Rattle.unit_model.specs.Tasks.{Entry, task_of}
 use Rattle.unit_model.specs.Steps.{Step, alive}
 use Rattle.unit_model.specs.Enabling.{is_parked}
 use Rattle.unit_model.specs.Released.{released}
-use Rattle.unit_model.specs.Contents.{Opening, blocks_of, capacity_of, facts_after, reply_after, IsUnreadAfter}
+use Rattle.unit_model.specs.Contents.{Opening, blocks_of, capacity_of, facts_after, reply_after, IsUnreadAfter, IsUnwrittenAfter}
 use Rattle.unit_model.specs.Flushing.{IsFlushed, IsThrough}
 use Rattle.unit_model.specs.Lawful.{May, IsLawful, IsReady}
 use Rattle.unit_model.specs.Jobs.{PlainJob, Jobs, of_tasks, but_tasks}
@@ -56,16 +56,22 @@ waits_behind u e status = is_backed u && (needs_medium u e && (changes_medium e.
 abbrev pub HasLost : PlainUnit → ℕ → Type 0
 HasLost u p = IsLostIn u.storage p
 
+-- own: the host's last word of writing page p of the unit's disk is that it can't
+abbrev pub HasDenied : PlainUnit → ℕ → Type 0
+HasDenied u p = IsDeniedIn u.storage p
+
 -- a flush ends with GOOD only where a crash at that moment leaves what the unit had once the flush might run, or later; a READ of
 -- the medium itself where it leaves what the READ reads
 abbrev pub Flushes : PlainUnit → Entry → PlainReply → Type 0
 Flushes u e r = r.status ≡ good → flushes e.asks_medium e.command ≡ true → IfSome u.storage (λ l. IsFlushed u.opening u.steps l e)
 
 -- own: the command of a task, which runs next at the unit, may be replied to so: as the history says, or since it needs a
--- page that the host can't read
+-- page that the host can't read, or flushes one that the host can't write
 abbrev pub Replies : PlainUnit → Entry → PlainReply → Type 0
 Replies u e r =
-    ((r ≡ reply_after u.opening e u.steps) × Flushes u e r) ⊎ ((p : ℕ) × IsUnreadAfter u.opening e u.steps p r × HasLost u p)
+    ((r ≡ reply_after u.opening e u.steps) × Flushes u e r)
+    ⊎ (((p : ℕ) × IsUnreadAfter u.opening e u.steps p r × HasLost u p)
+    ⊎ ((p : ℕ) × IsUnwrittenAfter u.opening e u.steps p r × HasDenied u p))
 
 -- own: a command whose answer waits is answered at once only where whatever a crash leaves has all that it changed
 abbrev pub EndsAtOnce : PlainUnit → Ticket → Entry → PlainReply → Type 0
@@ -130,12 +136,13 @@ tasks_of_jobs jobs = map (λ (j : PlainJob). j.entry) jobs
 abbrev pub dealing : Dealing → PlainUnit → PlainUnit
 dealing d u = record u { storage = option_map (and_then d) u.storage }
 
--- own: the host is given what the unit's blocks are, and says itself what it kept, what it can't read and what it read; a
--- Resize cuts the storage off
+-- own: the host is given what the unit's blocks are, and says itself what it kept, what it can't read or write, and what it
+-- read; a Resize cuts the storage off
 abbrev pub IsAsItIs : PlainUnit → Dealing → Type 0
 IsAsItIs u (Dealing.Give page bytes) = IsPageOf (blocks_of u.opening u.steps) page bytes
 IsAsItIs u (Dealing.Keep page) = ⊤
 IsAsItIs u (Dealing.Lose page) = ⊤
+IsAsItIs u (Dealing.Deny page) = ⊤
 IsAsItIs u (Dealing.Load page) = ⊤
 IsAsItIs u (Dealing.Cut blocks) = ⊥
 

@@ -12,7 +12,7 @@ use Rattle.unit_attention.specs.Pending.{without_first}
 use Rattle.unit_attention.specs.declared.code.Code.{Code}
 use Rattle.command_model.specs.Effects.{block_after}
 use Rattle.command_model.specs.Facts.{Facts}
-use Rattle.command_model.specs.Failing.{IsUnread}
+use Rattle.command_model.specs.Failing.{IsUnread, IsUnwritten}
 use Rattle.command_model.specs.Replies.{reply_of}
 use Rattle.command_model.specs.Statuses.{good}
 use Rattle.ring_core.specs.declared.log.Ticket.{Ticket}
@@ -66,6 +66,16 @@ pub record RanUnread (keeps : Bool) (facts : Facts) (lost : ℕ → Type 0) (com
   pub page : ℕ
   pub unread : IsUnread facts command bytes page p.reply
   pub is_lost : lost page
+  pub kept : p.kept ≡ kept_reply keeps p.reply
+  pub stored : (b : ℕ) → blocks' b ≡ blocks b
+  pub pends : pending' ≡ taken command pending
+
+-- own: the command flushes a page that is denied: its reply, and no block changed
+pub record RanUnwritten (keeps : Bool) (facts : Facts) (asks_medium : Bool) (denied : ℕ → Type 0) (command : Command) (p : PlainPerformed)
+    (blocks blocks' : Blocks) (pending pending' : List Code) : Type 0 where
+  pub page : ℕ
+  pub unwritten : IsUnwritten facts asks_medium command page p.reply
+  pub is_denied : denied page
   pub kept : p.kept ≡ kept_reply keeps p.reply
   pub stored : (b : ℕ) → blocks' b ≡ blocks b
   pub pends : pending' ≡ taken command pending

@@ -1,4 +1,4 @@
-use Rattle.device_model.proofs.Storing.{given_stays, kept_stays, unkept_stays, lost_stays, lost_then, loaded_then, kept_then, deals_alone}
+use Rattle.device_model.proofs.Storing.{given_stays, kept_stays, unkept_stays, lost_stays, lost_then, loaded_then, kept_then, denied_stays, denied_then, written_then, deals_alone}
 use Rattle.device_model.proofs.storage_laws.a_storage_changes_by_its_host.Goals as goal
 
 pub returns-clause-given : goal.returns-clause-given
@@ -24,3 +24,12 @@ returns-clause-read c = loaded_then
 
 pub returns-clause-written : goal.returns-clause-written
 returns-clause-written c = kept_then
+
+pub returns-clause-denied : goal.returns-clause-denied
+returns-clause-denied c = λ w d unit_index p u v. denied_stays d w unit_index p u v
+
+pub returns-clause-unwritten : goal.returns-clause-unwritten
+returns-clause-unwritten c = denied_then
+
+pub returns-clause-rewritten : goal.returns-clause-rewritten
+returns-clause-rewritten c = written_then

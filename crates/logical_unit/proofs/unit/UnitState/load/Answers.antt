@@ -1,6 +1,7 @@
-use Rattle.std.proofs.Common.{◌∙◌}
+use Rattle.std.proofs.Common.{refl, ◌∙◌}
+use Rattle.block_store.specs.Storage.{Dealing}
 use Rattle.logical_unit.specs.Fields.{opening_of}
-use Rattle.logical_unit.proofs.Durable.{kept_each, loaded_by}
+use Rattle.logical_unit.proofs.Durable.{kept_each, said_by}
 use Rattle.logical_unit.proofs.unit.UnitState.load.Goals as goal
 
 pub invariant_of-self : goal.invariant_of-self
@@ -12,6 +13,6 @@ invariant_of-self c =
       sized = c.load.ensures.size ∙ c.self.invariant.sized;
       noted = c.self.invariant.noted;
       flushing =
-          loaded_by (opening_of u) u.log.steps u.fence c.load.result c.args.page c.load.new.self u.store c.load.ensures.loaded
-          c.load.ensures.otherwise c.load.ensures.err c.self.invariant.flushing;
+          said_by (opening_of u) u.log.steps u.fence c.load.result (Dealing.Load c.args.page) c.load.new.self u.store (λ s. refl) (λ p. refl)
+          c.load.ensures.loaded c.load.ensures.otherwise c.load.ensures.err c.self.invariant.flushing;
     }

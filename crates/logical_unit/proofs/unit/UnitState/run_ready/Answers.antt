@@ -1,9 +1,9 @@
-use Rattle.std.proofs.Common.{◌≡◌, true, false, IfSome, ap, sym, subst, ◌∙◌, refl}
+use Rattle.std.proofs.Common.{◌≡◌, true, false, Some, IfSome, ap, sym, subst, ◌∙◌, refl}
 use Rattle.unit_model.specs.Seen.{finished}
 use Rattle.logical_unit.specs.Inner.Parts.{AreBehind}
 use Rattle.logical_unit.proofs.Basing.{based_on, behind_moved, ran_folds, ran_sized}
 use Rattle.std.specs.Option.{option_copied, option_map}
-use Rattle.block_store.specs.Storage.{IsLostIn}
+use Rattle.block_store.specs.Storage.{IsLostIn, IsDeniedIn}
 use Rattle.backed_store.specs.Disks as disks
 use Rattle.block_commands.specs.Inner.Told.{facts_of}
 use Rattle.command_model.specs.Waiting.{needs}
@@ -12,11 +12,12 @@ use Rattle.logical_unit.specs.Inner.Flushes.{fence_of}
 use Rattle.logical_unit.specs.Inner.Performing.{performed_of, ran_well, told, step_for}
 use Rattle.task_set.specs.Inner.Tasks.{task_at, seen_of}
 use Rattle.logical_unit.proofs.Keeping.{has_room, is_ready, told_is, task_at_alive}
-use Rattle.logical_unit.proofs.Committing.{cannot_none, cannot_turn, is_of, is_aborted, keep_run, commits_run, waits_for, or-left, or-right}
-use Rattle.logical_unit.proofs.Noting.{recorded_run}
+use Rattle.logical_unit.proofs.Committing.{cannot_none, cannot_turn, is_of, is_aborted, keep_run, commits_run, keep_unwritten, commits_unwritten, waits_for, or-left, or-right}
+use Rattle.command_model.specs.Failing.{IsUnwritten}
+use Rattle.logical_unit.proofs.Noting.{recorded_run, recorded_unwritten}
 use Rattle.unit_model.specs.Flushing.{IsFlushed}
 use Rattle.logical_unit.proofs.Flushed.{flushed}
-use Rattle.logical_unit.proofs.Durable.{fenced_more, fenced_same, hosted_ledger, over_durable, stands_at, may_begin, kept_on, came_on, backed_on}
+use Rattle.logical_unit.proofs.Durable.{fenced_more, fenced_same, hosted_ledger, over_durable, stands_at, may_begin, kept_on, came_on, unwritten_on, backed_on, fenced_without}
 use Rattle.logical_unit.proofs.unit.UnitState.run_ready.Goals as goal
 
 pub returns-in_default-clause-step : goal.returns-in_default-clause-step
@@ -35,15 +36,92 @@ invariant_of-self c =
     let turn = c.in-Ready.ensures in
     let begins = may_begin c.self.invariant.kept c.ticket-ticket.result c.in-Some.task.now _ at c.place.ensures
     (is_ready c.self.invariant.kept c.ticket-ticket.result c.in-Some.task.now at turn.1 turn.2 turn.3) in
+    let e = c.in_default-fail_flush.ensures in
     record {
-      kept = kept_on (opening_of u) u.log.steps _ _ u.attentions u.tasks u.last_tickets u.log.room c.self.invariant.kept c.has_to_wait.ensures.blocks;
+      kept =
+          rw (c.fail_flush.ensures.facts, e.pends)
+          (kept_on (opening_of u) u.log.steps _ _ u.attentions u.tasks u.last_tickets u.log.room c.self.invariant.kept
+          (ap (λ d. disks.blocks_of d) e.otherwise ∙ c.has_to_wait.ensures.blocks));
       based = c.self.invariant.based;
-      sized = c.has_to_wait.ensures.size ∙ c.self.invariant.sized;
-      noted = c.self.invariant.noted;
+      sized = rw (c.fail_flush.ensures.facts) (c.fail_flush.ensures.size ∙ c.has_to_wait.ensures.size ∙ c.self.invariant.sized);
+      noted = rw (c.fail_flush.ensures.facts) c.self.invariant.noted;
       flushing =
-          c.has_to_wait.ensures.fenced (opening_of u) u.log.steps begins c.self.invariant.kept.stored
-          c.self.invariant.flushing;
+          rw (c.fail_flush.ensures.facts, e.waits)
+          (fenced_same (opening_of u) u.log.steps _ _ _
+          (c.has_to_wait.ensures.fenced (opening_of u) u.log.steps begins c.self.invariant.kept.stored
+          c.self.invariant.flushing)
+          c.fail_flush.ensures.storage);
     }
+
+pub record_run-outcome-requires-clause-room : goal.record_run-outcome-requires-clause-room
+record_run-outcome-requires-clause-room c =
+    has_room c.self.invariant.kept c.ticket-ticket.result c.in-Some.task.now (sym c.task.ensures ∙ ap option_copied c.in-Some.is)
+
+pub invariant_of-self-then-has_to_wait : goal.invariant_of-self-then-has_to_wait
+invariant_of-self-then-has_to_wait c =
+    let at = sym c.task.ensures ∙ ap option_copied c.in-Some.is in
+    let turns = c.in-Ready.ensures in
+    let n = c.self.inside.log.forgotten in
+    let u = c.self.inside in
+    let store = c.has_to_wait.new.disk in
+    let p = performed_of c.in-Some-fail_flush.failed in
+    let kept = kept_on (opening_of u) u.log.steps _ _ u.attentions u.tasks u.last_tickets u.log.room c.self.invariant.kept c.has_to_wait.ensures.blocks in
+    let sized = c.has_to_wait.ensures.size ∙ c.self.invariant.sized in
+    let begins = may_begin c.self.invariant.kept c.ticket-ticket.result c.in-Some.task.now _ at c.place.ensures
+    (is_ready c.self.invariant.kept c.ticket-ticket.result c.in-Some.task.now at turns.1 turns.2 turns.3) in
+    let told_so = told_is kept c.self.inside.facts (disks.size_of store) refl refl refl refl refl refl sized in
+    let ran = rw (c.command-command.ensures, c.asks_medium-asks_medium.ensures) at c.in-Some-fail_flush.ensures.failed in
+    record {
+      kept =
+          rw (c.record_run-outcome.ensures.tasks, c.record_run-outcome.ensures.steps, c.fail_flush.ensures.facts)
+          (keep_unwritten kept c.ticket-ticket.result c.in-Some.task.now.seen.entry c.keeps_replies-keeps.result
+          (facts_of (told c.self.inside.facts c.self.inside.attentions) (disks.size_of store)) (IsDeniedIn (disks.storage_of store)) p _ _ _
+          (is_ready kept c.ticket-ticket.result c.in-Some.task.now at turns.1 turns.2 turns.3) told_so ran c.record_run-outcome.ensures.room);
+      based =
+          based_on _ _ n _ (step_for c.ticket-ticket.result (Some p)) c.self.inside.log.steps _ (seen_of c.self.inside.tasks) _ c.self.invariant.based (ran_folds c.ticket-ticket.result (Some p))
+          c.record_run-outcome.ensures.base c.record_run-outcome.ensures.forgotten c.record_run-outcome.ensures.steps
+          (λ b. subst (λ ts. AreBehind n (seen_of ts)) (sym c.record_run-outcome.ensures.tasks) (behind_moved (finished c.ticket-ticket.result (ran_well (Some p))) n c.self.inside.tasks (λ s. refl) b));
+      sized = c.fail_flush.ensures.size ∙ sized ∙ sym (ran_sized (opening_of c.self.inside) c.ticket-ticket.result (Some p) c.self.inside.log.steps _ c.record_run-outcome.ensures.steps);
+      noted =
+          rw (c.fail_flush.ensures.facts)
+          (recorded_unwritten (opening_of c.self.inside) c.ticket-ticket.result c.in-Some.task.now.seen.entry c.self.inside.log.steps _ ran.page p.reply _ c.self.invariant.noted
+          (subst (λ f. IsUnwritten f c.in-Some.task.now.seen.entry.asks_medium c.in-Some.task.now.seen.entry.command ran.page p.reply) told_so ran.unwritten)
+          c.record_run-outcome.ensures.steps);
+      flushing =
+          rw (c.fail_flush.ensures.facts, c.in-Some-fail_flush.ensures.over)
+          (fenced_more _ (step_for c.ticket-ticket.result (Some p)) u.log.steps _ _ _
+          (fenced_same _ _ _ _ _
+          (fenced_without (opening_of u) u.log.steps _ c.ticket-ticket.result _
+          (c.has_to_wait.ensures.fenced (opening_of u) u.log.steps begins c.self.invariant.kept.stored c.self.invariant.flushing))
+          c.fail_flush.ensures.storage) c.record_run-outcome.ensures.steps);
+    }
+
+pub returns-then-has_to_wait-clause-step : goal.returns-then-has_to_wait-clause-step
+returns-then-has_to_wait-clause-step c =
+    let at = ap (λ t. task_at t c.self.inside.tasks) (sym c.ticket-ticket.ensures.entry) ∙ sym c.task.ensures ∙ ap option_copied c.in-Some.is in
+    let turns = c.in-Ready.ensures in
+    let u = c.self.inside in
+    let store = c.has_to_wait.new.disk in
+    let p = performed_of c.in-Some-fail_flush.failed in
+    let kept = kept_on (opening_of u) u.log.steps _ _ u.attentions u.tasks u.last_tickets u.log.room c.self.invariant.kept c.has_to_wait.ensures.blocks in
+    let keeps : c.self.inside.log.keeps ≡ c.keeps_replies-keeps.result = sym c.keeps_replies-keeps.ensures in
+    rw (
+      ← c.self.view_is,
+      c.record_run-outcome.ensures.outcome,
+      c.record_run-outcome.ensures.tasks,
+      c.record_run-outcome.ensures.steps,
+      c.record_run-outcome.ensures.keeps,
+      c.fail_flush.ensures.facts,
+      c.ticket-ticket.ensures.entry,
+    )
+    (commits_unwritten kept c.args.job.now c.in-Some.task.now.seen.entry c.self.inside.log.keeps _ _
+    (facts_of (told c.self.inside.facts c.self.inside.attentions) (disks.size_of store)) p
+    (disks.blocks_of c.fail_flush.new.store) c.fail_flush.new.attentions (hosted_ledger _ store c.fail_flush.ensures.storage ∙ c.has_to_wait.ensures.storage)
+    (is_of kept c.args.job.now c.in-Some.task.now at turns.0)
+    (is_ready kept c.args.job.now.entry.ticket c.in-Some.task.now at turns.1 turns.2 turns.3)
+    (told_is kept c.self.inside.facts (disks.size_of store) refl refl refl refl refl refl (c.has_to_wait.ensures.size ∙ c.self.invariant.sized))
+    (unwritten_on _ _ _ _ _ _ _ _ _ _ _ c.has_to_wait.ensures.storage
+    (rw keeps (rw (c.command-command.ensures, c.asks_medium-asks_medium.ensures) at c.in-Some-fail_flush.ensures.failed))))
 
 pub invariant_of-self-in_default-perform_if_ready : goal.invariant_of-self-in_default-perform_if_ready
 invariant_of-self-in_default-perform_if_ready c =
@@ -164,7 +242,7 @@ returns-in-Ok-clause-step c =
     over_durable (opening_of u) u.log.steps (fence_of c.ticket-ticket.result _ false) e store refl stands.entered
     (c.has_to_wait.ensures.since (opening_of u) u.log.steps begins c.self.invariant.kept.stored c.self.invariant.flushing c.if-has_to_wait.false is)
     (c.has_to_wait.ensures.over c.if-has_to_wait.false is))
-    (rw (c.command-command.ensures, c.asks_medium.ensures) at c.has_to_wait.ensures.read c.if-has_to_wait.false)
+    (rw (c.command-command.ensures, c.asks_medium-asks_medium.ensures) at c.has_to_wait.ensures.read c.if-has_to_wait.false)
     flush)))
 
 pub returns-in_default-perform_if_ready-clause-waits : goal.returns-in_default-perform_if_ready-clause-waits
@@ -177,10 +255,11 @@ returns-in_default-perform_if_ready-clause-waits c =
     (backed_on _ _ c.has_to_wait.ensures.storage c.in_default-perform_if_ready.ensures.backed) (or-left _ _ (rw (c.has_to_wait.ensures.size ∙ c.self.invariant.sized) at needed))
     (hosted_ledger _ c.has_to_wait.new.disk c.perform_if_ready.ensures.storage ∙ c.has_to_wait.ensures.storage))
 
-pub returns-then-has_to_wait-clause-waits : goal.returns-then-has_to_wait-clause-waits
-returns-then-has_to_wait-clause-waits c =
+pub returns-in_default-fail_flush-clause-waits : goal.returns-in_default-fail_flush-clause-waits
+returns-in_default-fail_flush-clause-waits c =
     let at = ap (λ t. task_at t c.self.inside.tasks) (sym c.ticket-ticket.ensures.entry) ∙ sym c.task.ensures ∙ ap option_copied c.in-Some.is in
-    let flush = rw (c.command-command.ensures, c.asks_medium.ensures) at c.has_to_wait.ensures.flush c.if-has_to_wait.true in
-    rw (← c.self.view_is)
+    let flush = rw (c.command-command.ensures, c.asks_medium-asks_medium.ensures) at c.has_to_wait.ensures.flush c.if-has_to_wait.true in
+    rw (← c.self.view_is, c.fail_flush.ensures.facts)
     (waits_for c.self.invariant.kept c.args.job.now c.in-Some.task.now _ _ _ at c.in-Ready.ensures
-    (c.has_to_wait.ensures.backed c.if-has_to_wait.true) (or-right _ _ flush) c.has_to_wait.ensures.storage)
+    (c.has_to_wait.ensures.backed c.if-has_to_wait.true) (or-right _ _ flush)
+    (hosted_ledger _ c.has_to_wait.new.disk c.fail_flush.ensures.storage ∙ c.has_to_wait.ensures.storage))
