@@ -277,7 +277,8 @@ static RARE void tell(struct disk *disk) {
   uint64_t now = clock_now();
   bool is_due = !disk->told || now - disk->told >= COMPLAINT;
   if (disk->error && is_due) {
-    log_say(LOG_ERROR, disk, "can't be written, and is tried again: %s", strerror(disk->error));
+    const char *whom = disk->reports_unwritten ? ", which its guest is told" : "";
+    log_say(LOG_ERROR, disk, "can't be written%s, and is tried again: %s", whom, strerror(disk->error));
     disk->told = now;
   } else if (disk->told && !disk->error && !disk->backlog.count) {
     log_say(LOG_ERROR, disk, "can be written again");

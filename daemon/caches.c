@@ -10,9 +10,9 @@
 // Blocks of a page, and of the memory that a backed disk has where no word says how much.
 enum { PAGE_BLOCKS = PAGE_BYTES / DEVICE_BLOCK, USUAL_BLOCKS = (64 << 20) / DEVICE_BLOCK };
 
-static const char *const words[] = {"write-cache=", "cache-size=", "direct=", "rerror="};
-static const char *const values[] = {"on or off", "a size", "on or off", "report or stop"};
-enum { WRITE_CACHE, CACHE_SIZE, DIRECT, READ_ERROR, WORDS };
+static const char *const words[] = {"write-cache=", "cache-size=", "direct=", "rerror=", "werror="};
+static const char *const values[] = {"on or off", "a size", "on or off", "report or stop", "report or stop"};
+enum { WRITE_CACHE, CACHE_SIZE, DIRECT, READ_ERROR, WRITE_ERROR, WORDS };
 
 static bool is_word(const char *text, size_t length, const char *word) { return length == strlen(word) && !strncmp(text, word, length); }
 
@@ -36,10 +36,11 @@ enum cached caches_take(struct disk *disk, const char *word, size_t length, char
   if (which == WORDS) return CACHED_NOT;
   const char *text = word + strlen(words[which]);
   size_t left = length - strlen(words[which]);
-  bool taken = which == WRITE_CACHE  ? take_one(text, left, "on", "off", &disk->has_cache, &disk->is_cached)
-               : which == DIRECT     ? take_one(text, left, "on", "off", &disk->has_direct, &disk->is_direct)
-               : which == READ_ERROR ? take_one(text, left, "stop", "report", &disk->has_read_error, &disk->stops_unread)
-                                     : take_size(text, left, &disk->cache_blocks);
+  bool taken = which == WRITE_CACHE   ? take_one(text, left, "on", "off", &disk->has_cache, &disk->is_cached)
+               : which == DIRECT      ? take_one(text, left, "on", "off", &disk->has_direct, &disk->is_direct)
+               : which == READ_ERROR  ? take_one(text, left, "stop", "report", &disk->has_read_error, &disk->stops_unread)
+               : which == WRITE_ERROR ? take_one(text, left, "report", "stop", &disk->has_write_error, &disk->reports_unwritten)
+                                      : take_size(text, left, &disk->cache_blocks);
   if (taken) return CACHED_WELL;
   snprintf(why, room, "%s wants %s, once", words[which], values[which]);
   return CACHED_WRONGLY;
@@ -61,6 +62,7 @@ static const char *server_fault_of(const struct disk *disk) {
 static const char *fault_of(const struct disk *disk) {
   if (!disk->is_rbd && (disk->rbd_conf || disk->rbd_user)) return "rbd-conf= and rbd-user= want rbd=IMAGE";
   if (!disk->is_backed && disk->has_read_error) return "rerror= wants write-cache=on or cache-size=";
+  if (!disk->is_backed && disk->has_write_error) return "werror= wants write-cache=on or cache-size=";
   if (!disk->is_backed) return disk->is_direct ? "direct=on wants write-cache=on or cache-size=" : NULL;
   if (disk->is_cached && !disk->wide) return "write-cache=on wants profile=wide";
   return caches_pages(disk) < VSCSI_LEAST_PAGES ? "cache-size= is 33M at least" : NULL;

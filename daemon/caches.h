@@ -6,8 +6,8 @@
 
 enum cached { CACHED_NOT, CACHED_WELL, CACHED_WRONGLY };
 
-// Takes one word of a disk, of so many characters: write-cache=, cache-size= or direct=. Returns CACHED_NOT where it is none of these, and
-// CACHED_WRONGLY, and says why, where its value isn't one, or it was there already.
+// Takes one word of a disk, of so many characters: write-cache=, cache-size=, direct=, rerror= or werror=. Returns CACHED_NOT where it is
+// none of these, and CACHED_WRONGLY, and says why, where its value isn't one, or it was there already.
 enum cached caches_take(struct disk *disk, const char *word, size_t length, char *why, size_t room);
 
 // Returns whether these words go with the others of the disk, and with how the daemon is built. Says why where they don't. A disk on an NBD

@@ -130,7 +130,7 @@ static bool take_disk(struct disk *disk, const char *at, char *why, size_t room)
   uint64_t target, lun;
   snprintf(why, room,
            "%s: not T:L=SIZE[,file=PATH|,nbd=URI|,rbd=IMAGE][,rbd-conf=PATH][,rbd-user=NAME][,grow][,snapshot][,detect-zeroes=unmap]"
-           "[,write-cache=on|off][,cache-size=SIZE][,direct=on][,rerror=stop][,read-only=on][,profile=narrow|wide][,NAMES], "
+           "[,write-cache=on|off][,cache-size=SIZE][,direct=on][,rerror=stop][,werror=report][,read-only=on][,profile=narrow|wide][,NAMES], "
            "T:L=file=PATH[,..], T:L=nbd=URI[,..] or T:L=rbd=IMAGE[,..]",
            at);
   if (!number(&at, 255, ':', &target) || !number(&at, 16383, '=', &lun)) return false;

@@ -55,6 +55,8 @@ struct disk {
   bool is_direct;   // it is
   bool has_read_error;  // its words say what becomes of a command that needs what can't be read
   bool stops_unread;    // it waits until that can be read; else it ends with MEDIUM ERROR
+  bool has_write_error;    // its words say what becomes of a flush of what can't be written
+  bool reports_unwritten;  // it ends with MEDIUM ERROR; else it waits until that can be written
   struct paging *paging;  // of a backed disk, or NULL
   bool dirty;       // written since disk_sync
   int error;        // the error number by which the image can't be written now, or 0
@@ -81,8 +83,8 @@ struct disks {
 };
 
 // Adds the disk of words T:L=SIZE[,file=PATH|,nbd=URI|,rbd=IMAGE][,rbd-conf=PATH][,rbd-user=NAME][,grow][,snapshot][,detect-zeroes=unmap]
-// [,write-cache=on|off][,cache-size=SIZE][,direct=on|off][,rerror=report|stop][,read-only=on|off][,profile=narrow|wide][,NAMES],
-// T:L=file=PATH[,..], T:L=nbd=URI[,..] or T:L=rbd=IMAGE[,..], in its place of the order. A comma of a path, a URI or an image stands there
+// [,write-cache=on|off][,cache-size=SIZE][,direct=on|off][,rerror=report|stop][,werror=report|stop][,read-only=on|off]
+// [,profile=narrow|wide][,NAMES], T:L=file=PATH[,..], T:L=nbd=URI[,..] or T:L=rbd=IMAGE[,..], in its place of the order. A comma of a path, a URI or an image stands there
 // twice. Opens nothing: images_open does that. Returns false, and says why, where the words name no disk.
 bool disks_add(struct disks *disks, const char *words, char *why, size_t room);
 

@@ -127,3 +127,7 @@ enum given device_give(struct device *device, uint8_t target, uint16_t lun, uint
 bool device_written(struct device *device, uint8_t target, uint16_t lun, uint64_t page, bool kept) {
   return vscsi_live_written(&device->vscsi, target, lun, page, kept) != VSCSI_NO_MEMORY;
 }
+
+bool device_denied(struct device *device, uint8_t target, uint16_t lun, uint64_t page) {
+  return vscsi_live_denied(&device->vscsi, target, lun, page) != VSCSI_NO_MEMORY;
+}

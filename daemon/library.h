@@ -99,11 +99,12 @@ bool device_load(struct device *device, uint8_t target, uint16_t lun, uint64_t p
 void device_load_failed(struct device *device, uint8_t target, uint16_t lun, uint64_t page);
 void device_lost(struct device *device, uint8_t target, uint16_t lun, uint64_t page);
 
-// Finds the next page that is to be written, and copies its bytes out, if memory isn't refused; and says whether one that was given is kept.
-// device_written returns false where memory was refused.
+// Finds the next page that is to be written, and copies its bytes out, if memory isn't refused; and says whether one that was given is
+// kept, or that it can't be written, which ends a flush of it. The last two return false where memory was refused.
 enum given { GIVEN_NONE, GIVEN_PAGE, GIVEN_REFUSED };
 enum given device_give(struct device *device, uint8_t target, uint16_t lun, uint64_t *page, void *bytes);
 bool device_written(struct device *device, uint8_t target, uint16_t lun, uint64_t page, bool kept);
+bool device_denied(struct device *device, uint8_t target, uint16_t lun, uint64_t page);
 
 // Has commands that wait tried again by the next device_serve. Returns how many these are.
 static inline uint64_t device_wake(struct device *device) {

@@ -26,7 +26,7 @@
 
 static const char usage[] =
     "vscsi-vhost-user --socket PATH|--fd N --disk T:L=SIZE[,file=PATH|,nbd=URI|,rbd=IMAGE][,rbd-conf=PATH][,rbd-user=NAME][,grow][,snapshot]"
-    "[,detect-zeroes=unmap][,write-cache=on|off][,cache-size=SIZE][,direct=on][,rerror=stop][,read-only=on][,profile=narrow|wide][,NAMES] ..\n"
+    "[,detect-zeroes=unmap][,write-cache=on|off][,cache-size=SIZE][,direct=on][,rerror=stop][,werror=report][,read-only=on][,profile=narrow|wide][,NAMES] ..\n"
     "A virtio SCSI device for a vhost-user front end.\n"
     "\n"
     "  --socket PATH        listen there (also --socket-path)\n"
@@ -49,6 +49,7 @@ static const char usage[] =
     "                       have that cluster's configuration from this file, and be this user there: admin is the default\n"
     "      direct=on        read and write it with no cache of the system's (O_DIRECT)\n"
     "      rerror=stop      have a command that needs what can't be read wait, in place of rerror=report: MEDIUM ERROR\n"
+    "      werror=report    have a flush of what can't be written end with MEDIUM ERROR, in place of werror=stop: wait\n"
     "      read-only=on     refuse what the guest would write, and open the file for reading alone\n"
     "      profile=narrow   know the commands of the narrow profile alone, in place of profile=wide\n"
     "      serial=TEXT, naa=HEX, vendor=TEXT, product=TEXT, revision=TEXT, physical-block-exp=N, rotation-rate=N,\n"

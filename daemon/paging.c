@@ -118,6 +118,12 @@ static RARE void put_writes_off(struct disk *disk, int error) {
   disk->due = clock_now() + disk->pause;
 }
 
+// Returns what becomes of pages that couldn't be written, or synced. A server refuses none where its connection was lost by then.
+static RARE enum run_state refused(const struct disk *disk) {
+  bool is_cut = disk->server && (is_away(disk) || disk->paging->losses != server_losses(disk->server));
+  return disk->reports_unwritten && !is_cut ? RUN_DENIED : RUN_FAILED;
+}
+
 // Notes pages that were written, or that couldn't be.
 static void note_run(struct paging *paging, const struct transfer *transfer, enum run_state state) {
   paging->runs[paging->run_count++] = (struct run){transfer->first, transfer->count, state};
@@ -180,13 +186,13 @@ static void finish_read(struct disk *disk, struct device *device, const struct t
 static void finish_sync(struct disks *disks, struct disk *disk, int error) {
   struct paging *paging = disk->paging;
   paging->syncs = false;
-  change_runs(paging, RUN_COVERED, error ? RUN_FAILED : RUN_KEPT);
+  change_runs(paging, RUN_COVERED, error ? refused(disk) : RUN_KEPT);
   paging->counts.syncs += !error;
   if (!error) {
     if (!paging->fails && !paging->writes) disk->error = 0, disk->pause = 0;
     return;
   }
-  change_runs(paging, RUN_WRITTEN, RUN_FAILED);
+  change_runs(paging, RUN_WRITTEN, refused(disk));
   for (enum transfer_kind kind = TRANSFER_WRITE; kind <= TRANSFER_HOLE; kind++)
     for (struct transfer *it = storage_under_way(disks->storage, kind); it; it = it->next)
       if (&disks->disks[it->disk] == disk) it->doubtful = true;
@@ -206,16 +212,19 @@ static bool finish(struct disks *disks, struct device *device, struct transfer *
   if (transfer->kind == TRANSFER_AHEAD) return finish_ahead(paging, device, transfer, error), true;
   if (transfer->kind == TRANSFER_SYNC) return finish_sync(disks, disk, error), true;
   paging->writes--;
-  note_run(paging, transfer, error || transfer->doubtful ? RUN_FAILED : RUN_WRITTEN);
+  note_run(paging, transfer, error || transfer->doubtful ? refused(disk) : RUN_WRITTEN);
   if (error) put_writes_off(disk, error);
   return true;
 }
 
 // Tells the device of the pages of a run. Returns false where memory was refused: the run has those that are left then.
 static bool say_run(struct paging *paging, struct device *device, struct run *run) {
+  bool is_kept = run->state == RUN_KEPT, is_denied = run->state == RUN_DENIED;
   for (; run->count; run->first++, run->count--) {
-    if (!device_written(device, paging->target, paging->lun, run->first, run->state == RUN_KEPT)) return !(paging->starves = true);
-    ++*(run->state == RUN_KEPT ? &paging->counts.kept : &paging->counts.failed);
+    bool is_told = is_denied ? device_denied(device, paging->target, paging->lun, run->first)
+                             : device_written(device, paging->target, paging->lun, run->first, is_kept);
+    if (!is_told) return !(paging->starves = true);
+    ++*(is_kept ? &paging->counts.kept : &paging->counts.failed);
   }
   return true;
 }
@@ -225,7 +234,7 @@ static void say_runs(struct paging *paging, struct device *device) {
   size_t left = 0;
   for (size_t i = 0; i < paging->run_count; i++) {
     struct run run = paging->runs[i];
-    bool is_known = run.state == RUN_KEPT || run.state == RUN_FAILED;
+    bool is_known = run.state != RUN_WRITTEN && run.state != RUN_COVERED;
     if (!is_known || !say_run(paging, device, &run)) paging->runs[left++] = run;
   }
   paging->run_count = left;

@@ -21,11 +21,11 @@ struct trouble {
 };
 
 // Pages that follow one another and were written: whether that stands on the file isn't known yet, or a sync that is under way says it, or
-// it does or doesn't, and the device is to be told.
+// it does or doesn't, and the device is to be told. RUN_DENIED doesn't, and a flush of the guest's is to end by that.
 struct run {
   uint64_t first;
   uint32_t count;
-  enum run_state { RUN_WRITTEN, RUN_COVERED, RUN_KEPT, RUN_FAILED } state;
+  enum run_state { RUN_WRITTEN, RUN_COVERED, RUN_KEPT, RUN_FAILED, RUN_DENIED } state;
 };
 
 enum { MOST_RUNS = 4096 };

@@ -723,6 +723,8 @@ static void no_storage(void) {
   IS(vscsi_live_give(&device, 0, 0, &n, bytes, &found), VSCSI_NO_DEVICE);
   IS(vscsi_live_written(0, 0, 0, 0, true), VSCSI_NULL);
   IS(vscsi_live_written(&device, 0, 0, 0, true), VSCSI_NO_DEVICE);
+  IS(vscsi_live_denied(0, 0, 0, 0), VSCSI_NULL);
+  IS(vscsi_live_denied(&device, 0, 0, 0), VSCSI_NO_DEVICE);
   IS(vscsi_live_wake(0, &n), VSCSI_NULL);
   IS(vscsi_live_wake(&device, 0), VSCSI_NO_DEVICE);
   IS(vscsi_live_wake(&device, &n), VSCSI_NO_DEVICE);
@@ -749,6 +751,7 @@ static void no_page(int line, struct vscsi_live *device, uint8_t target) {
     check(line, vscsi_live_lost(device, target, 0, page), VSCSI_DONE);
     check(line, vscsi_live_written(device, target, 0, page, true), VSCSI_DONE);
     check(line, vscsi_live_written(device, target, 0, page, false), VSCSI_DONE);
+    check(line, vscsi_live_denied(device, target, 0, page), VSCSI_DONE);
   }
   check(line, vscsi_live_wake(device, &n), VSCSI_DONE);
   check(line, (long long)n, 0);
@@ -765,6 +768,7 @@ static void storage(struct vscsi_live *device) {
   IS(vscsi_live_lost(device, 4, 1, 0), VSCSI_NO_UNIT);
   IS(vscsi_live_give(device, 4, 1, &n, bytes, &found), VSCSI_NO_UNIT);
   IS(vscsi_live_written(device, 4, 1, 0, true), VSCSI_NO_UNIT);
+  IS(vscsi_live_denied(device, 4, 1, 0), VSCSI_NO_UNIT);
   IS(n, 5);
   IS(bytes[0], 5);
   IS(found, true);

@@ -18,7 +18,7 @@
                               of(vscsi_live_changed) of(vscsi_live_close) of(vscsi_live_destroy) of(vscsi_live_ask) of(vscsi_log)     \
                                   of(vscsi_position) of(vscsi_live_position) of(vscsi_disk_create_backed) of(vscsi_live_wanted)       \
                                       of(vscsi_live_load) of(vscsi_live_load_failed) of(vscsi_live_give) of(vscsi_live_written)   \
-                                          of(vscsi_live_wake) of(vscsi_live_lost)
+                                          of(vscsi_live_wake) of(vscsi_live_lost) of(vscsi_live_denied)
 
 #define FIELD(name) __typeof__(&name) name;
 #define LOAD(name) library.name = (__typeof__(&name))found(handle, #name);

@@ -247,7 +247,7 @@ def test_conventions(room):
 
 def test_documents(room):
     """The manual page and --help have the same words, and docs/DAEMON.md has no other."""
-    words = r"--[a-z][a-z-]*|\b(?:grow|snapshot|detect-zeroes|write-cache|cache-size|direct|read-only|nbd|rbd-conf|rbd-user|rbd|rerror)\b"
+    words = r"--[a-z][a-z-]*|\b(?:grow|snapshot|detect-zeroes|write-cache|cache-size|direct|read-only|nbd|rbd-conf|rbd-user|rbd|rerror|werror)\b"
     said = [set(re.findall(words, text.replace("\\-", "-"))) for text in (
         room.ends("--help", status=0),
         (DOCS / "vscsi-vhost-user.1").read_text().split(".SH OPTIONS")[1].split(".SH ")[0],
@@ -1081,6 +1081,9 @@ def test_cache_words(room):
                f"file={image},write-cache=on,cache-size=0": "cache-size= wants a size", f"file={image},write-cache=on,cache-size=32M": "cache-size= is 33M at least",
                f"file={image},cache-size=32M": "cache-size= is 33M at least", f"file={image},direct=on": "direct=on wants write-cache=on or cache-size=",
                f"file={image},write-cache=off,rerror=stop": "rerror= wants write-cache=on or cache-size=",
+               f"file={image},werror=report": "werror= wants write-cache=on or cache-size=",
+               f"file={image},write-cache=on,werror=ignore": "werror= wants report or stop",
+               f"file={image},write-cache=on,werror=stop,werror=stop": "werror= wants report or stop, once",
                "write-cache=on": "write-cache=on wants file=PATH, nbd=URI or rbd=IMAGE", "cache-size=64M": "cache-size= wants file=PATH, nbd=URI or rbd=IMAGE",
                f"file={image},cache-size=64M,snapshot": "cache-size= takes no snapshot",
                f"file={image},write-cache=on,profile=narrow": "write-cache=on wants profile=wide",

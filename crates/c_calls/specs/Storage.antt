@@ -89,6 +89,13 @@ KeepsPage target lun page kept d answer.NoUnit d' = IsIndexAmong d.world.device.
 KeepsPage target lun page kept d answer.NoMemory d' = d' ≡ d
 KeepsPage target lun page kept d a d' = ⊥
 
+-- as `LiveWorld::denied`: the host can't write the page, or nothing changed
+abbrev pub DeniesPage : ℕ → ℕ → ℕ → LiveServed → Answer → LiveServed → Type 0
+DeniesPage target lun page d answer.Done d' = Deals target lun (Dealing.Deny page) d d' ⊎ (d' ≡ d)
+DeniesPage target lun page d answer.NoUnit d' = IsIndexAmong d.world.device.units target lun None × (d' ≡ d)
+DeniesPage target lun page d answer.NoMemory d' = d' ≡ d
+DeniesPage target lun page d a d' = ⊥
+
 -- as `LiveWorld::step` of a Wake, and `LiveWorld::waiting` before it
 abbrev pub Wakes : ℕ → ℕ → LiveServed → Answer → LiveServed → Type 0
 Wakes old waiting d answer.Done d' = (waiting ≡ length d.world.device.aside + length d.world.device.woken)

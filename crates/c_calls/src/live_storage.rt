@@ -4,7 +4,7 @@ ghost use Rattle.std.specs.Prelude.{◌≡◌};
 ghost use Rattle.device_steps.specs.Paging.{IsKeptPage};
 ghost use Rattle.device_steps.specs.Views.{IsIndexAmong};
 ghost use Rattle.std.specs.Prelude.{ℕ, Some};
-ghost use Rattle.c_calls.specs.Storage.{WantsPage, LoadsPage, FailsPage, LosesPage, GivesPage, KeepsPage, Wakes};
+ghost use Rattle.c_calls.specs.Storage.{WantsPage, LoadsPage, FailsPage, LosesPage, GivesPage, KeepsPage, DeniesPage, Wakes};
 
 use crate::answer::Answer;
 use crate::live_served::LiveServed;
@@ -115,6 +115,19 @@ impl LiveServed {
             return Answer::NoUnit;
         };
         match self.world.written(unit_index, page, kept) {
+            Ok(_) => Answer::Done,
+            Err(_) => Answer::NoMemory,
+        }
+    }
+
+    /// Notes that the host can't write a page.
+    pub(crate) fn denied(&mut self, target: u8, lun: u16, page: u64) -> Answer
+        ensures { DeniesPage target lun page self.old result self.new }
+    {
+        let Some(unit_index) = self.world.unit_index(target, lun) else {
+            return Answer::NoUnit;
+        };
+        match self.world.denied(unit_index, page) {
             Ok(_) => Answer::Done,
             Err(_) => Answer::NoMemory,
         }

@@ -4,7 +4,7 @@
 ghost use Rattle.std.specs.Prelude.{◌≡◌};
 ghost use Rattle.c_calls.specs.Kept.{live_at};
 ghost use Rattle.c_calls.specs.Live.{ServingLive};
-ghost use Rattle.c_calls.specs.Storage.{OwesPage, WantsPage, LoadsPage, FailsPage, LosesPage, GivesPage, KeepsPage, Wakes};
+ghost use Rattle.c_calls.specs.Storage.{OwesPage, WantsPage, LoadsPage, FailsPage, LosesPage, GivesPage, KeepsPage, DeniesPage, Wakes};
 
 use crate::answer::Answer;
 use crate::live_device::LiveDevice;
@@ -123,6 +123,19 @@ pub fn written(
         return Answer::NoDevice;
     };
     let answer = served.written(target, lun, page, kept);
+    device.put(served);
+    answer
+}
+
+/// Notes that the host can't write a page.
+#[tactic(auto, using(crate::proofs::LiveServe::serving, crate::proofs::LiveServe::without))]
+pub fn denied(device: &mut LiveDevice, alloc: Global, target: u8, lun: u16, page: u64) -> Answer
+    ensures { ServingLive (DeniesPage target lun page) (Unit {0}) (live_at device.old) result (live_at device.new) }
+{
+    let Some(mut served) = device.take(alloc) else {
+        return Answer::NoDevice;
+    };
+    let answer = served.denied(target, lun, page);
     device.put(served);
     answer
 }

@@ -76,9 +76,9 @@ impl Device {
     }
 
     /// Gives the host the next page that it is to write to the storage of the unit at an index, as the unit's blocks are now.
-    /// The host says by [`Device::written`] what became of it. `None` where it has each such page already. Then a Wake has
-    /// the commands that wait tried again, since room that was made for a change and isn't used is free. `NoMemory` where
-    /// memory was refused.
+    /// The host says by [`Device::written`] what became of it, or by [`Device::denied`] that it can't write it. `None` where it
+    /// has each such page already. Then a Wake has the commands that wait tried again, since room that was made for a change and
+    /// isn't used is free. `NoMemory` where memory was refused.
     pub fn give(&mut self, unit_index: u16) -> Result<Option<GivenPage>, NoMemory>
         ensures given { IfOk result (λ given. IfSome given (λ g.
             IsDealt self.old unit_index (Dealing.Give g.page g.bytes.items) self.new)) }
@@ -108,5 +108,20 @@ impl Device {
             return Ok(false);
         }
         self.units[at].written(page, kept)
+    }
+
+    /// Notes that the host's storage can't write a page that the host was given. Returns true if a write of it was under way:
+    /// that is over, the page is given again, and a Wake has the commands that wait tried again. A flush of it that still waits
+    /// then ends with MEDIUM ERROR. `NoMemory` where memory was refused: the host says it again later.
+    pub fn denied(&mut self, unit_index: u16, page: u64) -> Result<bool, NoMemory>
+        ensures denied { IfOk result (λ done. IsTrue done → IsDealt self.old unit_index (Dealing.Deny page) self.new) }
+        ensures otherwise { IfOk result (λ done. IsFalse done → self.new ≡ self.old) }
+        ensures err { OnErr result (self.new ≡ self.old) }
+    {
+        let at = unit_index as usize;
+        if at >= self.units.len() {
+            return Ok(false);
+        }
+        self.units[at].denied(page)
     }
 }

@@ -179,6 +179,14 @@ impl StoredMachine {
         }
         Ok(())
     }
+
+    /// Ends the write of a page that the storage can't write.
+    fn denied(&mut self, unit_index: u16, page: u64) -> Result<(), NoMemory> {
+        if self.take_given(unit_index, page) {
+            let _denied = self.device.denied(unit_index, page)?;
+        }
+        Ok(())
+    }
 }
 
 impl Machine for StoredMachine {
@@ -234,6 +242,7 @@ impl Machine for StoredMachine {
             HostLine::Give(_) => self.give(unit_index),
             HostLine::Keep(_, page) => self.written(unit_index, page, true),
             HostLine::Fail(_, page) => self.written(unit_index, page, false),
+            HostLine::Deny(_, page) => self.denied(unit_index, page),
         }
     }
 

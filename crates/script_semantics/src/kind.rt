@@ -43,7 +43,7 @@ impl Kind {
             "answer" | "leave" | "mark" | "check" | "answertmf" | "raise" | "ask" | "race" => {
                 Some(Kind::Play)
             }
-            "wake" | "resume" | "load" | "refuse" | "lose" | "give" | "keep" | "fail" => {
+            "wake" | "resume" | "load" | "refuse" | "lose" | "give" | "keep" | "fail" | "deny" => {
                 Some(Kind::Play)
             }
             "show" | "order" | "blocks" | "history" | "events" | "status" | "notices" => {

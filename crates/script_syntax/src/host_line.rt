@@ -20,6 +20,8 @@ pub enum HostLine {
     Keep(Address, u64),
     /// Its write failed.
     Fail(Address, u64),
+    /// It can't be written.
+    Deny(Address, u64),
 }
 
 /// Reads a unit, and a page of its disk.
@@ -38,7 +40,7 @@ impl HostLine {
     pub fn read(keyword: &str, values: &[&str]) -> Result<Option<HostLine>, LineFault> {
         let line = match keyword {
             "give" => HostLine::Give(unit_pair(only(values)?)?),
-            "load" | "refuse" | "lose" | "keep" | "fail" => {
+            "load" | "refuse" | "lose" | "keep" | "fail" | "deny" => {
                 let (unit, page) = page(values)?;
                 of_page(keyword, unit, page)
             }
@@ -51,7 +53,10 @@ impl HostLine {
     pub fn unit(self) -> Address {
         match self {
             HostLine::Load(unit, _) | HostLine::Refuse(unit, _) | HostLine::Lose(unit, _) => unit,
-            HostLine::Give(unit) | HostLine::Keep(unit, _) | HostLine::Fail(unit, _) => unit,
+            HostLine::Give(unit)
+            | HostLine::Keep(unit, _)
+            | HostLine::Fail(unit, _)
+            | HostLine::Deny(unit, _) => unit,
         }
     }
 }
@@ -63,6 +68,7 @@ fn of_page(keyword: &str, unit: Address, page: u64) -> HostLine {
         "refuse" => HostLine::Refuse(unit, page),
         "lose" => HostLine::Lose(unit, page),
         "keep" => HostLine::Keep(unit, page),
+        "deny" => HostLine::Deny(unit, page),
         _ => HostLine::Fail(unit, page),
     }
 }

@@ -241,9 +241,9 @@ fn data_position(has_out: bool, index: usize) -> Position {
 fn other_position(keyword: &str, index: usize) -> Position {
     match (keyword, index) {
         ("hard" | "resize" | "history" | "blocks", 0) => Position::Unit,
-        ("load" | "refuse" | "lose" | "give" | "keep" | "fail", 0) => Position::Unit,
+        ("load" | "refuse" | "lose" | "give" | "keep" | "fail" | "deny", 0) => Position::Unit,
         ("wanted" | "given" | "stored", 0) => Position::Unit,
-        ("load" | "refuse" | "lose" | "keep" | "fail", 1) => Position::Number64,
+        ("load" | "refuse" | "lose" | "keep" | "fail" | "deny", 1) => Position::Number64,
         ("poke" | "race", 0) => Position::Number64,
         ("poke" | "race", 1) => Position::Bytes,
         ("race", 2) => Position::Before,

@@ -147,6 +147,7 @@ known_dealt (Dealing.Keep p) s known b =
       | false ↦ known b
     ]
 known_dealt (Dealing.Lose p) s known b = known b
+known_dealt (Dealing.Deny p) s known b = known b
 known_dealt (Dealing.Load p) s known b = known b
 known_dealt (Dealing.Cut n) s known b =
     elim (nat_lt b n) as (λ t. ((if t then s.given b else zero_block) ≡ (if t then s.kept b else zero_block))
@@ -235,6 +236,7 @@ module _ (u : PlainUnit) (e : Moment) (l : Ledger) (whole : (b : ℕ) → length
   kept_dealt (Dealing.Give page bytes) is = kept_given page bytes is
   kept_dealt (Dealing.Keep page) is = kept_kept page
   kept_dealt (Dealing.Lose page) is = told (Dealing.Lose page) (λ s. refl)
+  kept_dealt (Dealing.Deny page) is = told (Dealing.Deny page) (λ s. refl)
   kept_dealt (Dealing.Load page) is = told (Dealing.Load page) (λ s. refl)
   kept_dealt (Dealing.Cut n) is = absurd is
 

@@ -138,6 +138,7 @@ by_dealt l d s s' is given kept =
     given_same (Dealing.Give p bytes) b = page_same p b (λ i. blocks_in bytes (i % 8)) (λ i. blocks_in bytes (i % 8)) had.given (storage_by l).given refl (is.given b)
     given_same (Dealing.Keep p) b = is.given b
     given_same (Dealing.Lose p) b = is.given b
+    given_same (Dealing.Deny p) b = is.given b
     given_same (Dealing.Load p) b = is.given b
     given_same (Dealing.Cut n) b = cut_same n b had.given (storage_by l).given (is.given b)
 
@@ -145,6 +146,7 @@ by_dealt l d s s' is given kept =
     kept_same (Dealing.Give p bytes) b = is.kept b
     kept_same (Dealing.Keep p) b = page_same p b had.given (storage_by l).given had.kept (storage_by l).kept (is.given b) (is.kept b)
     kept_same (Dealing.Lose p) b = is.kept b
+    kept_same (Dealing.Deny p) b = is.kept b
     kept_same (Dealing.Load p) b = is.kept b
     kept_same (Dealing.Cut n) b = cut_same n b had.kept (storage_by l).kept (is.kept b)
 

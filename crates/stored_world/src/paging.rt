@@ -134,4 +134,13 @@ impl StoredWorld {
             }
         }
     }
+
+    /// Says that the host can't write a page, as [`World::denied`](world::World::denied) does. The storage stays as it is.
+    pub fn denied(&mut self, unit_index: u16, page: u64) -> Result<bool, NoMemory>
+        ensures denied { IfOk result (λ done. IsTrue done →
+            DealsAsPromised (world_of self.old) unit_index (Dealing.Deny page) (world_of self.new)) }
+        ensures otherwise { IfOk result (λ done. IsFalse done → world_of self.new ≡ world_of self.old) }
+    {
+        self.world.denied(unit_index, page)
+    }
 }

@@ -586,14 +586,14 @@ enum vscsi_answer vscsi_live_destroy(struct vscsi_live *device);
  * - What it hands in by vscsi_live_load is what its storage had of the page when the disk was made, or what it last said by
  *   vscsi_live_written that it kept. All that is promised of the unit's blocks rests on that.
  * - A crash leaves of each block of 512 bytes that, or what the host was given of it since: what was there when the disk was made is
- *   synced by then, no block is torn, and no write lands once vscsi_live_written was called for it, kept or not. What SYNCHRONIZE CACHE
- *   promises rests on that.
+ *   synced by then, no block is torn, and no write lands once vscsi_live_written, kept or not, or vscsi_live_denied was called for it.
+ *   What SYNCHRONIZE CACHE promises rests on that.
  * - Before vscsi_live_resize of such a unit it waits for its reads and writes to end, and behind it cuts its storage off at the lesser
  *   capacity: where the disk grows again, what it reads there is zeros, also behind a crash.
  *
  * The host's loop, behind each kick and each read or write of its own that is over:
- * 1. vscsi_live_load, vscsi_live_load_failed, vscsi_live_lost or vscsi_live_written for what is over; if there was any,
- *    vscsi_live_wake.
+ * 1. vscsi_live_load, vscsi_live_load_failed, vscsi_live_lost, vscsi_live_written or vscsi_live_denied for what is over; if there was
+ *    any, vscsi_live_wake.
  * 2. vscsi_live_serve until `more` is false, of queue 0 last; vscsi_live_owed, and notify.
  * 3. vscsi_live_give of each backed disk until nothing is found: begin these writes. vscsi_live_wanted until nothing is found:
  *    begin these reads.
@@ -638,9 +638,9 @@ enum vscsi_answer vscsi_live_load_failed(struct vscsi_live *device, uint8_t targ
 enum vscsi_answer vscsi_live_lost(struct vscsi_live *device, uint8_t target, uint16_t lun, uint64_t page);
 
 /* Gives the host the next page of a unit's disk that it is to write: its number, and into `bytes` its 4,096 bytes as they are now.
- * `found` is false, and `bytes` as it was, where each changed page was given. The host answers by vscsi_live_written. Until then
- * the page isn't given again, whatever the guest writes. To call it until nothing is found also frees room that was kept for pages
- * which weren't changed then. Since 1.7.
+ * `found` is false, and `bytes` as it was, where each changed page was given. The host answers by vscsi_live_written, or by
+ * vscsi_live_denied. Until then the page isn't given again, whatever the guest writes. To call it until nothing is found also frees
+ * room that was kept for pages which weren't changed then. Since 1.7.
  * The first of these, in this order, that is so: VSCSI_NO_DEVICE; VSCSI_NO_UNIT; VSCSI_NO_MEMORY. */
 enum vscsi_answer vscsi_live_give(struct vscsi_live *device, uint8_t target, uint16_t lun, uint64_t *page, void *bytes, bool *found);
 
@@ -650,6 +650,16 @@ enum vscsi_answer vscsi_live_give(struct vscsi_live *device, uint8_t target, uin
  * The first of these, in this order, that is so: VSCSI_NO_DEVICE; VSCSI_NO_UNIT; VSCSI_NO_MEMORY, and then the host says it again
  * later. */
 enum vscsi_answer vscsi_live_written(struct vscsi_live *device, uint8_t target, uint16_t lun, uint64_t page, bool kept);
+
+/* Says that the write of a page is over, and that the storage can't write it. As where `kept` of vscsi_live_written is false, the page
+ * stays as it is in memory, and is given again. Behind the next vscsi_live_wake one flush that waits, and flushes the page, ends with CHECK
+ * CONDITION, MEDIUM ERROR, WRITE ERROR (03/0C/00): a SYNCHRONIZE CACHE, or a READ with FUA that reads a block of the page. The next one
+ * waits until the host kept the page, or says this again. A WRITE that waits for the storage waits on: it changed its blocks. 64 such pages
+ * are noted for a disk at most, until a flush was told or the page is kept; of another the oldest of these is forgotten, as behind
+ * vscsi_live_written. Nothing changes where no write of the page is under way. Since 1.11.
+ * The first of these, in this order, that is so: VSCSI_NO_DEVICE; VSCSI_NO_UNIT; VSCSI_NO_MEMORY, and then the host says it again
+ * later. */
+enum vscsi_answer vscsi_live_denied(struct vscsi_live *device, uint8_t target, uint16_t lun, uint64_t page);
 
 /* Has each command that waits for pages, for room or for what was written before it tried again, by the next vscsi_live_serve, which
  * takes two steps at most for each. `waiting` is how many these are, of all units; it is optional. Takes no memory. Since 1.7.

@@ -95,6 +95,7 @@ uint32_t vscsi_raw_live_lost(struct vscsi_live *device, uint8_t target, uint16_t
 uint32_t vscsi_raw_live_give(struct vscsi_live *device, uint8_t target, uint16_t lun, uint64_t *page, uint8_t *bytes, size_t length,
                              bool *found);
 uint32_t vscsi_raw_live_written(struct vscsi_live *device, uint8_t target, uint16_t lun, uint64_t page, bool kept);
+uint32_t vscsi_raw_live_denied(struct vscsi_live *device, uint8_t target, uint16_t lun, uint64_t page);
 uint32_t vscsi_raw_live_wake(struct vscsi_live *device, uint64_t *waiting);
 
 /* Returns true if so many items of a size are more than memory has room for. */
@@ -608,6 +609,10 @@ enum vscsi_answer vscsi_live_give(struct vscsi_live *device, uint8_t target, uin
 
 enum vscsi_answer vscsi_live_written(struct vscsi_live *device, uint8_t target, uint16_t lun, uint64_t page, bool kept) {
   return device ? (enum vscsi_answer)vscsi_raw_live_written(device, target, lun, page, kept) : VSCSI_NULL;
+}
+
+enum vscsi_answer vscsi_live_denied(struct vscsi_live *device, uint8_t target, uint16_t lun, uint64_t page) {
+  return device ? (enum vscsi_answer)vscsi_raw_live_denied(device, target, lun, page) : VSCSI_NULL;
 }
 
 enum vscsi_answer vscsi_live_wake(struct vscsi_live *device, uint64_t *waiting) {

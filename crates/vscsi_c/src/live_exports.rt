@@ -6,7 +6,7 @@ ghost use Rattle.c_calls.specs.Kept.{live_at, disks_at};
 ghost use Rattle.c_calls.specs.LiveAsked.{ServesAskedPortion};
 ghost use Rattle.c_calls.specs.Live.{ServingLive, Maps, AsksDriver, ServesPortion, Owes, IsStatus, Breaks, Resets, Resizes, Holds, Gives, TellsCounts, TellsPosition, TellsChanges, CreatesLive, DestroysLive};
 ghost use Rattle.c_calls.specs.LiveDisks.{CreatesLiveOver, ClosesLive};
-ghost use Rattle.c_calls.specs.Storage.{OwesPage, WantsPage, LoadsPage, FailsPage, LosesPage, GivesPage, KeepsPage, Wakes};
+ghost use Rattle.c_calls.specs.Storage.{OwesPage, WantsPage, LoadsPage, FailsPage, LosesPage, GivesPage, KeepsPage, DeniesPage, Wakes};
 
 use c_calls::{
     BlockRange, Disk, Fault, LiveDevice, Region, RingPosition, Told, UnitCounts, WantedRing,
@@ -375,6 +375,20 @@ pub extern "C" fn vscsi_raw_live_written(
         (live_at device.new)) }
 {
     storage_calls::written(device, alloc, target, lun, page, kept).code()
+}
+
+/// Notes that the host can't write a page.
+#[unsafe(no_mangle)]
+pub extern "C" fn vscsi_raw_live_denied(
+    device: &mut LiveDevice,
+    alloc: Global,
+    target: u8,
+    lun: u16,
+    page: u64,
+) -> u32
+    ensures { Tells result (λ a. ServingLive (DeniesPage target lun page) (Unit {0}) (live_at device.old) a (live_at device.new)) }
+{
+    storage_calls::denied(device, alloc, target, lun, page).code()
 }
 
 /// Has each command that waits tried again, and tells how many these are.
