@@ -84,8 +84,9 @@ struct disks {
 
 // Adds the disk of words T:L=SIZE[,file=PATH|,nbd=URI|,rbd=IMAGE][,rbd-conf=PATH][,rbd-user=NAME][,grow][,snapshot][,detect-zeroes=unmap]
 // [,write-cache=on|off][,cache-size=SIZE][,direct=on|off][,rerror=report|stop][,werror=report|stop][,read-only=on|off]
-// [,profile=narrow|wide][,NAMES], T:L=file=PATH[,..], T:L=nbd=URI[,..] or T:L=rbd=IMAGE[,..], in its place of the order. A comma of a path, a URI or an image stands there
-// twice. Opens nothing: images_open does that. Returns false, and says why, where the words name no disk.
+// [,profile=narrow|wide][,NAMES], T:L=file=PATH[,..], T:L=nbd=URI[,..] or T:L=rbd=IMAGE[,..], in its place of the order. A comma of a
+// path, a URI or an image stands there twice. Opens nothing: images_open does that. Returns false, and says why, where the words name no
+// disk.
 bool disks_add(struct disks *disks, const char *words, char *why, size_t room);
 
 // Takes a size in bytes, with K, M, G or T behind it or none: whole blocks. `at` stands behind it then.

@@ -2,6 +2,7 @@
 
 #include <errno.h>
 #include <fcntl.h>
+#include <limits.h>
 #include <stdio.h>
 #include <stdlib.h>
 #include <string.h>
@@ -21,6 +22,7 @@ enum { ALL_PAGES = 32768, MORE_PAGES = VSCSI_LEAST_PAGES + 600, NOTHING = 80, ST
 
 static const uint8_t sync_10[10] = {0x35}, ready[6] = {0};
 static const char cached[] = ",write-cache=on,cache-size=33M", stopping[] = ",write-cache=on,cache-size=33M,rerror=stop";
+static const char reporting[] = ",write-cache=on,cache-size=33M,werror=report";
 
 static bool is_left_out(void) {
   if (!storage_is_built()) printf("left out: no liburing-dev\n");
@@ -233,12 +235,26 @@ void test_backed_unread(void) {
   }
 }
 
-// Returns whether a request ended with MEDIUM ERROR, UNRECOVERED READ ERROR, of the first block of a page.
-static bool is_unread(const struct front *front, unsigned i, uint64_t page) {
+// Returns whether a request ended with MEDIUM ERROR and this additional sense code, and the block that it tells.
+static bool is_medium_error(const struct front *front, unsigned i, uint8_t code, uint64_t *block) {
   const uint8_t *answer = answer_of(front, i), *sense = answer + 12;
-  uint64_t block = (uint64_t)sense[3] << 24 | (uint64_t)sense[4] << 16 | (uint64_t)sense[5] << 8 | sense[6];
+  *block = (uint64_t)sense[3] << 24 | (uint64_t)sense[4] << 16 | (uint64_t)sense[5] << 8 | sense[6];
   bool is_condition = answer[10] == 2 && answer[11] == 0 && sense[0] == 0xf0 && sense[2] == 0x03;
-  return is_condition && sense[12] == 0x11 && sense[13] == 0x00 && block == 8 * page;
+  return is_condition && sense[12] == code && sense[13] == 0x00;
+}
+
+// Returns whether a request ended with UNRECOVERED READ ERROR, of the first block of a page.
+static bool is_unread(const struct front *front, unsigned i, uint64_t page) {
+  uint64_t block;
+  return is_medium_error(front, i, 0x11, &block) && block == 8 * page;
+}
+
+// Returns whether a request ended with WRITE ERROR, of the first block of one of so many pages.
+static bool is_unwritten(const struct front *front, unsigned i, unsigned count) {
+  uint64_t block;
+  if (!is_medium_error(front, i, 0x0c, &block)) return false;
+  while (count && block != UINT64_C(8) * page_at(count - 1)) count--;
+  return count;
 }
 
 void test_backed_lost(void) {
@@ -296,6 +312,44 @@ void test_backed_unwritten(void) {
     faults.sync_error = EIO;
     faults.bad_syncs = 3;
     MUST(write_pages(&front, MANY, 2) && sync_disk(&front) && !faults.bad_syncs && file_has(0, MANY, 2));
+    load_end(&front, &disks);
+  }
+}
+
+// Flushes until that ends with GOOD, and in between as of pages that can't be written. Returns whether it did.
+static bool flush_at_last(struct front *front, unsigned count) {
+  for (unsigned time = 0; time < 10000; time++) {
+    put_sync(front, 3, MANY);
+    if (await(front, 3, 1, PATIENCE) != 1) return false;
+    if (is_good(front, MANY)) return true;
+    if (!is_unwritten(front, MANY, count)) return false;
+  }
+  return false;
+}
+
+void test_backed_denied(void) {
+  if (is_left_out()) return;
+  for (unsigned number = 0; number < WAYS; number += 3) {
+    struct disks disks;
+    struct front front;
+    begin_as(&front, &disks, number, reporting);
+    for (unsigned version = 1; version <= 2; version++) {
+      // What can't be written, and then what can't be synced.
+      if (version == 1) faults.write_error = number % 2 ? ENOSPC : EIO, faults.writes = 3;
+      else faults.sync_error = EIO, faults.bad_syncs = UINT_MAX;
+      MUST(write_pages(&front, MANY, version));
+      // Some notes are refused memory.
+      faults.refused = version == 1 ? 5 : 0;
+      for (unsigned time = 0; time < 3; time++) {
+        put_sync(&front, 3, MANY);
+        MUST(await(&front, 3, 1, PATIENCE) == 1 && front.alive && is_unwritten(&front, MANY, MANY) && disks.disks[0].error);
+      }
+      MUST(read_pages(&front, MANY, version) && is_ready(&front, 4));
+      faults_clear();
+      MUST(flush_at_last(&front, MANY) && file_has(0, MANY, version) && !disks.disks[0].error);
+      // None is left of a page that was kept.
+      MUST(sync_disk(&front));
+    }
     load_end(&front, &disks);
   }
 }

@@ -16,6 +16,9 @@ void test_backed_lost(void);
 // A file that can't be written, or synced, for a time: SYNCHRONIZE CACHE waits, and nothing is lost.
 void test_backed_unwritten(void);
 
+// With werror=report SYNCHRONIZE CACHE ends with MEDIUM ERROR, and nothing is lost.
+void test_backed_denied(void);
+
 // Pages that the file lacks as a session ends: the daemon writes them, or the next front end finds them in memory.
 void test_backed_left(void);
 

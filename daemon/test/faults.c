@@ -171,6 +171,14 @@ enum vscsi_answer __wrap_vscsi_live_written(struct vscsi_live *device, uint8_t t
   return __real_vscsi_live_written(device, target, lun, page, kept);
 }
 
+enum vscsi_answer __real_vscsi_live_denied(struct vscsi_live *device, uint8_t target, uint16_t lun, uint64_t page);
+enum vscsi_answer __wrap_vscsi_live_denied(struct vscsi_live *device, uint8_t target, uint16_t lun, uint64_t page);
+
+enum vscsi_answer __wrap_vscsi_live_denied(struct vscsi_live *device, uint8_t target, uint16_t lun, uint64_t page) {
+  if (faults.refused) return faults.refused--, VSCSI_NO_MEMORY;
+  return __real_vscsi_live_denied(device, target, lun, page);
+}
+
 bool __real_uring_next(struct uring *uring, void **what, int *result);
 bool __wrap_uring_next(struct uring *uring, void **what, int *result);
 

@@ -1,5 +1,5 @@
 // Files that can't be written, memory that is refused, and time that passes: the tests' own pwrite, fdatasync, clock_gettime,
-// vscsi_live_serve, vscsi_live_create, vscsi_disk_load, vscsi_live_load, vscsi_live_give, vscsi_live_written and uring_next,
+// vscsi_live_serve, vscsi_live_create, vscsi_disk_load, vscsi_live_load, vscsi_live_give, vscsi_live_written, vscsi_live_denied and uring_next,
 // which fail where they are told to, or count. And what serving costs. Calls of the
 // library's, of malloc and the like and of snprintf come here by the linker's word --wrap.
 #ifndef DAEMON_TEST_FAULTS_H
@@ -31,7 +31,7 @@ struct faults {
   uint64_t bytes;       // that pwrite wrote, or WRITEs of pages
   unsigned syncs;       // of backed disks that were done, and pages that were handed in
   unsigned handed_in;
-  unsigned refused;     // how many calls of vscsi_live_load, vscsi_live_give and vscsi_live_written are refused memory
+  unsigned refused;     // how many calls of vscsi_live_load, _give, _written and _denied are refused memory
   unsigned passed;      // seconds that passed besides, which faults_clear leaves alone
 };
 

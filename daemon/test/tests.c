@@ -390,7 +390,7 @@ int main(int count, char **words) {
                {"waits", test_waits}, {"reset", test_reset},
                {"refused", test_refused}, {"endless", test_endless}, {"polls", test_polls}, {"windows", test_windows}, {"disabled", test_disabled}, {"replaced", test_replaced}, {"late", test_late}, {"interrupted", test_interrupted},
                {"backed", test_backed}, {"backed ends", test_backed_ends}, {"backed zeros", test_backed_zeros},
-               {"backed unread", test_backed_unread}, {"backed lost", test_backed_lost}, {"backed unwritten", test_backed_unwritten}, {"backed left", test_backed_left},
+               {"backed unread", test_backed_unread}, {"backed lost", test_backed_lost}, {"backed unwritten", test_backed_unwritten}, {"backed denied", test_backed_denied}, {"backed left", test_backed_left},
                {"backed stops", test_backed_stops}, {"backed stale", test_backed_stale}, {"backed beside", test_backed_beside},
                {"backed ahead", test_backed_ahead}, {"backed anything", test_backed_anything},
                {"status", test_status}, {"logged", test_logged}, {"logged elsewhere", test_logged_elsewhere},

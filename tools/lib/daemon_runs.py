@@ -1328,6 +1328,57 @@ def test_cached_held(room):
     return None
 
 
+def flushed(front):
+    """Flushes until that ends with GOOD. Gives how often it didn't."""
+    for failed in range(100):
+        before = front.answered()
+        front.flush()
+        wait_for(lambda: front.answered() == before + 1, "a SYNCHRONIZE CACHE")  # noqa: B023
+        if not front.status(front.count - 1):
+            return failed
+    raise AssertionError("no SYNCHRONIZE CACHE ends with GOOD")
+
+
+def unwritten(block):
+    """The sense data of what flushes a page that can't be written (SPC-4 4.5.3): valid and current, MEDIUM ERROR, WRITE ERROR."""
+    return b"\xf0\0\x03" + block.to_bytes(4, "big") + b"\x0a\0\0\0\0\x0c\0\0\0\0\0"
+
+
+def test_reported(room):
+    """With werror=report SYNCHRONIZE CACHE, and READ with FUA, of what can't be written end with MEDIUM ERROR, and a WRITE with FUA, or without
+    a write cache, waits. Once the file can be written all ends with GOOD, and what was written is there.
+    """
+    if not has_ring(room):
+        return NO_RING
+    for more, lost in ((CACHED, "WRITEs behind the last SYNCHRONIZE CACHE"), (THROUGH, "WRITEs that weren't answered")):
+        for goes_on in (True, False):
+            image = room.folder / f"image{more[1:3]}{goes_on}"
+            with driven(room, "--disk", f"0:0=64M,file={image}{more},werror=report", ends=0 if goes_on else 1) as (run, front, log):
+                limit_files(run, MIB)
+                run_cached(front, [("write", 0, 7)])
+                front.write(8 * 5000, stamped(5000, 7), fua=True)
+                wait_for(lambda: "can't be written, which its guest is told, and is tried again: File too large" in log.read_text(), "a line")  # noqa: B023
+                front.flush()
+                wait_for(lambda: front.answered() == 2, "the SYNCHRONIZE CACHE")  # noqa: B023
+                front.read(8 * 5000, 4096, fua=True)
+                wait_for(lambda: front.answered() == 3, "the READ with FUA")  # noqa: B023
+                assert all(front.status(number) == 0x02 and front.sense(number) == unwritten(8 * 5000) for number in (2, 3))
+                front.read(8 * 5000, 4096)
+                wait_for(lambda: front.answered() == 4, "the READ")  # noqa: B023
+                assert front.data(4, 4096) == stamped(5000, 7) and front.asks() and log.read_text().count("can't be written") == 1
+                if goes_on:
+                    limit_files(run, resource.RLIM_INFINITY)
+                    wait_for(lambda: front.answered() == 5 and not front.status(1), "the WRITE")  # noqa: B023
+                    assert flushed(front) == 0 and has(image, 4096 * 5000, stamped(5000, 7))
+                    run_cached(front, [("write", 5001, 7), ("flush", 0, 0)])
+            text = log.read_text()
+            assert (f"disk 0:0: {image}: {lost} aren't all kept" in text) == (not goes_on), text
+            assert text.count("can be written again") == goes_on and has(image, 0, stamped(0, 7))
+            assert has(image, 4096 * 5000, stamped(5000, 7)) == goes_on
+            log.unlink()
+    return None
+
+
 def test_cached_left(room):
     """What a front end that went left unwritten reaches the file once that can be written, with no other front end."""
     if not has_ring(room):
@@ -1923,6 +1974,37 @@ def test_nbd_errors(room):
     return None
 
 
+def test_nbd_reported(room):
+    """With werror=report a SYNCHRONIZE CACHE ends with MEDIUM ERROR where a server fails a write. Where it is gone that waits."""
+    if not has_servers(room):
+        return NO_SERVER
+    at, image, fails = room.folder / "nbd", room.file("image", 64 * MIB), room.folder / "fails"
+    words = [word for what in ("pwrite", "zero") for word in (f"error-{what}=ENOSPC", f"error-{what}-rate=100%", f"error-{what}-file={fails}")]
+    disk = f"0:0={export_of(at)},werror=report"
+    with contextlib.ExitStack() as last, nbdkit(at, "--filter=error", "file", image, *words) as server, driven(room, "--disk", disk, ends=0) as (_, front, _):
+        run_cached(front, [("write", 1, 1), ("flush", 0, 0)])
+        fails.touch()
+        run_cached(front, [("write", 2, 2)])
+        for _ in range(2):
+            before = front.answered()
+            front.flush()
+            wait_for(lambda: front.answered() == before + 1, "a SYNCHRONIZE CACHE")  # noqa: B023
+            assert front.status(front.count - 1) == 0x02 and front.sense(front.count - 1) == unwritten(8 * 2)
+        fails.unlink()
+        flushed(front)
+        assert has(image, 4096 * 2, stamped(2, 2))
+        end_server(server, at)
+        run_cached(front, [("write", 3, 3)])
+        before = front.answered()
+        front.flush()
+        time.sleep(1)
+        assert front.answered() == before and front.asks()
+        last.enter_context(nbdkit(at, "file", image))
+        wait_for(lambda: front.answered() == before + 1 and not front.status(front.count - 1), "the SYNCHRONIZE CACHE")
+        assert has(image, 4096 * 3, stamped(3, 3))
+    return None
+
+
 def test_nbd_lost(room):
     """A READ of a page that a server can't read ends with MEDIUM ERROR, and that is said. The page is read once more, and where that fails
     the next READ ends so, too. Behind that all is well, once the server reads the page.
@@ -2321,6 +2403,29 @@ def test_rbd_errors(room):
             cluster.set(**{f"{kind}_error": 0})
             wait_for(lambda: front.answered() == answered + 11 and not front.status(front.count - 1), "the SYNCHRONIZE CACHE")  # noqa: B023
             assert all(has(cluster.image, 4096 * page, stamped(page, turn)) for page in range(100, 110))
+            wait_for(lambda: log.read_text().count("can be written again") == turn, "a line")  # noqa: B023
+    return None
+
+
+def test_rbd_reported(room):
+    """With werror=report a SYNCHRONIZE CACHE ends with MEDIUM ERROR where a cluster fails a write, or a flush."""
+    if not has_clusters(room):
+        return NO_CLUSTER
+    cluster = Cluster(room, 64 * MIB, b"\x5a")
+    cluster.set(forgets=1)
+    with driven(room, "--disk", f"0:0={cluster.words},werror=report", ends=0, env=cluster.env) as (_, front, log):
+        for turn, kind in enumerate(("write", "flush"), 1):
+            cluster.set(**{f"{kind}_error": errno.EIO})
+            run_cached(front, [("write", 100, turn)])
+            for _ in range(2):
+                before = front.answered()
+                front.flush()
+                wait_for(lambda: front.answered() == before + 1, "a SYNCHRONIZE CACHE")  # noqa: B023
+                assert front.status(front.count - 1) == 0x02 and front.sense(front.count - 1) == unwritten(8 * 100)
+            assert not has(cluster.image, 4096 * 100, stamped(100, turn))
+            cluster.set(**{f"{kind}_error": 0})
+            flushed(front)
+            assert has(cluster.image, 4096 * 100, stamped(100, turn))
             wait_for(lambda: log.read_text().count("can be written again") == turn, "a line")  # noqa: B023
     return None
 

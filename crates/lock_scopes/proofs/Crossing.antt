@@ -49,7 +49,7 @@ use Rattle.logical_unit.specs.contracts.unit.UnitState.TheInside as unit
 use Rattle.block_store.proofs.edges.Prepared.TheSendSync as pages
 use Rattle.block_store.proofs.paged.PagedStore.TheSendSync as store
 use Rattle.backed_store.proofs.cache.Cache.TheSendSync as cache
-use Rattle.backed_store.proofs.lost.LostPages.TheSendSync as lost_pages
+use Rattle.backed_store.proofs.noted_pages.NotedPages.TheSendSync as noted_pages
 use Rattle.backed_store.specs.contracts.backed.BackedStore.{the_field as backed_field, the_type as backed_type}
 use Rattle.backed_store.specs.contracts.backed_disk.BackedDisk.{the_field as backed_disk_field, the_type as backed_disk_type}
 use Rattle.backed_store.specs.contracts.disk.Disk.{the_field as disk_field, the_type as disk_type}
@@ -147,7 +147,7 @@ lasts_sends = search (sendable, lasts_fields)
 
 backed_sends : IsSend backed_field.row
 backed_sends = struct_send (shape backed_type)
-    (search sendable, (search sendable, (cache.the_field_send, (search sendable, (lost_pages.the_field_send, (search crosses depth 30, (search crosses depth 30, tt)))))))
+    (search sendable, (search sendable, (cache.the_field_send, (search sendable, (noted_pages.the_field_send, (noted_pages.the_field_send, (search crosses depth 30, (search crosses depth 30, tt))))))))
 
 backed_disk_sends : IsSend backed_disk_field.row
 backed_disk_sends = struct_send (shape backed_disk_type) (backed_sends, (search sendable, (search crosses depth 30, tt)))
