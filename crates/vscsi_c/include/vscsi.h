@@ -653,10 +653,10 @@ enum vscsi_answer vscsi_live_written(struct vscsi_live *device, uint8_t target, 
 
 /* Says that the write of a page is over, and that the storage can't write it. As where `kept` of vscsi_live_written is false, the page
  * stays as it is in memory, and is given again. Behind the next vscsi_live_wake one flush that waits, and flushes the page, ends with CHECK
- * CONDITION, MEDIUM ERROR, WRITE ERROR (03/0C/00): a SYNCHRONIZE CACHE, or a READ with FUA that reads a block of the page. The next one
- * waits until the host kept the page, or says this again. A WRITE that waits for the storage waits on: it changed its blocks. 64 such pages
- * are noted for a disk at most, until a flush was told or the page is kept; of another the oldest of these is forgotten, as behind
- * vscsi_live_written. Nothing changes where no write of the page is under way. Since 1.11.
+ * CONDITION, MEDIUM ERROR, WRITE ERROR (03/0C/00): a SYNCHRONIZE CACHE, or a READ with FUA that reads a block of the page. Where none
+ * waits, the next one that has to ends so. Others wait until the host kept the page, or says this again. A WRITE that waits for the storage
+ * waits on: it changed its blocks. 64 such pages are noted for a disk at most; for another the oldest of these ends no flush. Nor does one
+ * whose note malloc refuses. Nothing changes where no write of the page is under way. Since 1.11.
  * The first of these, in this order, that is so: VSCSI_NO_DEVICE; VSCSI_NO_UNIT; VSCSI_NO_MEMORY, and then the host says it again
  * later. */
 enum vscsi_answer vscsi_live_denied(struct vscsi_live *device, uint8_t target, uint16_t lun, uint64_t page);
