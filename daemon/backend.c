@@ -198,7 +198,8 @@ static inline enum ran run(struct backend *backend, uint32_t queues, uint64_t mo
 
 // Has the request queues served: all at once, or where one call leaves something, one after the other, each for some steps.
 static inline enum ran run_requests(struct backend *backend, uint32_t queues) {
-  if (!backend->crowded) {
+  // With no queue there are no turns, but the device may have to go on with what it began.
+  if (!backend->crowded || !queues) {
     enum ran ran = run(backend, queues, backend->steps + MANY_STEPS);
     backend->crowded = ran == RUNS;
     backend->quiet = 0;
