@@ -14,12 +14,15 @@
 // have. And the milliseconds of storage_pass.
 enum { MOST_OF_KIND = (MOST_TRANSFERS - DEVICE_MOST_UNITS) / 2, BUFFERS_OF_KIND = MOST_BUFFERS / 4 * 3, PASS = 50, BITS = 64 };
 
+// The bytes of a huge page, and of all buffers.
+static const size_t HUGE = 2 << 20, ROOM = (size_t)MOST_BUFFERS * PAGE_BYTES;
+
 // What fills a hole that couldn't be made.
 static _Alignas(PAGE_BYTES) uint8_t zeros[PAGE_BYTES];
 
 struct storage {
   struct uring *uring;
-  uint8_t *room;                                      // the buffers'
+  uint8_t *mapped, *room;                             // what has the buffers, and where they begin
   uint64_t busy[MOST_BUFFERS / BITS];                 // a bit for each that something has
   struct server *servers[DEVICE_MOST_UNITS];
   size_t server_count;
@@ -30,15 +33,24 @@ struct storage {
   bool passes;  // storage_pass waits
 };
 
+// Makes room for the buffers, on huge pages where the system has some: a transfer's buffers are one piece of memory then, for the kernel and
+// for the device. Returns false where it is refused.
+static bool make_room(struct storage *storage) {
+  void *mapped = mmap(NULL, ROOM + HUGE, PROT_READ | PROT_WRITE, MAP_PRIVATE | MAP_ANONYMOUS, -1, 0);
+  if (mapped == MAP_FAILED) return false;
+  storage->mapped = mapped;
+  storage->room = storage->mapped + (HUGE - (uintptr_t)mapped % HUGE) % HUGE;
+  madvise(storage->room, ROOM, MADV_HUGEPAGE);
+  return true;
+}
+
 bool storage_is_built(void) { return uring_is_built(); }
 
 struct storage *storage_make(char *why, size_t room) {
   struct storage *storage = calloc(1, sizeof *storage);
   if (!storage) return snprintf(why, room, "memory was refused"), NULL;
   storage->uring = uring_make(2 * MOST_TRANSFERS);
-  storage->room = storage->uring ? mmap(NULL, (size_t)MOST_BUFFERS * PAGE_BYTES, PROT_READ | PROT_WRITE, MAP_PRIVATE | MAP_ANONYMOUS, -1, 0)
-                                 : MAP_FAILED;
-  if (storage->room == MAP_FAILED) {
+  if (!storage->uring || !make_room(storage)) {
     snprintf(why, room, "write-cache=on: no io_uring: %s", strerror(errno));
     if (storage->uring) uring_end(storage->uring);
     return free(storage), NULL;
@@ -48,7 +60,7 @@ struct storage *storage_make(char *why, size_t room) {
 
 void storage_end(struct storage *storage) {
   uring_end(storage->uring);
-  munmap(storage->room, (size_t)MOST_BUFFERS * PAGE_BYTES);
+  munmap(storage->mapped, ROOM + HUGE);
   free(storage);
 }
 
