@@ -68,14 +68,14 @@ pub fn a_storage_changes_by_its_host()
 ///   before the command came, or that it waited for, unless the block was written over since.
 /// - `read`: of a READ, what the READ reads.
 pub fn a_flush_ends_once_it_is_kept()
-    ensures flush { (w : PlainWorld) (k : ℕ) (x : PlainJob) (r : PlainReply) (u : PlainUnit) (e : Entry) (l : Ledger) (left : Blocks) (b : ℕ) →
-        Happens (Transition.Commit k x r) w → UnitIs w x.unit u → r.status ≡ good → task_of x.entry.ticket (alive u.steps) ≡ Some e →
-        flushes e.asks_medium e.command ≡ true → u.storage ≡ Some l → IsLeft l left → is_in_flush e.command b ≡ true →
-        HasBeen u.opening u.steps e b (left b) }
-    ensures read { (w : PlainWorld) (k : ℕ) (x : PlainJob) (r : PlainReply) (u : PlainUnit) (e : Entry) (l : Ledger) (left : Blocks) (b : ℕ) →
-        Happens (Transition.Commit k x r) w → UnitIs w x.unit u → r.status ≡ good → task_of x.entry.ticket (alive u.steps) ≡ Some e →
-        flushes e.asks_medium e.command ≡ true → is_read e.command ≡ true → u.storage ≡ Some l → IsLeft l left →
-        is_in_flush e.command b ≡ true → left b ≡ blocks_of u.opening u.steps b }
+    ensures flush { (w : PlainWorld) (k : ℕ) (x : PlainJob) (r : PlainReply) (u : PlainUnit) (e : Entry) (l : Ledger) (left : Blocks)
+        (b : ℕ) → Happens (Transition.Commit k x r) w → UnitIs w x.unit u → r.status ≡ good →
+        task_of x.entry.ticket (alive u.steps) ≡ Some e → flushes e.asks_medium e.command ≡ true → u.storage ≡ Some l →
+        IsLeft l left → is_in_flush e.command b ≡ true → HasBeen u.opening u.steps e b (left b) }
+    ensures read { (w : PlainWorld) (k : ℕ) (x : PlainJob) (r : PlainReply) (u : PlainUnit) (e : Entry) (l : Ledger) (left : Blocks)
+        (b : ℕ) → Happens (Transition.Commit k x r) w → UnitIs w x.unit u → r.status ≡ good →
+        task_of x.entry.ticket (alive u.steps) ≡ Some e → flushes e.asks_medium e.command ≡ true → is_read e.command ≡ true →
+        u.storage ≡ Some l → IsLeft l left → is_in_flush e.command b ≡ true → left b ≡ blocks_of u.opening u.steps b }
 {}
 
 /// Where a unit tells of no volatile write cache (SBC-3 §6.5), or the command asks for the medium (FUA, SBC-3 §5.33), one that

@@ -37,7 +37,8 @@ impl UnitState {
 
     /// Returns true if the command of a job's task ran, and ended with GOOD: its reply is withheld, where it writes through.
     fn has_ended_well(&self, job: &Job) -> bool
-        ensures yes { IsTrue result → writes_through self.now job.now.entry.asks_medium job.now.entry.command ≡ true → IsHeldBack self.now job.now }
+        ensures yes { IsTrue result → writes_through self.now job.now.entry.asks_medium job.now.entry.command ≡ true →
+            IsHeldBack self.now job.now }
         ensures no { IsFalse result → IsNotWithheld job.now self.now }
     {
         match self.tasks.task(job.ticket()) {
