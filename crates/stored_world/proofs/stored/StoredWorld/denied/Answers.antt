@@ -1,9 +1,5 @@
-use Rattle.std.proofs.Common.{Bool, true, false, IsTrue, IsFalse, ◌≡◌, refl, sym, subst, List, Option}
+use Rattle.std.proofs.Common.{refl}
 use Rattle.block_store.specs.Storage.{Dealing}
-use Rattle.device_model.specs.World.{PlainWorld}
-use Rattle.world.specs.Paging.{DealsAsPromised}
-use Rattle.stored_world.specs.Inner.Stored.{AreHosted}
-use Rattle.stored_world.specs.declared.hosted.HostedDisk.{HostedDisk}
 use Rattle.stored_world.proofs.Hosting.{hosted_by_load}
 use Rattle.stored_world.proofs.stored.StoredWorld.denied.Goals as goal
 
@@ -13,6 +9,6 @@ invariant_of-self c =
     let new = c.denied.new.self in
     record {
       hosted =
-          hosted_by_load c.denied.result old.world new c.args.unit_index (Dealing.Deny c.args.page) old.disks.items c.denied.ensures.denied c.denied.ensures.otherwise c.denied.ensures.err
-          (λ s b. refl) (λ s b. refl) old.hosted;
+          hosted_by_load c.denied.result old.world new c.args.unit_index (Dealing.Deny c.args.page) old.disks.items c.denied.ensures.denied
+          c.denied.ensures.otherwise c.denied.ensures.err (λ s b. refl) (λ s b. refl) old.hosted;
     }
