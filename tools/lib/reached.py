@@ -15,7 +15,7 @@ from definitions import CRATES, Definition, Specs
 SURFACE = ("world", "workers", "close_audit", "lock_scopes", "worker_steps", "c_calls", "vscsi_c", "live_mem", "host_bus")
 
 # The crates of which no device has all yet: no unit's disk is backed. Nothing is said of the sides of their definitions.
-AHEAD = ("backed_store", "shared_trace", "host_trace", "reservations")
+AHEAD = ("backed_store", "shared_trace", "host_trace")
 
 WORD = re.compile(r"[A-Za-z_][\w']*(?:\.[A-Za-z_][\w']*)?")
 FIELD = re.compile(r"^ *(?:pub(?:\([^)]*\))? )?(\w+): (.*)", re.M)
