@@ -15,7 +15,7 @@ pub use exports::{
 pub use live_exports::{
     vscsi_raw_live_ask, vscsi_raw_live_blocks, vscsi_raw_live_broken, vscsi_raw_live_capacity,
     vscsi_raw_live_changed, vscsi_raw_live_close, vscsi_raw_live_counts, vscsi_raw_live_create,
-    vscsi_raw_live_create_with, vscsi_raw_live_destroy, vscsi_raw_live_give,
+    vscsi_raw_live_create_with, vscsi_raw_live_denied, vscsi_raw_live_destroy, vscsi_raw_live_give,
     vscsi_raw_live_is_there, vscsi_raw_live_load, vscsi_raw_live_load_failed, vscsi_raw_live_lost,
     vscsi_raw_live_map, vscsi_raw_live_owed, vscsi_raw_live_position, vscsi_raw_live_reset,
     vscsi_raw_live_resize, vscsi_raw_live_serve, vscsi_raw_live_serve_and_ask,
