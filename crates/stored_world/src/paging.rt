@@ -6,7 +6,7 @@ use foundation::NoMemory;
 use host_storage::Storage;
 
 impl StoredWorld {
-    ghost use Rattle.std.specs.Prelude.{◌≡◌, ℕ, List, Some, slice_get, IsTrue, IsFalse, IfOk, IfSome, IfNone};
+    ghost use Rattle.std.specs.Prelude.{◌≡◌, ℕ, List, Some, slice_get, IsTrue, IsFalse, IfOk, OnErr, IfSome, IfNone};
     ghost use Rattle.block_store.specs.Storage.{Dealing, Ledger};
     ghost use Rattle.unit_model.specs.Unit.{PlainUnit};
     ghost use Rattle.device_steps.specs.Paging.{HasPage};
@@ -140,6 +140,7 @@ impl StoredWorld {
         ensures denied { IfOk result (λ done. IsTrue done →
             DealsAsPromised (world_of self.old) unit_index (Dealing.Deny page) (world_of self.new)) }
         ensures otherwise { IfOk result (λ done. IsFalse done → world_of self.new ≡ world_of self.old) }
+        ensures err { OnErr result (world_of self.new ≡ world_of self.old) }
     {
         self.world.denied(unit_index, page)
     }
