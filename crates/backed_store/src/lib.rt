@@ -12,8 +12,8 @@
 //!
 //! The host is asked only for pages below the capacity. Each page that is noted as lost is one of which the host said that it
 //! can't read it. At most 64 are noted: one more drops the oldest. A page that is loaded, kept or cut off isn't noted any longer.
-//! As many are noted as denied: of each the host said that it can't write it. It is to be written again, and noted until it is
-//! kept or cut off.
+//! As many are noted as denied: of each the host said that it can't write it. It is to be written again. A page that is kept or cut
+//! off isn't noted as denied any longer.
 //!
 //! A flush waits for the changes that were made before it. No call makes it wait for more, unless a write of the host failed;
 //! each page that the host is given and keeps makes it wait for less (`what_is_owed_is_due`). Where no page is left to give,

@@ -76,8 +76,8 @@ pub record IsUnread (facts : Facts) (command : Command) (bytes : List ℕ) (p : 
   pub is : r ≡ unread facts command p
 
 -- own: a command that asks for the medium itself, or doesn't, flushes page p of a disk of so many blocks: SYNCHRONIZE CACHE of
--- blocks below the capacity each page, since its device server may write more than it names (SBC-3 §5.26); a READ that asks for
--- the medium (FUA, SBC-3 §5.11) those that it reads a block of
+-- blocks below the capacity each page, since a flush is of the whole disk; a READ that asks for the medium (FUA, SBC-3 §5.11)
+-- those that it reads a block of
 abbrev pub flushes_page : Bool → ℕ → Command → ℕ → Bool
 flushes_page asks_medium blocks (SynchronizeCache lba count) p = is_in_range blocks lba count && nat_lt (8 * p) blocks
 flushes_page asks_medium blocks (Read lba count) p = asks_medium && reaches blocks lba count p
