@@ -9,9 +9,9 @@
 #include "rings.h"
 
 // The most steps of one call of the library's, where answers wait and where they don't: the ranges of so few are never more
-// than the library tells apart. And of request queues before the control queue is served, which is more than all that rings may
-// have.
-enum { FEW_STEPS = 4, MANY_STEPS = 512, MOST_STEPS_BEFORE = 1 << 19 };
+// than the library tells apart. Of a call behind which the pages that commands want begin to be read. And of request queues before the
+// control queue is served, which is more than all that rings may have.
+enum { FEW_STEPS = 4, MANY_STEPS = 512, EARLY_STEPS = 16, MOST_STEPS_BEFORE = 1 << 19 };
 // Milliseconds: how long the device runs before others of the daemon's descriptors are looked at, how long what can't go on
 // waits, how long a device that begins waits for the one before it, and of backend_stop, how long all goes on, and how long the device
 // has for what it began.
@@ -179,12 +179,18 @@ static inline void note_steps(struct backend *backend) {
   backend->asked = 0;
 }
 
-// Has the device serve these queues until nothing is left, it has to leave off, or so many steps were taken.
+// Returns how many steps a call of the library's takes at most.
+static inline uint64_t portion(const struct backend *backend, bool is_early) {
+  return backend->keeps ? FEW_STEPS : is_early ? EARLY_STEPS : MANY_STEPS;
+}
+
+// Has the device serve these queues until nothing is left, it has to leave off, or so many steps were taken. While their commands want pages,
+// it does so by few steps, and reads of these begin in between: a storage would have nothing to do meanwhile.
 static inline enum ran run(struct backend *backend, uint32_t queues, uint64_t most) {
-  uint64_t each = backend->keeps ? FEW_STEPS : MANY_STEPS;
+  bool is_early = backend->pages && queues && !backend->keeps;
   for (bool more = true; more;) {
     uint64_t steps = 0;
-    bool served = device_serve(&backend->device, queues, each, &steps, &more);
+    bool served = device_serve(&backend->device, queues, portion(backend, is_early), &steps, &more);
     backend->steps += steps;
     backend->all_steps += steps;
     if (steps) note_steps(backend);
@@ -192,6 +198,7 @@ static inline enum ran run(struct backend *backend, uint32_t queues, uint64_t mo
     if (backend->logs) rings_log(backend);
     if (!served) return REFUSED;
     if (more && (backend->steps >= most || is_over(backend))) return RUNS;
+    if (more && is_early) is_early = paging_read(backend->disks, &backend->device, &backend->handed_in);
   }
   return RAN;
 }
@@ -277,8 +284,9 @@ bool backend_settle(struct backend *backend) {
 static enum ran give_pages(struct backend *backend, enum ran ran) {
   struct disks *disks = backend->disks;
   bool took = backend->took, helps = true;
-  bool handed_in = paging_give(disks, &backend->device, took || backend->waits ? WAITS_PERHAPS : WAITS_NOT);
+  bool handed_in = paging_give(disks, &backend->device, took || backend->waits ? WAITS_PERHAPS : WAITS_NOT) || backend->handed_in;
   backend->waits = true;
+  backend->handed_in = false;
   for (uint64_t before = UINT64_MAX; ran == RAN && (handed_in || (helps && !paging_reads(disks)));) {
     uint64_t waiting = backend->waiting = device_wake(&backend->device);
     backend->waits = waiting;

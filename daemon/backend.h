@@ -60,6 +60,7 @@ struct backend {
   bool pages;   // disks are backed: pages of them come and go
   bool waits;   // commands may wait for pages, for room, or for what was written before them
   bool came;    // the device was told something of its pages outside of a round
+  bool handed_in;    // pages were handed in that had been read ahead, while queues were served
   uint64_t waiting;  // how many commands waited when they were last tried again
   bool mapped;  // the device has the guest's memory as it is
   bool logs;    // each page that is written is marked in the log

@@ -476,6 +476,19 @@ bool paging_give(struct disks *disks, struct device *device, enum wait waits) {
   return handed_in;
 }
 
+bool paging_read(struct disks *disks, struct device *device, bool *handed_in) {
+  bool wants = false;
+  for (size_t i = 0; i < disks->count; i++) {
+    const struct paging *paging = disks->disks[i].paging;
+    uint64_t before = paging ? paging->counts.asked : 0;
+    if (!paging) continue;
+    *handed_in = begin_reads(disks, i, device) || *handed_in;
+    wants = wants || paging->counts.asked != before;
+  }
+  if (wants) storage_send(disks->storage);
+  return wants;
+}
+
 bool paging_reads(const struct disks *disks) {
   for (size_t i = 0; i < disks->count; i++)
     if (disks->disks[i].paging && ahead_is_wanted(&disks->disks[i].paging->ahead)) return true;

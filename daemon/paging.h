@@ -89,6 +89,10 @@ enum came paging_take(struct disks *disks, struct device *device, size_t *reads)
 // Whether commands wait for a sync: none does, or one may, or one does, unless it waits for something that is put off.
 enum wait { WAITS_NOT, WAITS_PERHAPS, WAITS_SURELY };
 
+// Begins to read the pages that commands want, and no more. Returns whether they want any. Says of pages that had been read ahead that some
+// were handed in, as paging_give does.
+bool paging_read(struct disks *disks, struct device *device, bool *handed_in);
+
 // Begins what there is to read and to write, and syncs where it is time for that. Returns whether pages were handed in that had been read
 // ahead, so that commands that wait are to be tried again.
 bool paging_give(struct disks *disks, struct device *device, enum wait waits);
