@@ -19,7 +19,7 @@
 #include <jansson.h>
 
 // Milliseconds: how long a request waits for the end of a round, or for what a file lacks; and for the daemon's own device.
-enum { WHY = 300, PATIENCE = 5000, BRIEF = 100 };
+enum { WHY = 500, PATIENCE = 5000, BRIEF = 100 };
 
 bool control_is_built(void) { return true; }
 

@@ -117,7 +117,8 @@ static bool fits(struct disk *disk, char *why, size_t room) {
   if (disk->length == wanted) return true;
   // An empty one is as one that isn't there: a daemon that was killed as it made it leaves that.
   bool grows = disk->grows || (!disk->length && !disk->read_only);
-  if (!grows) return refuse(disk, "shorter than the disk; the word grow makes it longer", why, room);
+  const char *shorter = disk->read_only ? "shorter than the disk" : "shorter than the disk; the word grow makes it longer";
+  if (!grows) return refuse(disk, shorter, why, room);
   return (!fstat(disk->file, &stat) && S_ISREG(stat.st_mode)) || refuse(disk, "shorter than the disk, and no file that grows", why, room);
 }
 

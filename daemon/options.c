@@ -164,6 +164,8 @@ static bool is_same(const char *a, const char *b) {
 
 static bool is_whole(const struct options *options, const struct disks *disks) {
   if (!options->path == (options->fd < 0)) return fputs("say one of --socket PATH and --fd N\n", stderr), false;
+  if (options->path && options->control && is_same(options->path, options->control))
+    return fprintf(stderr, "--control %s: --socket is there\n", options->control), false;
   if (options->mode >= 0 && !options->path) return fputs("--mode is of the socket that --socket makes\n", stderr), false;
   if (!disks_are_whole(disks)) return fputs("there is no disk, or a target without LUN 0\n", stderr), false;
   for (size_t i = 0; i < disks->count; i++) {

@@ -88,12 +88,21 @@ static struct image image_of(const char *words) {
   return image;
 }
 
-// Opens an image. Returns -1 where it can't be opened.
-static int open_image(const struct image *image) {
-  int flags = (image->reads ? O_RDONLY : O_RDWR) | (image->makes ? O_CREAT : 0) | O_NONBLOCK | O_NOCTTY | O_CLOEXEC;
-  int fd = open(image->path, flags, 0600);
+// Opens an image, and says whether it was made for that. Returns -1 where it can't be opened.
+static int open_image(const struct image *image, bool *is_made) {
+  int flags = (image->reads ? O_RDONLY : O_RDWR) | O_NONBLOCK | O_NOCTTY | O_CLOEXEC;
+  int fd = image->makes ? open(image->path, flags | O_CREAT | O_EXCL, 0600) : -1;
+  *is_made = fd >= 0;
+  if (fd < 0 && (!image->makes || errno == EEXIST)) fd = open(image->path, flags);
   if (fd < 0) refuse(image->path);
   return fd;
+}
+
+// Takes back an image that was made, where it stands there still and nothing was written into it.
+static void undo_image(const char *path, int file) {
+  struct stat made, now;
+  bool is_same = !fstat(file, &made) && !lstat(path, &now) && made.st_dev == now.st_dev && made.st_ino == now.st_ino;
+  if (is_same && !now.st_size && unlink(path)) refuse(path);
 }
 
 // Finds the NAA of a disk on this image: it is kept beside a regular file, and made where none is. Where none can be kept, the disk has
@@ -158,7 +167,7 @@ static int ask(const char *path, json_t *request, int file) {
   json_t *came = length ? json_loadb(answer, length, 0, NULL) : NULL;
   if (!came) return fprintf(stderr, "vscsi-ctl: %s: no answer\n", path), FAILED;
   json_dumpf(came, stdout, JSON_INDENT(2));
-  int status = !json_object_get(came, "return") ? REFUSED : puts("") >= 0 ? 0 : FAILED;
+  int status = puts("") < 0 ? FAILED : json_object_get(came, "return") ? 0 : REFUSED;
   json_decref(came);
   return status;
 }
@@ -169,13 +178,16 @@ static int attach(const char *path, json_t *request, const char *words) {
   uint8_t naa[NAA_BYTES];
   char digits[NAA_DIGITS + 1];
   if (!image.has_path) return ask(path, request, -1);
-  int file = open_image(&image);
+  bool is_made = false;
+  int file = open_image(&image, &is_made);
   enum naa came = file < 0 ? NAA_WRONG : find_naa(&image, file, naa);
   bool is_named = came == NAA_READ || came == NAA_MADE;
   if (is_named) naa_print(naa, digits);
   bool stands = came != NAA_WRONG && (!is_named || !json_object_set_new(json_object_get(request, "arguments"), "naa", json_string(digits)));
   int status = stands ? ask(path, request, file) : FAILED;
-  if (came == NAA_MADE && (status == REFUSED || !stands)) naa_undo(image.path, naa);
+  bool is_refused = status == REFUSED || !stands;
+  if (came == NAA_MADE && is_refused) naa_undo(image.path, naa);
+  if (is_made && is_refused) undo_image(image.path, file);
   if (file >= 0) close(file);
   return status;
 }

@@ -376,6 +376,14 @@ def test_log_is_no_disk(room):
     assert disk.read_bytes() == b"\x5a" * MIB
 
 
+def test_control_is_no_socket_of_guests(room):
+    """Front ends and operators have a socket each."""
+    if not room.client:
+        return "no libjansson-dev"
+    room.ends("--socket", room.socket, "--control", room.socket, "--disk", "0:0=1M", status=2, says="--socket is there")
+    return None
+
+
 def test_nothing_is_made_in_vain(room):
     """Where the daemon can't serve, it leaves no new image, and none that grew."""
     new, small = room.folder / "new.img", room.file("small.img")
@@ -2954,6 +2962,11 @@ def test_control_names(room):
         wait_for(lambda: '"front-end": false' in asks("stats"), "the end of the session")
         assert "BadDisk" in asks("attach", f"0:5=512,file={wrong}", status=1) and "BadDisk" in asks("attach", f"0:4=file={wrong}", status=1)
         asks("attach", f"0:5=file={wrong}", to=room.folder / "nowhere", status=1)
+        # An image that was made for a disk that is refused goes again, one that was there stays.
+        fresh, empty = room.folder / "fresh.img", room.file("empty.img", 0)
+        for file in (fresh, empty):
+            said = asks("attach", f"0:4=1M,file={file},grow", status=1)
+            assert "BadDisk" in said and said.endswith("\n") and file.exists() == (file == empty)
         assert [it.name for it in room.folder.glob("*.naa*")] == [kept.name]
         # What stands beside the image counts: no NAA, that of another disk, and that of this one.
         beside = room.folder / "wrong.img.naa"
