@@ -139,7 +139,7 @@ struct vscsi_unit {
   uint8_t calm;
 };
 
-/* A rotation rate that is told as not reported (SBC-3, 6.6.3). Since 1.6. */
+/* A rotation rate that is told as not reported (SBC-3, 6.6.2). Since 1.6. */
 #define VSCSI_RATE_NOT_REPORTED 0xffffu
 
 /* The format in which a unit of the wide profile sends sense data beside a status (SPC-4, 4.5). Since 1.6. */
@@ -516,8 +516,8 @@ enum vscsi_answer vscsi_live_create(struct vscsi_live *device, const struct vscs
  * A queue is mapped where each byte of its descriptors, its driver area and its device area lies in a region.
  * vscsi_live_serve takes no chain of one that isn't, and vscsi_live_ask writes nothing there; vscsi_live_broken tells it by
  * VSCSI_BROKEN_UNMAPPED. It is served on once it is mapped again. What was begun of it is answered wherever its areas are
- * then, so unmap where vscsi_live_serve left nothing (`more`). A queue that the driver never set up may lie at any address
- * that isn't mapped. Since 1.4.
+ * then, so unmap where none of its chains is outstanding (vscsi_live_position says when). A queue that the driver never set up may
+ * lie at any address that isn't mapped. Since 1.4.
  * VSCSI_NULL, also where the `host` of one is null; VSCSI_NO_DEVICE; VSCSI_OUTSIDE where two regions overlap, one is empty or ends
  * above VSCSI_MOST_ADDRESS, or there are more than VSCSI_MOST_REGIONS; VSCSI_NO_MEMORY. Then what was mapped stays. */
 enum vscsi_answer vscsi_map(struct vscsi_live *device, const struct vscsi_region *regions, size_t count);
@@ -543,8 +543,8 @@ enum vscsi_answer vscsi_live_ask(struct vscsi_live *device, uint16_t queue, bool
 
 /* Tells where a queue goes on, as vscsi_position does: before the device is closed, and another is made in its place, in this
  * process or elsewhere. It means that once no chain of the queue is outstanding. Of the control queue and of request queues none
- * is once vscsi_live_serve left nothing (`more`). Of the event queue none is where both sides stand at the same place, as they
- * did when the device was made. Since 1.4.
+ * is once vscsi_live_wake told that no command waits, and then vscsi_live_serve left nothing (`more`). Of any queue none is where
+ * both sides stand at the same place, as they did when the device was made. Since 1.4.
  * VSCSI_NO_DEVICE; VSCSI_NO_QUEUE. */
 enum vscsi_answer vscsi_live_position(struct vscsi_live *device, uint16_t queue, struct vscsi_position *position);
 
@@ -662,7 +662,8 @@ enum vscsi_answer vscsi_live_written(struct vscsi_live *device, uint8_t target, 
 enum vscsi_answer vscsi_live_denied(struct vscsi_live *device, uint8_t target, uint16_t lun, uint64_t page);
 
 /* Has each command that waits for pages, for room or for what was written before it tried again, by the next vscsi_live_serve, which
- * takes two steps at most for each. `waiting` is how many these are, of all units; it is optional. Takes no memory. Since 1.7.
+ * takes two steps at most for each. `waiting` is how many these are, of all units, commands that ran and wait for what they wrote to be
+ * kept among them; it is optional. Takes no memory. Since 1.7.
  * VSCSI_NO_DEVICE. */
 enum vscsi_answer vscsi_live_wake(struct vscsi_live *device, uint64_t *waiting);
 
