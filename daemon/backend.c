@@ -387,7 +387,8 @@ static enum served wait_round(struct backend *backend, uint32_t queues, uint32_t
 
 // Serves queues whose answers are shown as the device gives them.
 static enum served serve_at_once(struct backend *backend, uint32_t queues, uint32_t *owed) {
-  bool came = take_pages(backend);
+  // Behind a call that left off commands weren't tried again.
+  bool came = take_pages(backend) || backend->left;
   enum ran ran = run_all(backend, queues);
   if (backend->pages && (came || backend->took)) ran = give_pages(backend, ran);
   backend->left = ran == RUNS;

@@ -355,7 +355,7 @@ static void read_ahead(struct disks *disks, size_t which) {
 static bool begin_reads(struct disks *disks, size_t which, struct device *device) {
   struct disk *disk = &disks->disks[which];
   struct paging *paging = disk->paging;
-  bool handed_in = false, is_first = true, comes;
+  bool handed_in = false, comes;
   // Beside one that can't be read others may be.
   struct gathering gathering = {disks, which, paging->reading.error ? 1 : MOST_TRANSFERRED, NULL, NULL};
   // No command of the daemon's own device wants a page.
@@ -368,8 +368,8 @@ static bool begin_reads(struct disks *disks, size_t which, struct device *device
       storage_put_buffer(disks->storage, buffer, TRANSFER_READ);
       break;
     }
-    const uint8_t *bytes = ahead_take(&paging->ahead, page, is_first, &comes);
-    is_first = false;
+    const uint8_t *bytes = ahead_take(&paging->ahead, page, !paging->has_turn, &comes);
+    paging->has_turn = true;
     paging->counts.asked++;
     if (bytes || comes) storage_put_buffer(disks->storage, buffer, TRANSFER_READ);
     else add_page(&gathering, TRANSFER_READ, page, buffer);
@@ -379,7 +379,6 @@ static bool begin_reads(struct disks *disks, size_t which, struct device *device
     handed_in = true;
   }
   end_gathering(&gathering);
-  read_ahead(disks, which);
   return handed_in;
 }
 
@@ -467,6 +466,8 @@ bool paging_give(struct disks *disks, struct device *device, enum wait waits) {
     if (paging->run_count) say_runs(paging, device);
     begin_writes(disks, i, device);
     handed_in = begin_reads(disks, i, device) || handed_in;
+    paging->has_turn = false;
+    if (device != &disks->rest && !is_away(&disks->disks[i])) read_ahead(disks, i);
     if (is_sync_due(&disks->disks[i], waits)) begin_sync(disks, i);
     passes = passes || is_put_off(&disks->disks[i]);
   }
@@ -478,7 +479,9 @@ bool paging_give(struct disks *disks, struct device *device, enum wait waits) {
 
 bool paging_read(struct disks *disks, struct device *device, bool *handed_in) {
   bool wants = false;
-  for (size_t i = 0; i < disks->count; i++) {
+  // The first one is the one that paging_give has first behind this.
+  for (size_t n = 1; n <= disks->count; n++) {
+    size_t i = (disks->turn + n) % disks->count;
     const struct paging *paging = disks->disks[i].paging;
     uint64_t before = paging ? paging->counts.asked : 0;
     if (!paging) continue;

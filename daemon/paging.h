@@ -55,6 +55,7 @@ struct paging {
   size_t run_count, writes;  // of transfers that write, each of which needs a run
   uint64_t pages, since;   // how many are RUN_WRITTEN, and since when the first is
   struct trouble reading;  // that of writing is the disk's own
+  bool has_turn;  // a page was wanted since paging_give was last called
   struct ahead ahead;
   struct paged counts;
 };
