@@ -489,6 +489,57 @@ void test_backed_ahead(void) {
   step = STEP;
 }
 
+// Returns the page up to which pages in a row stand ready from the next one on, as they were read ahead.
+static uint64_t ready_until(const struct ahead *ahead) {
+  uint64_t end = ahead->next;
+  for (size_t i = 0; i < AHEAD_CHUNKS; i++) {
+    const struct chunk *it = &ahead->chunks[i];
+    if (it->state != CHUNK_READY || end < it->first || end - it->first >= it->count) continue;
+    end = it->first + it->count;
+    i = SIZE_MAX;
+  }
+  return end;
+}
+
+static unsigned stalls;
+
+// Has two calls of the library's take longer than the device runs before others of the daemon's descriptors are looked at.
+static void stall(void) {
+  enum { FIRST = 1, LAST = 12, LONG = 25000 };
+  if (stalls == FIRST || stalls == LAST) usleep(LONG);
+  stalls++;
+  faults.comes = stall;
+  faults.comes_after = 0;
+}
+
+// What else would have these commands tried again is over, or doesn't come.
+void test_backed_woken(void) {
+  enum { ROW = 300, BATCH = 40, ENOUGH = 243 };
+  struct disks disks;
+  struct front front;
+  unsigned at = 0;
+  if (is_left_out()) return;
+  load_make(&disks, "128M", ",write-cache=on,cache-size=64M");
+  load_begin(&front, &disks, 0);
+  const struct ahead *ahead = &disks.disks[0].paging->ahead;
+  // On to where nothing more is read ahead for a while.
+  while (at < ROW || ready_until(ahead) < ahead->next + ENOUGH) {
+    MUST(at < 2 * ROW);
+    put_read_of(&front, 0, Q, 0, at++ * 8);
+    driver_kick(&front, Q);
+    MUST(await(&front, Q, 1, PATIENCE) == 1 && is_good(&front, 0));
+    while (at >= ROW && ahead->under_way) go_on(&front, 1);
+  }
+  go_on(&front, 50);
+  for (unsigned i = 0; i < BATCH; i++) put_read_of(&front, 0, Q, i, (at + i) * 8);
+  driver_kick(&front, Q);
+  stalls = 0;
+  faults.comes = stall;
+  MUST(await(&front, Q, BATCH, PATIENCE) == BATCH);
+  clear_faults(&front);
+  load_end(&front, &disks);
+}
+
 // Writes to both disks at once, and looks at their files behind SYNCHRONIZE CACHE of the backed one.
 static void work_beside(struct front *front, unsigned turn) {
   for (unsigned i = 0; i < MANY; i++) {

@@ -34,6 +34,9 @@ void test_backed_anything(void);
 // Of pages that are read ahead, and of some that are written meanwhile, each is what was written last.
 void test_backed_ahead(void);
 
+// Commands that want pages which stand ready go on, though the device leaves off as these are handed in.
+void test_backed_woken(void);
+
 // A backed disk beside one in memory, and beside one whose answers wait for its file.
 void test_backed_beside(void);
 

@@ -392,7 +392,8 @@ int main(int count, char **words) {
                {"backed", test_backed}, {"backed ends", test_backed_ends}, {"backed zeros", test_backed_zeros},
                {"backed unread", test_backed_unread}, {"backed lost", test_backed_lost}, {"backed unwritten", test_backed_unwritten}, {"backed denied", test_backed_denied}, {"backed left", test_backed_left},
                {"backed stops", test_backed_stops}, {"backed stale", test_backed_stale}, {"backed beside", test_backed_beside},
-               {"backed ahead", test_backed_ahead}, {"backed anything", test_backed_anything},
+               {"backed ahead", test_backed_ahead}, {"backed woken", test_backed_woken},
+               {"backed anything", test_backed_anything},
                {"status", test_status}, {"logged", test_logged}, {"logged elsewhere", test_logged_elsewhere},
                {"logs change", test_logs_change}, {"logged behind", test_logged_behind}, {"wrong logs", test_wrong_logs}};
   unsigned files = open_files();
