@@ -548,10 +548,11 @@ enum vscsi_answer vscsi_live_ask(struct vscsi_live *device, uint16_t queue, bool
  * VSCSI_NO_DEVICE; VSCSI_NO_QUEUE. */
 enum vscsi_answer vscsi_live_position(struct vscsi_live *device, uint16_t queue, struct vscsi_position *position);
 
-/* Of a device on live memory what the call of the same name does, but for two. vscsi_live_owed decides by the driver's flag,
+/* Of a device on live memory what the call of the same name does, but for three. vscsi_live_owed decides by the driver's flag,
  * or its event index, as it stood behind a full barrier behind the used index or the used descriptor. So nothing needs to be
  * looked at once more. One barrier may stand behind several chains: then a driver that withdrew its wish meanwhile may be
- * notified all the same. And vscsi_live_broken also tells a queue that isn't mapped.
+ * notified all the same. vscsi_live_broken also tells a queue that isn't mapped. And while a function waits for a command that ran, and
+ * waits for what it wrote to be kept, queue 0 keeps its chains though `more` is false.
  *
  * Where the configuration has `asks`, vscsi_live_serve goes on until no driver made a chain available before it could see that
  * it was asked, or `most` steps were taken: to ask is no step. Where `more` is false then, the driver of each of those queues
